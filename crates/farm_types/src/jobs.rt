@@ -1,0 +1,19 @@
+//! The jobs of a build, and how they are run.
+
+use crate::hosts::Hosts;
+use crate::items::Items;
+use crate::request::Words;
+
+/// The words of each job, in the order of the job list.
+pub type Jobs = Items<Words>;
+
+/// How jobs are run: on which hosts, whether a job that no host could do is compiled here, whether one that
+/// a host answered with a failure is compiled here once more, and for how many seconds a host that broke an
+/// exchange is left alone.
+#[derive(Debug, Drop)]
+pub struct JobConfig {
+    pub hosts: Hosts,
+    pub fallback: bool,
+    pub retry: bool,
+    pub period: u32,
+}
