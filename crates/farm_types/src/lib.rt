@@ -11,6 +11,8 @@ pub mod limits;
 mod placed;
 mod ran;
 mod request;
+#[cfg(test)]
+mod tests;
 mod trail;
 
 pub use bytes::Bytes;

@@ -1,0 +1,134 @@
+use crate::limits::{MESSAGES_MAX, WORD_MAX, WORDS_BYTES_MAX, WORDS_MAX};
+use crate::{
+    Bytes, Ext, Host, HostName, Items, Outcome, PlacedWords, Ran, Request, Room, Trail, Word,
+    Words, exit_code,
+};
+use std::alloc::Global;
+use std::test::Fail;
+
+#[test]
+fn exit_codes(rt: HostRuntime) {
+    for (status, code) in [
+        (0, 0),
+        (256, 1),
+        (65_280, 255),
+        (9, 104),
+        (139, 104),
+        (128, 104),
+        (65_536, 104),
+    ] {
+        assert_eq!(rt; exit_code(status), code, "status {status}");
+    }
+}
+
+fn repeated(alloc: Global, len: usize) -> Result<Bytes, Fail> {
+    let mut bytes = Bytes::new(alloc);
+    for _ in 0..len {
+        bytes.try_push(b'w')?;
+    }
+    Ok(bytes)
+}
+
+fn request(alloc: Global, count: usize, len: usize) -> Result<Request, Fail> {
+    let word = repeated(alloc, len)?;
+    let mut words = Words::new(alloc);
+    for _ in 0..count {
+        words.try_push(word.copy()?)?;
+    }
+    Ok(Request {
+        words,
+        source: Bytes::from_slice(alloc, b"int a;")?,
+    })
+}
+
+#[test]
+fn requests_within_the_limits(rt: HostRuntime) -> Result<(), Fail> {
+    for (count, len, fits) in [
+        (0, 1, false),
+        (1, 0, true),
+        (WORDS_MAX, 1, true),
+        (WORDS_MAX + 1, 1, false),
+        (1, WORD_MAX, true),
+        (1, WORD_MAX + 1, false),
+        (WORDS_BYTES_MAX / WORD_MAX, WORD_MAX, true),
+        (WORDS_BYTES_MAX / WORD_MAX + 1, WORD_MAX, false),
+    ] {
+        assert_eq!(rt;
+            request(rt.alloc(), count, len)?.fits(),
+            fits,
+            "{count} words of {len} bytes"
+        );
+    }
+    Ok(())
+}
+
+#[test]
+fn outcomes_within_the_limits(rt: HostRuntime) -> Result<(), Fail> {
+    for (status, err, object, fits) in [
+        (0, MESSAGES_MAX, 1, true),
+        (0, MESSAGES_MAX + 1, 1, false),
+        (256, 3, 0, true),
+        (256, 3, 1, false),
+    ] {
+        let outcome = Outcome {
+            status,
+            err: repeated(rt.alloc(), err)?,
+            out: Bytes::new(rt.alloc()),
+            object: repeated(rt.alloc(), object)?,
+        };
+        assert_eq!(rt;
+            outcome.fits(),
+            fits,
+            "status {status}, {err} and {object} bytes"
+        );
+    }
+    Ok(())
+}
+
+// Each list and value is copied once.
+#[test]
+fn copies(rt: HostRuntime) -> Result<(), Fail> {
+    let mut bytes = Bytes::from_slice(rt.alloc(), b"gc")?;
+    bytes.try_extend(b"cc")?;
+    bytes.truncate(3);
+    assert_eq!(rt; bytes.copy()?.as_slice(), b"gcc".as_slice());
+    assert_eq!(rt; bytes.get(1), Some(b'c'));
+    assert_eq!(rt; bytes.get(3), None);
+
+    let mut words = PlacedWords::new(rt.alloc());
+    words.try_push(Word::Text(bytes.copy()?))?;
+    words.try_push(Word::Input(Ext::Ii))?;
+    words.try_push(Word::Output)?;
+    let mut twice = words.copy()?;
+    twice.try_extend(&words)?;
+    assert_eq!(rt; twice.len(), 6);
+    assert!(rt; matches!(twice.get(4), Some(Word::Input(Ext::Ii))));
+
+    let host = Host {
+        name: HostName { text: bytes },
+        port: 3632,
+        limit: 4,
+        local: false,
+    };
+    let hosts = Items::from_slice(rt.alloc(), &[host])?;
+    let copied = hosts.copy()?;
+    let ports: Items<u16> = Items::from_vec(
+        copied
+            .as_slice()
+            .iter()
+            .map(|h| h.port)
+            .collect(rt.alloc())?,
+    );
+    assert_eq!(rt; ports.as_slice(), [3632].as_slice());
+
+    assert_eq!(rt; Ran::nothing(rt.alloc()).copy()?.status, 0);
+    Ok(())
+}
+
+#[test]
+fn a_trail_keeps_its_entries(rt: HostRuntime) -> Result<(), Fail> {
+    let mut trail: Trail<u8> = Trail::new();
+    trail.add(Room::new(rt.alloc())?, 1);
+    trail.add(Room::new(rt.alloc())?, 2);
+    Ok(())
+}
