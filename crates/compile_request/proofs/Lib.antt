@@ -1,0 +1,4 @@
+pub mod Finishing
+pub mod Bytewise
+pub mod Pieces
+pub mod Exact

@@ -1,0 +1,135 @@
+//! Reading a request in pieces.
+
+ghost use Rattle.std.specs.Prelude.{◌≡◌, ◌↔◌, ◌++◌, ◌-◌, length, IsTrue, ℕ, List, []};
+ghost use Rattle.farm_types.specs.declared.request.Request.{Request};
+ghost use Rattle.wire_tokens.specs.declared.faults.RequestFault.{RequestFault};
+ghost use Rattle.wire_tokens.specs.Request.{BeginsRequest, RequestFaultStands, IsShortRequest};
+ghost use Rattle.compile_request.specs.Reader.{Place, IsAt, IsSpent, IsUnlessMemory, Says, Leaves, Repeats, place_of, IsSound};
+
+use crate::part::Part;
+use crate::partial::{Partial, Turn, run};
+use farm_types::{Bytes, Request, Words};
+use std::alloc::Global;
+use std::marker::Model;
+use wire_tokens::RequestFault;
+
+/// What a piece came to.
+#[derive(Debug, Drop)]
+pub enum Step {
+    /// All pieces so far are short.
+    More,
+    /// They spell the request, with this many bytes of the last piece.
+    Whole { request: Request, used: usize },
+    /// This fault stands in them.
+    Bad { at: u64, fault: RequestFault },
+    /// Memory ran out.
+    Memory,
+}
+
+#[derive(Clone, Copy, Debug)]
+pub enum Phase {
+    Reading,
+    Refused { at: u64, fault: RequestFault },
+    Spent,
+}
+
+/// Reads a request that comes in pieces.
+#[derive(Debug, Drop)]
+pub struct RequestReader {
+    phase: Phase,
+    partial: Partial,
+    alloc: Global,
+}
+
+impl Model for RequestReader {
+    ghost Value = { Place };
+
+    ghost view = { λ r. place_of r.phase r.partial };
+
+    ghost invariant = { λ r. IsSound r.phase r.partial };
+}
+
+impl RequestReader {
+    /// A reader that was given nothing.
+    pub fn new(alloc: Global) -> RequestReader
+        ensures at { IsAt result [] }
+        ensures fresh { IsSpent result → ⊥ }
+    {
+        let partial = Partial {
+            part: Part::Dist,
+            count: 0,
+            together: 0,
+            words: Words::new(alloc),
+            token: Vec::new(alloc),
+            number: 0,
+            left: 0,
+            body: Bytes::new(alloc),
+        };
+        RequestReader {
+            phase: Phase::Reading,
+            partial,
+            alloc,
+        }
+    }
+
+    /// Whether a request was read, or memory ran out.
+    pub fn is_spent(&self) -> bool
+        ensures { IsTrue result ↔ IsSpent self.now }
+    {
+        matches!(self.phase, Phase::Spent)
+    }
+
+    /// Takes the next piece.
+    pub fn feed(&mut self, piece: &[u8]) -> Step
+        requires { IsSpent self.old → ⊥ }
+
+        // With text for all the pieces before this one: the request that a prefix spells, the
+        // fault that stands, or that all of it is short,
+        ensures says { (text : List ℕ) → IsAt self.old text → Says text piece.now result }
+
+        // exactly where that is so.
+        ensures whole { (text : List ℕ) (used : ℕ) (q : Request) → IsAt self.old text
+            → BeginsRequest (text ++ piece.now) used q → IsUnlessMemory result (Step.Whole q (used - length text)) }
+        ensures bad { (text : List ℕ) (at : ℕ) (fault : RequestFault) → IsAt self.old text
+            → RequestFaultStands (text ++ piece.now) at fault → IsUnlessMemory result (Step.Bad at fault) }
+        ensures short { (text : List ℕ) → IsAt self.old text
+            → IsShortRequest (text ++ piece.now) → IsUnlessMemory result Step.More }
+
+        ensures leaves { (text : List ℕ) → IsAt self.old text → Leaves text piece.now result self.new }
+        ensures repeats { Repeats self.old result self.new }
+    {
+        feed_parts(self.alloc, &mut self.phase, &mut self.partial, piece)
+    }
+}
+
+fn feed_parts(alloc: Global, phase: &mut Phase, partial: &mut Partial, piece: &[u8]) -> Step
+    requires sound { IsSound phase.old partial.old }
+    requires fresh { IsSpent (place_of phase.old partial.old) → ⊥ }
+    ensures sound { IsSound phase.new partial.new }
+    ensures says { (text : List ℕ) → IsAt (place_of phase.old partial.old) text → Says text piece.now result }
+    ensures leaves { (text : List ℕ) → IsAt (place_of phase.old partial.old) text → Leaves text piece.now result (place_of phase.new partial.new) }
+    ensures repeats { Repeats (place_of phase.old partial.old) result (place_of phase.new partial.new) }
+{
+    match *phase {
+        Phase::Reading => match run(alloc, partial, piece) {
+            Turn::More { .. } => Step::More,
+            Turn::Whole { request, taken } => {
+                *phase = Phase::Spent;
+                Step::Whole {
+                    request,
+                    used: taken,
+                }
+            }
+            Turn::Bad { at, fault } => {
+                *phase = Phase::Refused { at, fault };
+                Step::Bad { at, fault }
+            }
+            Turn::Memory => {
+                *phase = Phase::Spent;
+                Step::Memory
+            }
+        },
+        Phase::Refused { at, fault } => Step::Bad { at, fault },
+        Phase::Spent => unreachable!(),
+    }
+}

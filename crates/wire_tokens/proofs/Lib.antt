@@ -1,0 +1,17 @@
+pub mod Digits
+pub mod Tokens
+pub mod Arrays
+pub mod Format
+pub mod Readings
+pub mod Longer
+pub mod Texts
+pub mod Fields
+pub mod Reply
+pub mod Progress
+pub mod Steps
+pub mod Request
+pub mod Written
+pub mod Bounds
+pub mod RequestBounds
+pub mod RequestLaws
+pub mod ReplyLaws

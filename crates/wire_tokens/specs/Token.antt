@@ -1,0 +1,58 @@
+-- A token: a name of four letters, and eight hexadecimal digits.
+use Rattle.std.specs.Prelude.{ℕ, zero, suc, ◌≡◌, ◌+◌, ◌-◌, ◌*◌, ◌/◌, ◌%◌, ◌^◌, ◌<◌, List, [], ◌∷◌, ◌++◌, length, take, drop, nat_lt, nat_le, nat_eq, Bool, ◌&&◌, ◌||◌, if◌then◌else◌}
+use Rattle.std.specs.List.{AllPass, prefix_len, common_prefix_len}
+
+-- 0 to 9, a to f or A to F
+abbrev pub is_digit : ℕ → Bool
+is_digit c = (nat_le 48 c && nat_le c 57) || (nat_le 97 c && nat_le c 102) || (nat_le 65 c && nat_le c 70)
+
+-- what a digit of either case stands for
+abbrev pub digit_of : ℕ → ℕ
+digit_of c = if nat_le c 57 then c - 48 else if nat_le 97 c then c - 87 else c - 55
+
+-- what digits stand for, the most significant first
+abbrev pub number_of : List ℕ → ℕ
+number_of [] = 0
+number_of (c ∷ cs) = digit_of c * 16 ^ length cs + number_of cs
+
+-- text is a token of this name and number, in digits of either case
+pub record IsToken (name : List ℕ) (n : ℕ) (text : List ℕ) : Type 0 where
+  pub digits : List ℕ
+  pub spelled : text ≡ name ++ digits
+  pub eight : length digits ≡ 8
+  pub each : AllPass is_digit digits
+  pub value : number_of digits ≡ n
+
+-- the lower-case digit of a number below 16
+abbrev pub lower_digit : ℕ → ℕ
+lower_digit d = if nat_lt d 10 then 48 + d else 87 + d
+
+-- this many lower-case digits of n, the most significant first
+unfoldable pub lower_digits : ℕ → ℕ → List ℕ
+lower_digits zero n = []
+lower_digits (suc k) n = lower_digits k (n / 16) ++ lower_digit (n % 16) ∷ []
+
+-- the token in lower-case digits
+abbrev pub token : List ℕ → ℕ → List ℕ
+token name n = name ++ lower_digits 8 n
+
+-- how many bytes at the front of text are those of the name
+abbrev pub name_len : List ℕ → List ℕ → ℕ
+name_len name text = common_prefix_len nat_eq name text
+
+-- how many of the eight bytes after the name are digits, from the first on
+abbrev pub digits_len : List ℕ → ℕ
+digits_len text = prefix_len is_digit (take 8 (drop 4 text))
+
+-- the byte at this place is the first that isn't the name's
+pub record IsWrongName (name text : List ℕ) (at : ℕ) : Type 0 where
+  pub place : at ≡ name_len name text
+  pub in_name : at < 4
+  pub there : at < length text
+
+-- the name stands there, and the byte at this place is the first that is no digit
+pub record IsBadDigit (name text : List ℕ) (at : ℕ) : Type 0 where
+  pub named : name_len name text ≡ 4
+  pub place : at ≡ 4 + digits_len text
+  pub in_digits : at < 12
+  pub there : at < length text
