@@ -11,9 +11,7 @@ ghost use Rattle.compile_reply.specs.Decoding.{due_of, Gives, field_of, reply_of
 use farm_types::limits::{MESSAGES_MAX, OBJECT_MAX};
 use farm_types::{Bytes, Outcome};
 use std::alloc::{AllocError, Global};
-use wire_tokens::{
-    DONE, DOTO, Name4, ReplyFault, SERR, SOUT, STAT, Scan, Which, scan_token,
-};
+use wire_tokens::{DONE, DOTO, Name4, ReplyFault, SERR, SOUT, STAT, Scan, Which, scan_token};
 
 /// What a text is.
 #[derive(Debug, Drop)]

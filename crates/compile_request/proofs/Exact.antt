@@ -1,5 +1,5 @@
 -- A step that is right is the only one.
-use Rattle.std.proofs.Common.{◌≡◌, ℕ, ◌+◌, ◌-◌, List, ◌++◌, length, refl, sym, ap, ◌∙◌, arith}
+use Rattle.std.proofs.Common.{◌≡◌, ℕ, ◌+◌, ◌-◌, List, ◌++◌, length, refl, ap, ◌∙◌, arith}
 use Rattle.farm_types.specs.declared.request.Request.{Request}
 use Rattle.wire_tokens.specs.declared.faults.RequestFault.{RequestFault}
 use Rattle.wire_tokens.specs.Request.{BeginsRequest, RequestFaultStands, IsShortRequest}

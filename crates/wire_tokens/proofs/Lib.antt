@@ -11,7 +11,7 @@ pub mod Progress
 pub mod Steps
 pub mod Request
 pub mod Written
-pub mod Bounds
+pub mod ReplyBounds
 pub mod RequestBounds
 pub mod RequestLaws
 pub mod ReplyLaws

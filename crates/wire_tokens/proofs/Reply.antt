@@ -1,12 +1,11 @@
 -- The texts that spell outcomes are the whole fronts of the format of replies.
-use Rattle.std.proofs.Common.{◌≡◌, ◌≢◌, ℕ, ◌+◌, ◌≤◌, Bool, true, false, cond, eqb, List, [], ◌∷◌, ◌++◌, length, get_or, Some, None, refl, sym, ap, subst, ◌∙◌, append_assoc, arith, inl, inr}
+use Rattle.std.proofs.Common.{◌≡◌, ◌≢◌, ℕ, ◌≤◌, true, eqb, List, [], ◌∷◌, ◌++◌, length, get_or, None, refl, sym, ap, subst, ◌∙◌, append_assoc, arith, inl, inr}
 use Rattle.std.specs.Prelude.{codes, nat_le, ◌||◌}
 use Rattle.std.proofs.lemmas.Bool.{leb-true, le-leb, eqb-true, eq-eqb, or_cases, or_left, or_right, cases_lt}
 use Rattle.std.proofs.lemmas.List.{append-nil, nil_from_length}
 use Rattle.farm_types.specs.declared.ran.Outcome.{Outcome}
-use Rattle.wire_tokens.specs.declared.faults.ReplyFault.{ReplyFault}
 use Rattle.wire_tokens.specs.Token.{IsToken}
-use Rattle.wire_tokens.specs.Format.{Field, Due, IsField, IsFront}
+use Rattle.wire_tokens.specs.Format.{Field, IsFront}
 use Rattle.wire_tokens.specs.Reply.{SpellsReply, version_fault, err_fault, out_fault, object_fault, reply_due, reply_format}
 use Rattle.wire_tokens.proofs.Readings.{FourLetters}
 use Rattle.wire_tokens.proofs.Fields.{four_of_due, plain, plain_field, bodied, bodied_field, allowed, allowed_twice, due_again, token_of, same_field}

@@ -10,6 +10,7 @@ use Rattle.wire_tokens.proofs.Readings.{one_fault as one_standing_fault}
 use Rattle.wire_tokens.proofs.Steps.{step-short}
 use Rattle.wire_tokens.proofs.Texts as texts
 use Rattle.wire_tokens.proofs.Reply.{four_reply, reply_spelling}
+use Rattle.wire_tokens.proofs.ReplyBounds.{short_reply_len}
 use Rattle.wire_tokens.proofs.Written.{reply_written}
 
 -- A text begins with at most one spelling, which has one value.
@@ -59,3 +60,7 @@ empty_is_short = texts.reads-short reply_format SpellsReply reply_spelling [] []
 -- A proper prefix of a spelling is short.
 pub cut_is_short : (text more : List ℕ) (o : Outcome) → SpellsReply (text ++ more) o → (more ≡ [] → ⊥) → IsShortReply text
 cut_is_short = texts.cut_is_short reply_format SpellsReply reply_spelling
+
+-- A short text has at most 35,651,643 bytes.
+pub short_len : (text : List ℕ) → IsShortReply text → length text ≤ 35651643
+short_len = short_reply_len

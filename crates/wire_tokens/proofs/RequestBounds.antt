@@ -11,7 +11,7 @@ use Rattle.wire_tokens.proofs.Readings.{short, Ends, front_of, front_len, fields
 use Rattle.wire_tokens.proofs.Texts.{short-reads}
 use Rattle.wire_tokens.proofs.Fields.{allowed_twice, due_again, plain, bodied}
 use Rattle.wire_tokens.proofs.Request.{four_request, due_word, due_source, due_none, count_is, request_spelling}
-use Rattle.wire_tokens.proofs.Bounds.{last_len, at_most, at_most_twice}
+use Rattle.wire_tokens.proofs.ReplyBounds.{last_len, at_most, at_most_twice}
 
 fields_len-is : (fields : List Field) → fields_len fields ≡ 12 * length fields + bodies_len fields
 unfolding fields_len

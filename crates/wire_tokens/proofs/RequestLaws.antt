@@ -1,5 +1,5 @@
 -- The laws of the texts of requests.
-use Rattle.std.proofs.Common.{◌≡◌, ℕ, ◌^◌, ◌<◌, ◌≤◌, List, [], ◌++◌, length, refl}
+use Rattle.std.proofs.Common.{◌≡◌, ℕ, ◌≤◌, List, [], ◌++◌, length, refl}
 use Rattle.std.specs.Prelude.{◌⊎◌}
 use Rattle.farm_types.specs.declared.request.Request.{Request}
 use Rattle.farm_types.specs.Fits.{RequestFits}
@@ -10,6 +10,7 @@ use Rattle.wire_tokens.proofs.Readings.{one_fault as one_standing_fault}
 use Rattle.wire_tokens.proofs.Steps.{step-short}
 use Rattle.wire_tokens.proofs.Texts as texts
 use Rattle.wire_tokens.proofs.Request.{four_request, request_spelling}
+use Rattle.wire_tokens.proofs.RequestBounds.{short_request_len}
 use Rattle.wire_tokens.proofs.Written.{request_written}
 
 -- A text begins with at most one spelling, which has one value.
@@ -59,3 +60,7 @@ empty_is_short = texts.reads-short request_format SpellsRequest request_spelling
 -- A proper prefix of a spelling is short.
 pub cut_is_short : (text more : List ℕ) (q : Request) → SpellsRequest (text ++ more) q → (more ≡ [] → ⊥) → IsShortRequest text
 cut_is_short = texts.cut_is_short request_format SpellsRequest request_spelling
+
+-- A short text has at most 34,615,331 bytes.
+pub short_len : (text : List ℕ) → IsShortRequest text → length text ≤ 34615331
+short_len = short_request_len

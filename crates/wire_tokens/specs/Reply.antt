@@ -1,5 +1,5 @@
 -- Which texts spell an outcome, and what is wrong with a text.
-use Rattle.std.specs.Prelude.{ℕ, ◌≡◌, ◌≤◌, List, [], ◌∷◌, ◌++◌, length, take, Option, Some, None, nat_le, ◌==◌, ◌||◌, true, false, if◌then◌else◌, codes}
+use Rattle.std.specs.Prelude.{ℕ, ◌≡◌, List, [], ◌∷◌, ◌++◌, length, Option, Some, None, nat_le, ◌==◌, ◌||◌, true, false, if◌then◌else◌, codes}
 use Rattle.farm_types.specs.declared.ran.Outcome.{Outcome}
 use Rattle.farm_types.specs.Fits.{OutcomeFits}
 use Rattle.wire_tokens.specs.declared.faults.Which.TheVariants.{Serr, Sout, Doto}

@@ -1,5 +1,5 @@
 -- Which texts spell a request, and what is wrong with a text.
-use Rattle.std.specs.Prelude.{ℕ, ◌≡◌, ◌≤◌, ◌+◌, List, [], ◌∷◌, ◌++◌, length, take, Option, Some, None, nat_le, nat_lt, ◌==◌, ◌&&◌, true, false, if◌then◌else◌, codes, sum_by}
+use Rattle.std.specs.Prelude.{ℕ, ◌≡◌, ◌+◌, List, [], ◌∷◌, ◌++◌, length, Option, Some, None, nat_le, nat_lt, ◌==◌, ◌&&◌, true, false, if◌then◌else◌, codes, sum_by}
 use Rattle.std.specs.List.{flat_map}
 use Rattle.farm_types.specs.declared.request.Request.{Request}
 use Rattle.farm_types.specs.Fits.{RequestFits}

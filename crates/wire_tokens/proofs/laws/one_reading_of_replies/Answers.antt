@@ -1,4 +1,3 @@
-use Rattle.wire_tokens.proofs.Bounds.{short_reply_len}
 use Rattle.wire_tokens.proofs.Written.{reply_written}
 use Rattle.wire_tokens.proofs.ReplyLaws as laws
 use Rattle.wire_tokens.proofs.laws.one_reading_of_replies.Goals as goal
@@ -18,5 +17,5 @@ returns c = record {
   fault_or_short = λ text at fault t s. s.no_fault at fault t;
   empty = laws.empty_is_short;
   cut = laws.cut_is_short;
-  short = short_reply_len;
+  short = laws.short_len;
 }
