@@ -1,0 +1,63 @@
+-- What a keeper of files tells, and what its calls do to it.
+use Rattle.std.specs.Prelude.{◌≡◌, ℕ, List, [], ◌∷◌, Result, Ok, Err, Option, Some, None, IsTrue, ◌<◌, ◌≤◌, length}
+use Rattle.std.specs.FinMap.{get}
+use Rattle.edge_traits.specs.declared.entries.Put.{Put}
+use Rattle.edge_traits.specs.declared.entries.Fetch.{Fetch}
+use Rattle.edge_traits.specs.declared.faults.FetchFault.{FetchFault}
+use Rattle.edge_traits.specs.declared.faults.FetchFault.TheVariants.{Failed, Absent, TooMuch, Memory}
+use Rattle.edge_traits.specs.Told.{Told}
+use Rattle.edge_traits.specs.Causes.{Rose}
+use Rattle.edge_traits.specs.FileMaps.{Files}
+
+-- a put that was begun: the path, and the bytes so far
+pub record PendingPut : Type 0 where
+  pub path : List ℕ
+  pub bytes : Told (List ℕ)
+
+-- what a keeper shows
+pub record KeeperView : Type 0 where
+  pub files : Told Files
+  pub puts : Told (List Put)
+  pub fetches : Told (List Fetch)
+  pub pending : Option PendingPut
+  pub faults : ℕ
+  pub overruns : ℕ
+
+-- the entries that a put adds: one at `Ok`
+abbrev pub put_entries : {T E : Type 0} → List ℕ → List ℕ → Result T E → List Put
+put_entries path bytes (Ok done) = record { path = path; bytes = bytes } ∷ []
+put_entries path bytes (Err fault) = []
+
+-- a fetch that went well gave the whole file, within the bound
+pub record Fetched (path : List ℕ) (bound : ℕ) (now : KeeperView) (bytes : List ℕ) : Type 0 where
+  pub within : length bytes ≤ bound
+  pub whole : IsTrue now.files.known → get now.files.value path ≡ Some bytes
+
+-- the file at this path has so many bytes
+pub record HasLength (files : Files) (path : List ℕ) (bytes : ℕ) : Type 0 where
+  pub content : List ℕ
+  pub there : get files path ≡ Some content
+  pub long : length content ≡ bytes
+
+-- the file isn't there, which is an overrun
+pub record IsAbsent (path : List ℕ) (old now : KeeperView) : Type 0 where
+  pub rose : Rose old.overruns now.overruns
+  pub absent : IsTrue now.files.known → get now.files.value path ≡ None
+
+-- the file has so many bytes, above the bound, which is an overrun
+pub record IsTooLong (path : List ℕ) (bound : ℕ) (old now : KeeperView) (bytes : ℕ) : Type 0 where
+  pub rose : Rose old.overruns now.overruns
+  pub above : bound < bytes
+  pub long : IsTrue now.files.known → HasLength now.files.value path bytes
+
+-- when a fetch that came to nothing may answer so
+abbrev pub FetchCause : List ℕ → ℕ → KeeperView → KeeperView → FetchFault → Type 0
+FetchCause path bound old now Failed = Rose old.faults now.faults
+FetchCause path bound old now Absent = IsAbsent path old now
+FetchCause path bound old now (TooMuch bytes) = IsTooLong path bound old now bytes
+FetchCause path bound old now Memory = Unit {0}
+
+-- the entries that a fetch adds: one at `Ok`
+abbrev pub fetch_entries : {E : Type 0} → List ℕ → Result (List ℕ) E → List Fetch
+fetch_entries path (Ok bytes) = record { path = path; bytes = bytes } ∷ []
+fetch_entries path (Err fault) = []

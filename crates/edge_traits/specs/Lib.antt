@@ -1,0 +1,14 @@
+pub mod Told
+pub mod Causes
+pub mod Links
+pub mod Dialers
+pub mod Stations
+pub mod FileMaps
+pub mod Keepers
+pub mod Clocks
+pub mod Sources
+pub mod Sinks
+pub mod Doors
+pub mod Kits
+pub mod Deeds
+pub mod Exchanges

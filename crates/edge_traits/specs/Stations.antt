@@ -1,0 +1,40 @@
+-- What a station tells, and what a run does to it.
+use Rattle.std.specs.Prelude.{ℕ, ◌<◌, ◌≤◌, List, [], ◌∷◌, length, Result, Ok, Err}
+use Rattle.farm_types.specs.declared.ran.Ran.{Ran}
+use Rattle.farm_types.specs.declared.placed.Word.{Word}
+use Rattle.edge_traits.specs.declared.faults.Bounds.{Bounds}
+use Rattle.edge_traits.specs.declared.faults.Stream.{Stream}
+use Rattle.edge_traits.specs.declared.faults.Stream.TheVariants.{Out, Err as ErrStream, Object}
+use Rattle.edge_traits.specs.declared.faults.StationFault.{StationFault}
+use Rattle.edge_traits.specs.declared.faults.StationFault.TheVariants.{Failed, TooMuch, Memory}
+use Rattle.edge_traits.specs.declared.entries.Run.{Run}
+use Rattle.edge_traits.specs.Told.{Told}
+use Rattle.edge_traits.specs.Causes.{Rose}
+
+-- what a station shows
+pub record StationView : Type 0 where
+  pub runs : Told (List Run)
+  pub faults : ℕ
+  pub overruns : ℕ
+
+-- the entries that a run adds: one at `Ok`
+abbrev pub run_entries : {E : Type 0} → List Word → List ℕ → Result Ran E → List Run
+run_entries words input (Ok ran) = record { words = words; input = input; ran = ran } ∷ []
+run_entries words input (Err fault) = []
+
+-- each stream is within its bound
+pub record IsWithin (bounds : Bounds) (ran : Ran) : Type 0 where
+  pub out : length ran.out ≤ bounds.out
+  pub err : length ran.err ≤ bounds.err
+  pub object : length ran.object ≤ bounds.object
+
+abbrev pub bound_of : Bounds → Stream → ℕ
+bound_of bounds Out = bounds.out
+bound_of bounds ErrStream = bounds.err
+bound_of bounds Object = bounds.object
+
+-- when a run that came to nothing may answer so
+abbrev pub RunFault : Bounds → StationView → StationView → StationFault → Type 0
+RunFault bounds old new Failed = Rose old.faults new.faults
+RunFault bounds old new (TooMuch stream bytes) = Rose old.overruns new.overruns × (bound_of bounds stream < bytes)
+RunFault bounds old new Memory = Unit {0}

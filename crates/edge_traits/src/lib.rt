@@ -1,0 +1,32 @@
+//! What the farm asks of the outside, as traits whose ghost members say what was asked and answered.
+#![tactic(auto)]
+
+mod calls;
+mod cause;
+mod clock;
+mod dialer;
+mod door;
+mod entries;
+mod faults;
+mod files;
+mod keeper;
+mod kit;
+mod link;
+mod sink;
+mod source;
+mod station;
+
+pub use calls::CallNumbers;
+pub use cause::Cause;
+pub use clock::Clock;
+pub use dialer::Dialer;
+pub use door::Door;
+pub use entries::{Exchange, Fetch, Put, Run, Visit};
+pub use faults::{Bounds, EdgeFault, FetchFault, StationFault, Stream};
+pub use files::FileList;
+pub use keeper::Keeper;
+pub use kit::Kit;
+pub use link::Link;
+pub use sink::Sink;
+pub use source::Source;
+pub use station::Station;

@@ -1,0 +1,34 @@
+ghost use Rattle.std.specs.Prelude.{◌≡◌, ℕ, ◌<◌, ◌≤◌, List, length, IfOk, IfErr};
+ghost use Rattle.farm_types.specs.declared.ran.Ran.{Ran};
+ghost use Rattle.farm_types.specs.declared.placed.Word.{Word};
+ghost use Rattle.edge_traits.specs.Told.{Grew, SameRelation3};
+ghost use Rattle.edge_traits.specs.Stations.{StationView, IsWithin, run_entries, RunFault};
+
+use crate::{Bounds, StationFault};
+use farm_types::{Ran, Word};
+use std::alloc::Global;
+
+/// Runs programs.
+pub trait Station {
+    /// What it shows of its past.
+    ghost shows: { Self → StationView };
+
+    /// A program run by these words on this input may leave this.
+    ghost ran: { Self → List Word → List ℕ → Ran → Type 0 };
+
+    fn run(
+        &mut self,
+        alloc: Global,
+        words: &[Word],
+        input: &[u8],
+        bounds: &Bounds,
+    ) -> Result<Ran, StationFault>
+        requires { 0 < length words.now }
+        ensures within { IfOk result (IsWithin bounds.now) }
+        ensures ran { IfOk result (ran self.new words.now input.now) }
+        ensures same { SameRelation3 (ran self.old) (ran self.new) }
+        ensures runs { Grew (shows self.old).runs (shows self.new).runs (run_entries words.now input.now result) }
+        ensures faults { (shows self.old).faults ≤ (shows self.new).faults }
+        ensures overruns { (shows self.old).overruns ≤ (shows self.new).overruns }
+        ensures cause { IfErr result (RunFault bounds.now (shows self.old) (shows self.new)) };
+}
