@@ -1,0 +1,3 @@
+mod Clocks
+mod Counting
+mod Scripts

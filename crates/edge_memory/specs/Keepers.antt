@@ -1,0 +1,71 @@
+-- What a keeper of files in memory is in, and what its calls do to it.
+use Rattle.std.specs.Prelude.{◌≡◌, ℕ, ◌<◌, ◌≤◌, List, ◌++◌, length, true, false, Result, Ok, Err, Some, None}
+use Rattle.std.specs.FinMap.{get}
+use Rattle.edge_traits.specs.declared.entries.Put.{Put}
+use Rattle.edge_traits.specs.declared.entries.Fetch.{Fetch}
+use Rattle.edge_traits.specs.declared.faults.EdgeFault.{EdgeFault}
+use Rattle.edge_traits.specs.declared.faults.FetchFault.{FetchFault}
+use Rattle.edge_traits.specs.declared.faults.FetchFault.TheVariants.{Failed, Absent, TooMuch, Memory}
+use Rattle.edge_traits.specs.Told.{told}
+use Rattle.edge_traits.specs.FileMaps.{Files, files_after}
+use Rattle.edge_traits.specs.Keepers.{KeeperView, HasLength, put_entries, fetch_entries}
+use Rattle.edge_memory.specs.declared.keeper.MemKeeper.{MemKeeper}
+use Rattle.edge_memory.specs.Calls.{names_next, one_more, failed_calls}
+
+-- the files, which calls fail, how many calls and overruns there were, both counted up to the greatest u64, and the entries
+pub record KeeperState : Type 0 where
+  pub files : Files
+  pub fails : List ℕ
+  pub made : ℕ
+  pub overruns : ℕ
+  pub puts : List Put
+  pub fetches : List Fetch
+
+abbrev pub keeper_state : MemKeeper → KeeperState
+keeper_state keeper = record { files = keeper.files; fails = keeper.calls.fails; made = keeper.calls.made; overruns = keeper.overruns; puts = keeper.puts; fetches = keeper.fetches }
+
+-- what it tells
+abbrev pub keeper_shows : KeeperState → KeeperView
+keeper_shows keeper = record {
+  files = told keeper.files;
+  puts = told keeper.puts;
+  fetches = told keeper.fetches;
+  pending = None;
+  faults = failed_calls keeper.fails keeper.made;
+  overruns = keeper.overruns;
+}
+
+abbrev pub after_put : KeeperState → List ℕ → List ℕ → Result Unit EdgeFault → KeeperState
+after_put keeper path bytes result = record keeper {
+  made = one_more keeper.made;
+  files = files_after keeper.files path bytes result;
+  puts = keeper.puts ++ put_entries path bytes result;
+}
+
+-- the file at this path is this, and within the bound
+pub record IsHeld (keeper : KeeperState) (path : List ℕ) (bound : ℕ) (bytes : List ℕ) : Type 0 where
+  pub there : get keeper.files path ≡ Some bytes
+  pub within : length bytes ≤ bound
+
+-- The next fetch may answer this. The script alone decides which fetches fail; of the others only one that has a file to give may want memory.
+abbrev pub IsFetchAnswer : KeeperState → List ℕ → ℕ → Result (List ℕ) FetchFault → Type 0
+IsFetchAnswer keeper path bound (Ok bytes) = (names_next keeper.fails keeper.made ≡ false) × IsHeld keeper path bound bytes
+IsFetchAnswer keeper path bound (Err Failed) = names_next keeper.fails keeper.made ≡ true
+IsFetchAnswer keeper path bound (Err Absent) = (names_next keeper.fails keeper.made ≡ false) × (get keeper.files path ≡ None)
+IsFetchAnswer keeper path bound (Err (TooMuch bytes)) = (names_next keeper.fails keeper.made ≡ false) × HasLength keeper.files path bytes × (bound < bytes)
+IsFetchAnswer keeper path bound (Err Memory) = (names_next keeper.fails keeper.made ≡ false) × (bytes : List ℕ) × IsHeld keeper path bound bytes
+
+-- the overruns after a fetch: one more for a file that isn't there or is above the bound
+abbrev pub overruns_after : ℕ → Result (List ℕ) FetchFault → ℕ
+overruns_after overruns (Ok bytes) = overruns
+overruns_after overruns (Err Failed) = overruns
+overruns_after overruns (Err Absent) = one_more overruns
+overruns_after overruns (Err (TooMuch bytes)) = one_more overruns
+overruns_after overruns (Err Memory) = overruns
+
+abbrev pub after_fetch : KeeperState → List ℕ → Result (List ℕ) FetchFault → KeeperState
+after_fetch keeper path result = record keeper {
+  made = one_more keeper.made;
+  overruns = overruns_after keeper.overruns result;
+  fetches = keeper.fetches ++ fetch_entries path result;
+}

@@ -1,0 +1,12 @@
+pub mod Calls
+pub mod Moving
+pub mod Scripts
+pub mod Moments
+pub mod Clocks
+pub mod Links
+pub mod Sources
+pub mod Sinks
+pub mod Keepers
+pub mod Stations
+pub mod Dialers
+pub mod Doors

@@ -1,0 +1,12 @@
+-- What the front of a script is.
+use Rattle.std.specs.Prelude.{List, [], ◌∷◌}
+use Rattle.edge_memory.specs.declared.script.LinkScript.{LinkScript}
+
+-- the first element, or another value where there is none
+abbrev pub first_or : {T : Type 0} → T → List T → T
+first_or other [] = other
+first_or other (x ∷ xs) = x
+
+-- the script of a link that ends at once
+abbrev pub ends_at_once : LinkScript
+ends_at_once = record { gives = []; moves = record { fails = []; zeros = []; most = 4294967295 } }
