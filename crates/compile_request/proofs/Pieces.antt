@@ -12,10 +12,7 @@ use Rattle.wire_tokens.proofs.Progress.{progress-reads}
 use Rattle.wire_tokens.proofs.Texts.{reads-short}
 use Rattle.wire_tokens.proofs.Request.{four_request, request_spelling}
 use Rattle.compile_request.specs.declared.partial.Partial.{Partial}
-use Rattle.compile_request.specs.declared.reader.Phase.{Phase}
-use Rattle.compile_request.specs.declared.reader.Phase.TheVariants as phases
 use Rattle.compile_request.specs.Taking.{fields_of, bytes_of, due_in, IsPlaced, Holds}
-use Rattle.compile_request.specs.Reader.{IsAt, IsSound, place_of}
 use Rattle.compile_request.proofs.Finishing.{due_is}
 
 -- no field and no fault
@@ -42,12 +39,3 @@ spelled_begins text piece taken q fits s = record {
   within = omega (arith, length-append text piece);
   spelled = subst (λ (x : List ℕ). SpellsRequest x q) (sym (take-append-add text piece taken)) s;
 }
-
-pub placed_there : (phase : Phase) (p : Partial) (text : List ℕ) → phase ≡ phases.Reading → IsAt (place_of phase p) text → IsPlaced p text
-placed_there phase p text e g = subst (λ (x : Phase). IsAt (place_of x p) text) e g
-
-pub there_placed : (phase : Phase) (p : Partial) (text : List ℕ) → phase ≡ phases.Reading → IsPlaced p text → IsAt (place_of phase p) text
-there_placed phase p text e g = subst (λ (x : Phase). IsAt (place_of x p) text) (sym e) g
-
-pub holds_there : (phase : Phase) (p : Partial) → phase ≡ phases.Reading → IsSound phase p → Holds p
-holds_there phase p e s = subst (λ (x : Phase). IsSound x p) e s

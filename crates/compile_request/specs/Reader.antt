@@ -3,9 +3,8 @@ use Rattle.std.specs.Prelude.{ℕ, ◌≡◌, ◌≤◌, ◌+◌, List, ◌++◌
 use Rattle.wire_tokens.specs.declared.faults.RequestFault.{RequestFault}
 use Rattle.wire_tokens.specs.Format.{Field, Progress}
 use Rattle.wire_tokens.specs.Request.{request_format, BeginsRequest, RequestFaultStands, IsShortRequest}
-use Rattle.compile_request.specs.declared.partial.Partial.{Partial}
-use Rattle.compile_request.specs.declared.reader.Phase.{Phase}
-use Rattle.compile_request.specs.declared.reader.Phase.TheVariants as phases
+use Rattle.compile_request.specs.declared.reader.State.{State}
+use Rattle.compile_request.specs.declared.reader.State.TheVariants as states
 use Rattle.compile_request.specs.declared.reader.Step.{Step}
 use Rattle.compile_request.specs.declared.reader.Step.TheVariants.{More, Whole, Bad, Memory}
 use Rattle.compile_request.specs.Taking.{fields_of, bytes_of, Holds}
@@ -54,13 +53,14 @@ Repeats (reading fields bytes) step after = Unit {0}
 Repeats (refused at fault) step after = (step ≡ Bad at fault) × (after ≡ refused at fault)
 Repeats spent step after = Unit {0}
 
--- by the fields of a reader
-abbrev pub place_of : Phase → Partial → Place
-place_of phases.Reading p = reading (fields_of p) (bytes_of p)
-place_of (phases.Refused at fault) p = refused at fault
-place_of phases.Spent p = spent
+-- the place of a reader in this state
+abbrev pub place_of : State → Place
+place_of (states.Reading p) = reading (fields_of p) (bytes_of p)
+place_of (states.Refused at fault) = refused at fault
+place_of states.Spent = spent
 
-abbrev pub IsSound : Phase → Partial → Type 0
-IsSound phases.Reading p = Holds p
-IsSound (phases.Refused at fault) p = Unit {0}
-IsSound phases.Spent p = Unit {0}
+-- what has come of a request is as reading keeps it
+abbrev pub IsSound : State → Type 0
+IsSound (states.Reading p) = Holds p
+IsSound (states.Refused at fault) = Unit {0}
+IsSound states.Spent = Unit {0}

@@ -26,9 +26,10 @@ pub enum Step {
     Memory,
 }
 
-#[derive(Clone, Copy, Debug)]
-pub enum Phase {
-    Reading,
+/// What a reader keeps. A reader that refused, or is spent, keeps no bytes.
+#[derive(Debug, Drop)]
+pub enum State {
+    Reading(Partial),
     Refused { at: u64, fault: RequestFault },
     Spent,
 }
@@ -36,17 +37,16 @@ pub enum Phase {
 /// Reads a request that comes in pieces.
 #[derive(Debug, Drop)]
 pub struct RequestReader {
-    phase: Phase,
-    partial: Partial,
+    state: State,
     alloc: Global,
 }
 
 impl Model for RequestReader {
     ghost Value = { Place };
 
-    ghost view = { λ r. place_of r.phase r.partial };
+    ghost view = { λ r. place_of r.state };
 
-    ghost invariant = { λ r. IsSound r.phase r.partial };
+    ghost invariant = { λ r. IsSound r.state };
 }
 
 impl RequestReader {
@@ -66,8 +66,7 @@ impl RequestReader {
             body: Bytes::new(alloc),
         };
         RequestReader {
-            phase: Phase::Reading,
-            partial,
+            state: State::Reading(partial),
             alloc,
         }
     }
@@ -76,7 +75,7 @@ impl RequestReader {
     pub fn is_spent(&self) -> bool
         ensures { IsTrue result ↔ IsSpent self.now }
     {
-        matches!(self.phase, Phase::Spent)
+        matches!(self.state, State::Spent)
     }
 
     /// Takes the next piece.
@@ -98,38 +97,44 @@ impl RequestReader {
         ensures leaves { (text : List ℕ) → IsAt self.old text → Leaves text piece.now result self.new }
         ensures repeats { Repeats self.old result self.new }
     {
-        feed_parts(self.alloc, &mut self.phase, &mut self.partial, piece)
+        feed_state(self.alloc, &mut self.state, piece)
     }
 }
 
-fn feed_parts(alloc: Global, phase: &mut Phase, partial: &mut Partial, piece: &[u8]) -> Step
-    requires sound { IsSound phase.old partial.old }
-    requires fresh { IsSpent (place_of phase.old partial.old) → ⊥ }
-    ensures sound { IsSound phase.new partial.new }
-    ensures says { (text : List ℕ) → IsAt (place_of phase.old partial.old) text → Says text piece.now result }
-    ensures leaves { (text : List ℕ) → IsAt (place_of phase.old partial.old) text → Leaves text piece.now result (place_of phase.new partial.new) }
-    ensures repeats { Repeats (place_of phase.old partial.old) result (place_of phase.new partial.new) }
+fn feed_state(alloc: Global, state: &mut State, piece: &[u8]) -> Step
+    requires sound { IsSound state.old }
+    requires fresh { IsSpent (place_of state.old) → ⊥ }
+    ensures sound { IsSound state.new }
+    ensures says { (text : List ℕ) → IsAt (place_of state.old) text → Says text piece.now result }
+    ensures leaves { (text : List ℕ) → IsAt (place_of state.old) text → Leaves text piece.now result (place_of state.new) }
+    ensures repeats { Repeats (place_of state.old) result (place_of state.new) }
 {
-    match *phase {
-        Phase::Reading => match run(alloc, partial, piece) {
-            Turn::More { .. } => Step::More,
-            Turn::Whole { request, taken } => {
-                *phase = Phase::Spent;
-                Step::Whole {
-                    request,
-                    used: taken,
-                }
+    let partial = match state {
+        State::Reading(partial) => partial,
+        State::Refused { at, fault } => {
+            return Step::Bad {
+                at: *at,
+                fault: *fault,
+            };
+        }
+        State::Spent => unreachable!(),
+    };
+    match run(alloc, partial, piece) {
+        Turn::More { .. } => Step::More,
+        Turn::Whole { request, taken } => {
+            *state = State::Spent;
+            Step::Whole {
+                request,
+                used: taken,
             }
-            Turn::Bad { at, fault } => {
-                *phase = Phase::Refused { at, fault };
-                Step::Bad { at, fault }
-            }
-            Turn::Memory => {
-                *phase = Phase::Spent;
-                Step::Memory
-            }
-        },
-        Phase::Refused { at, fault } => Step::Bad { at, fault },
-        Phase::Spent => unreachable!(),
+        }
+        Turn::Bad { at, fault } => {
+            *state = State::Refused { at, fault };
+            Step::Bad { at, fault }
+        }
+        Turn::Memory => {
+            *state = State::Spent;
+            Step::Memory
+        }
     }
 }
