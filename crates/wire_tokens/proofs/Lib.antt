@@ -15,3 +15,4 @@ pub mod ReplyBounds
 pub mod RequestBounds
 pub mod RequestLaws
 pub mod ReplyLaws
+pub mod Lengths

@@ -1,6 +1,6 @@
 //! Laws of the texts of requests and replies.
 
-ghost use Rattle.std.specs.Prelude.{◌≡◌, [], ◌++◌, ◌⊎◌, ◌<◌, ◌≤◌, ◌^◌, ℕ, List, length};
+ghost use Rattle.std.specs.Prelude.{◌≡◌, [], ◌++◌, ◌⊎◌, ◌<◌, ◌≤◌, ◌^◌, ◌+◌, ◌*◌, ℕ, List, length, sum_by};
 ghost use Rattle.farm_types.specs.declared.ran.Outcome.{Outcome};
 ghost use Rattle.farm_types.specs.declared.request.Request.{Request};
 ghost use Rattle.farm_types.specs.Fits.{OutcomeFits, RequestFits};
@@ -36,8 +36,10 @@ pub fn one_reading_of_requests()
     ensures empty { IsShortRequest [] }
     ensures cut { (text more : List ℕ) (q : Request) → SpellsRequest (text ++ more) q → (more ≡ [] → ⊥) → IsShortRequest text }
 
-    // A short text is shorter than the longest spelling.
+    // A short text is shorter than the longest spelling, and may be shorter by one byte alone.
+    ensures len { (q : Request) → length (request_text q) ≡ 36 + (12 * length q.words + sum_by length q.words + length q.source) }
     ensures short { (text : List ℕ) → IsShortRequest text → length text ≤ 34615331 }
+    ensures longest { (text : List ℕ) × IsShortRequest text × (length text ≡ 34615331) }
 {}
 
 /// Each text of a reply is read in one way.
@@ -67,6 +69,8 @@ pub fn one_reading_of_replies()
     ensures empty { IsShortReply [] }
     ensures cut { (text more : List ℕ) (o : Outcome) → SpellsReply (text ++ more) o → (more ≡ [] → ⊥) → IsShortReply text }
 
-    // A short text is shorter than the longest spelling.
+    // A short text is shorter than the longest spelling, and may be shorter by one byte alone.
+    ensures len { (o : Outcome) → length (reply_text o) ≡ 60 + (length o.err + length o.out + length o.object) }
     ensures short { (text : List ℕ) → IsShortReply text → length text ≤ 35651643 }
+    ensures longest { (text : List ℕ) × IsShortReply text × (length text ≡ 35651643) }
 {}

@@ -122,11 +122,12 @@ pub fn scan_token(text: &[u8], expected: Name4) -> Scan
     Scan::Number(number_of(&text[4..12]))
 }
 
-/// Reads a token of the expected name.
+/// Reads a token of the expected name, in digits of either case. It takes no memory.
 pub fn read_token(text: &[u8; 12], expected: Name4) -> Result<u32, TokenFault>
     ensures found { IfOk result (λ n. IsToken expected.0 n text.now) }
-    ensures only { (n : ℕ) → IsToken expected.0 n text.now → result ≡ Ok n }
+    ensures found_always { (n : ℕ) → IsToken expected.0 n text.now → result ≡ Ok n }
     ensures fault { IfErr result (λ fault. IsTokenFault expected.0 text.now fault) }
+    ensures fault_always { (fault : TokenFault) → IsTokenFault expected.0 text.now fault → result ≡ Err fault }
 {
     match scan_token(text, expected) {
         Scan::Number(n) => Ok(n),

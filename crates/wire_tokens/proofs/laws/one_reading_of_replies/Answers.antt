@@ -1,3 +1,4 @@
+use Rattle.wire_tokens.proofs.Lengths.{length-reply_text, longest_short_reply}
 use Rattle.wire_tokens.proofs.Written.{reply_written}
 use Rattle.wire_tokens.proofs.ReplyLaws as laws
 use Rattle.wire_tokens.proofs.laws.one_reading_of_replies.Goals as goal
@@ -17,5 +18,7 @@ returns c = record {
   fault_or_short = λ text at fault t s. s.no_fault at fault t;
   empty = laws.empty_is_short;
   cut = laws.cut_is_short;
+  len = length-reply_text;
   short = laws.short_len;
+  longest = longest_short_reply;
 }
