@@ -17,8 +17,8 @@ token_len name n token four t = ap length t.spelled ∙ length-append name t.dig
 -- a fault is what the step says
 pub step-fault : {F : Type 0} (format : Format F) (due : Due F) (text : List ℕ) (at : ℕ) (fault : F) → length due.name ≡ 4 → IsFault format due text at fault → step_of format due text ≡ refuses at fault
 unfolding step_of
-step-fault format due text at fault four (at_name r) = rw (scan-wrong_name due.name text at r) refl
-step-fault format due text at fault four (at_digit r) = rw (scan-bad_digit due.name text at r) refl
+step-fault format due text at fault four (at_name r) = rw (scan-wrong_name due.name text at four r) refl
+step-fault format due text at fault four (at_digit r) = rw (scan-bad_digit due.name text at four r) refl
 step-fault format due text at fault four (at_number {n} t r) =
     let e : scan_of due.name text ≡ Number n = ap (scan_of due.name) (sym (take-append-drop 12 text)) ∙ scan-token due.name n (take 12 text) (drop 12 text) four t in
     rw (e, r) refl
@@ -45,7 +45,7 @@ fault-numbered format due text n at fault None false t r e = absurd cc
 
 fault-scanned : {F : Type 0} (format : Format F) (due : Due F) (text : List ℕ) (at : ℕ) (fault : F) (s : Scan) → length due.name ≡ 4 → scan_of due.name text ≡ s → scanned format due text s ≡ refuses at fault → IsFault format due text at fault
 fault-scanned {F} format due text at fault (WrongName k) four is e =
-    let there : IsFault format due text k format.wrong_name = at_name (wrong_name-scan due.name text k is) in
+    let there : IsFault format due text k format.wrong_name = at_name (wrong_name-scan due.name text k four is) in
     let same : (k ≡ at) × (format.wrong_name ≡ fault) = (cc, cc) in
     subst (λ (p : ℕ × F). IsFault format due text p.0 p.1) (ap (λ (k : ℕ). (k, format.wrong_name)) same.0 ∙ ap (λ (f : F). (at, f)) same.1) there
 fault-scanned {F} format due text at fault (BadDigit k) four is e =

@@ -1,6 +1,6 @@
 -- A token: a name of four letters, and eight hexadecimal digits.
-use Rattle.std.specs.Prelude.{ℕ, zero, suc, ◌≡◌, ◌+◌, ◌-◌, ◌*◌, ◌/◌, ◌%◌, ◌^◌, ◌<◌, List, [], ◌∷◌, ◌++◌, length, take, drop, nat_lt, nat_le, nat_eq, Bool, ◌&&◌, ◌||◌, if◌then◌else◌}
-use Rattle.std.specs.List.{AllPass, prefix_len, common_prefix_len}
+use Rattle.std.specs.Prelude.{ℕ, zero, suc, ◌≡◌, ◌≢◌, ◌+◌, ◌-◌, ◌*◌, ◌/◌, ◌%◌, ◌^◌, ◌<◌, ◌≤◌, List, [], ◌∷◌, ◌++◌, length, take, drop, slice_index, nat_lt, nat_le, Bool, false, ◌&&◌, ◌||◌, if◌then◌else◌}
+use Rattle.std.specs.List.{AllPass}
 
 -- 0 to 9, a to f or A to F
 abbrev pub is_digit : ℕ → Bool
@@ -36,23 +36,18 @@ lower_digits (suc k) n = lower_digits k (n / 16) ++ lower_digit (n % 16) ∷ []
 abbrev pub token : List ℕ → ℕ → List ℕ
 token name n = name ++ lower_digits 8 n
 
--- how many bytes at the front of text are those of the name
-abbrev pub name_len : List ℕ → List ℕ → ℕ
-name_len name text = common_prefix_len nat_eq name text
-
--- how many of the eight bytes after the name are digits, from the first on
-abbrev pub digits_len : List ℕ → ℕ
-digits_len text = prefix_len is_digit (take 8 (drop 4 text))
-
--- the byte at this place is the first that isn't the name's
+-- the byte at this place of text is the first that isn't the name's
 pub record IsWrongName (name text : List ℕ) (at : ℕ) : Type 0 where
-  pub place : at ≡ name_len name text
   pub in_name : at < 4
   pub there : at < length text
+  pub before : take at text ≡ take at name
+  pub differs : slice_index text at ≢ slice_index name at
 
--- the name stands there, and the byte at this place is the first that is no digit
+-- the name stands at the front of text, and the byte at this place is the first after it that is no digit
 pub record IsBadDigit (name text : List ℕ) (at : ℕ) : Type 0 where
-  pub named : name_len name text ≡ 4
-  pub place : at ≡ 4 + digits_len text
-  pub in_digits : at < 12
+  pub named : take 4 text ≡ name
+  pub after_name : 4 ≤ at
+  pub in_token : at < 12
   pub there : at < length text
+  pub before : AllPass is_digit (take (at - 4) (drop 4 text))
+  pub no_digit : is_digit (slice_index text at) ≡ false

@@ -2,9 +2,10 @@
 
 ghost use Rattle.std.specs.Prelude.{◌≡◌, ◌<◌, ◌^◌, ℕ, IfOk, IfErr, length, take, IsTrue, ◌↔◌};
 ghost use Rattle.std.specs.List.{AllPass};
-ghost use Rattle.wire_tokens.specs.Token as specs;
+ghost use Rattle.wire_tokens.specs.Scan as scans;
+ghost use Rattle.wire_tokens.specs.Token as tokens;
 ghost use Rattle.wire_tokens.specs.Scan.{scan_of, IsTokenFault};
-ghost use Rattle.wire_tokens.specs.Token.{IsToken, IsWrongName, IsBadDigit, token, lower_digit, is_digit, digit_of};
+ghost use Rattle.wire_tokens.specs.Token.{IsToken, token, lower_digit, is_digit, digit_of};
 
 /// The four letters of a token's name.
 #[derive(Clone, Copy, Debug, PartialEq, Eq)]
@@ -49,7 +50,7 @@ fn value_of_digit(c: u8) -> u32
 
 // How many bytes at the front of the text are those of the name.
 fn name_len(text: &[u8], name: &[u8; 4]) -> usize
-    ensures len { result ≡ specs.name_len name.now text.now }
+    ensures len { result ≡ scans.name_len name.now text.now }
     ensures four { length name.now ≡ 4 }
 {
     for n in 0..4 {
@@ -62,7 +63,7 @@ fn name_len(text: &[u8], name: &[u8; 4]) -> usize
 
 // How many of the eight bytes after the name are digits, from the first on.
 fn digits_len(text: &[u8]) -> usize
-    ensures { result ≡ specs.digits_len text.now }
+    ensures { result ≡ scans.digits_len text.now }
 {
     for n in 0..8 {
         if 4 + n >= text.len() || !is_hex_digit(text[4 + n]) {
@@ -76,7 +77,7 @@ fn digits_len(text: &[u8]) -> usize
 fn number_of(digits: &[u8]) -> u32
     requires eight { length digits.now ≡ 8 }
     requires each { AllPass is_digit digits.now }
-    ensures { result ≡ specs.number_of digits.now }
+    ensures { result ≡ tokens.number_of digits.now }
 {
     let mut n = 0;
     for c in digits {
