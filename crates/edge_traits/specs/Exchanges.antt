@@ -3,9 +3,8 @@ use Rattle.std.specs.Prelude.{◌≡◌, ◌≢◌, ℕ, ◌<◌, true, false, L
 use Rattle.farm_types.specs.declared.request.Request.{Request}
 use Rattle.farm_types.specs.declared.ran.Outcome.{Outcome}
 use Rattle.farm_types.specs.declared.hosts.Host.{Host}
-use Rattle.wire_tokens.specs.Request.{low_request}
-use Rattle.wire_tokens.specs.Reply.{reply, BeginsReply, IsShortReply}
-use Rattle.wire_tokens.specs.Format.{Stands}
+use Rattle.wire_tokens.specs.Request.{request_text}
+use Rattle.wire_tokens.specs.Reply.{BeginsReply, ReplyFaultStands, IsShortReply}
 use Rattle.edge_traits.specs.declared.entries.Exchange.{Exchange}
 use Rattle.edge_traits.specs.declared.cause.Cause.{Cause}
 use Rattle.edge_traits.specs.declared.cause.Cause.TheVariants.{Dial, Send, Recv, Truncated, BadReply, Stopped}
@@ -15,13 +14,13 @@ pub record IsBegun (x : Exchange) (q : Request) (h : Host) : Type 0 where
   pub host : x.host ≡ h.name
   pub port : x.port ≡ h.port
   pub unsent : List ℕ
-  pub prefix : low_request q ≡ x.sent ++ unsent
+  pub prefix : request_text q ≡ x.sent ++ unsent
 
 -- the whole request was sent, and a prefix of what was given spells the outcome
 pub record IsWhole (x : Exchange) (q : Request) (h : Host) (o : Outcome) : Type 0 where
   pub begun : IsBegun x q h
   pub dialed : x.dialed ≡ true
-  pub sent : x.sent ≡ low_request q
+  pub sent : x.sent ≡ request_text q
   pub used : ℕ
   pub spelled : BeginsReply x.given used o
 
@@ -35,13 +34,13 @@ pub record NoLink (x : Exchange) : Type 0 where
 pub record CutRequest (x : Exchange) (q : Request) : Type 0 where
   pub dialed : x.dialed ≡ true
   pub unsent : List ℕ
-  pub prefix : low_request q ≡ x.sent ++ unsent
+  pub prefix : request_text q ≡ x.sent ++ unsent
   pub proper : unsent ≢ []
   pub given : x.given ≡ []
 
 -- the whole request was sent, and what was given is short
 pub record CutReply (x : Exchange) (q : Request) : Type 0 where
-  pub sent : x.sent ≡ low_request q
+  pub sent : x.sent ≡ request_text q
   pub short : IsShortReply x.given
 
 -- what the exchange shows of its cause
@@ -51,7 +50,7 @@ ShowsCause x q Send = CutRequest x q × (0 < x.faults)
 ShowsCause x q Stopped = CutRequest x q × (x.stopped ≡ true)
 ShowsCause x q Recv = CutReply x q × (0 < x.faults)
 ShowsCause x q (Truncated have) = CutReply x q × (length x.given ≡ have) × (x.ended ≡ true)
-ShowsCause x q (BadReply at fault) = (x.sent ≡ low_request q) × Stands reply x.given at fault
+ShowsCause x q (BadReply at fault) = (x.sent ≡ request_text q) × ReplyFaultStands x.given at fault
 
 -- the exchange was begun, and is broken by this cause
 pub record IsBroken (x : Exchange) (q : Request) (h : Host) (c : Cause) : Type 0 where
