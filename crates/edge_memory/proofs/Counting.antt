@@ -1,5 +1,5 @@
 -- How many of the first calls failed.
-use Rattle.std.proofs.Common.{◌≡◌, ℕ, zero, suc, ◌+◌, ◌≤◌, Bool, true, false, List, refl, add-one, arith}
+use Rattle.std.proofs.Common.{◌∙◌, sym, ap, [], ◌≡◌, ℕ, zero, suc, ◌+◌, ◌≤◌, Bool, true, false, List, refl, add-one, arith}
 use Rattle.std.specs.Prelude.{if◌then◌else◌, ◌&&◌, nat_lt}
 use Rattle.edge_traits.specs.Causes.{Rose}
 use Rattle.edge_memory.specs.Calls.{is_in, failed_calls, names_next, one_more, greatest}
@@ -44,3 +44,19 @@ failed_stays fails made = stays fails made (nat_lt made greatest)
 pub ruleset causes = (failed_rises, failed_stays)
 
 pub ruleset counting = (failed_within, one_failed, none_failed)
+
+no_number : (below : Bool) → below && false ≡ false
+no_number true = refl
+no_number false = refl
+
+-- where the list has no number, no call fails
+pub never_named : (fails : List ℕ) (made : ℕ) → fails ≡ [] → names_next fails made ≡ true → ⊥
+never_named fails made none named =
+    let unlike : false ≡ true = sym (no_number (nat_lt made greatest)) ∙ ap (λ list. names_next list made) (sym none) ∙ named in cc
+
+-- and the number of those that failed is 0
+pub none_failed_of : (made : ℕ) → failed_calls [] made ≡ 0
+none_failed_of zero = refl
+none_failed_of (suc made) = omega (arith, none_failed_of made)
+
+pub ruleset nevers = (never_named, none_failed_of)

@@ -5,13 +5,14 @@ use Rattle.edge_traits.specs.declared.entries.Exchange.{Exchange}
 use Rattle.edge_traits.specs.declared.faults.EdgeFault.{EdgeFault}
 use Rattle.edge_traits.specs.declared.faults.EdgeFault.TheVariants.{Failed, Memory}
 use Rattle.edge_traits.specs.Told.{told}
+use Rattle.edge_traits.specs.Links.{LinkView}
 use Rattle.edge_traits.specs.Dialers.{DialerView, dial_entries, hung}
 use Rattle.edge_memory.specs.declared.script.LinkScript.{LinkScript}
 use Rattle.edge_memory.specs.declared.link.MemLink.{MemLink}
 use Rattle.edge_memory.specs.declared.dialer.MemDialer.{MemDialer}
 use Rattle.edge_memory.specs.Calls.{names_next, one_more, failed_calls}
 use Rattle.edge_memory.specs.Scripts.{first_or, ends_at_once}
-use Rattle.edge_memory.specs.Links.{LinkState, link_state, link_shows, new_link}
+use Rattle.edge_memory.specs.Links.{link_state, new_link}
 
 -- the scripts of links that are still to be dialed, which dials fail, how many there were, counted up to the greatest u64, and the entries
 pub record DialerState : Type 0 where
@@ -38,12 +39,12 @@ abbrev pub links_after : {L : Type 0} → List LinkScript → Result L EdgeFault
 links_after links (Ok link) = drop 1 links
 links_after links (Err fault) = links
 
-abbrev pub after_dial : DialerState → HostName → ℕ → Result MemLink EdgeFault → DialerState
+abbrev pub after_dial : {L : Type 0} → DialerState → HostName → ℕ → Result L EdgeFault → DialerState
 after_dial dialer host port result = record dialer {
   made = one_more dialer.made;
   links = links_after dialer.links result;
   exchanges = dialer.exchanges ++ dial_entries host port result;
 }
 
-abbrev pub after_hang_up : DialerState → LinkState → DialerState
-after_hang_up dialer link = record dialer { exchanges = dialer.exchanges ++ hung (link_shows link) ∷ [] }
+abbrev pub after_hang_up : DialerState → LinkView → DialerState
+after_hang_up dialer link = record dialer { exchanges = dialer.exchanges ++ hung link ∷ [] }

@@ -4,13 +4,14 @@ use Rattle.edge_traits.specs.declared.entries.Visit.{Visit}
 use Rattle.edge_traits.specs.declared.faults.EdgeFault.{EdgeFault}
 use Rattle.edge_traits.specs.declared.faults.EdgeFault.TheVariants.{Failed, Memory}
 use Rattle.edge_traits.specs.Told.{told}
+use Rattle.edge_traits.specs.Links.{LinkView}
 use Rattle.edge_traits.specs.Doors.{DoorView, accepted_peers, visited}
 use Rattle.edge_memory.specs.declared.script.LinkScript.{LinkScript}
 use Rattle.edge_memory.specs.declared.link.MemLink.{MemLink}
 use Rattle.edge_memory.specs.declared.door.MemDoor.{MemDoor}
 use Rattle.edge_memory.specs.Calls.{names_next, one_more, failed_calls}
 use Rattle.edge_memory.specs.Scripts.{first_or, ends_at_once}
-use Rattle.edge_memory.specs.Links.{LinkState, link_state, link_shows, new_link, nowhere}
+use Rattle.edge_memory.specs.Links.{link_state, new_link, nowhere}
 use Rattle.edge_memory.specs.Dialers.{links_after}
 
 -- the scripts of links and the peers that are still to come, which accepts fail, how many there were, counted up to the greatest u64, the addresses that were given, and the entries
@@ -40,7 +41,7 @@ abbrev pub peers_after : {L : Type 0} → List ℕ → Result L EdgeFault → Li
 peers_after peers (Ok accepted) = drop 1 peers
 peers_after peers (Err fault) = peers
 
-abbrev pub after_accept : DoorState → Result (MemLink × ℕ) EdgeFault → DoorState
+abbrev pub after_accept : {L : Type 0} → DoorState → Result (L × ℕ) EdgeFault → DoorState
 after_accept door result = record door {
   made = one_more door.made;
   links = links_after door.links result;
@@ -48,5 +49,5 @@ after_accept door result = record door {
   came = door.came ++ accepted_peers result;
 }
 
-abbrev pub after_leave : DoorState → LinkState → DoorState
-after_leave door link = record door { visits = door.visits ++ visited (link_shows link) ∷ [] }
+abbrev pub after_leave : DoorState → LinkView → DoorState
+after_leave door link = record door { visits = door.visits ++ visited link ∷ [] }

@@ -10,3 +10,4 @@ pub mod Keepers
 pub mod Stations
 pub mod Dialers
 pub mod Doors
+pub mod Nevers

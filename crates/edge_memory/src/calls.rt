@@ -1,6 +1,7 @@
-ghost use Rattle.std.specs.Prelude.{◌≡◌, ◌≤◌};
+ghost use Rattle.std.specs.Prelude.{◌≡◌, []};
 ghost use Rattle.edge_memory.specs.Calls.{is_in, names_next, one_more, failed_calls};
 
+use crate::never::none_of;
 use edge_traits::CallNumbers;
 
 /// How many calls were made, and how many of them failed: exactly those whose number is in the list.
@@ -29,6 +30,14 @@ impl Calls {
             made: 0,
             faults: 0,
         }
+    }
+
+    /// The same before any call, where no call fails.
+    pub fn without_fails(self) -> Calls
+        ensures fails { result.fails ≡ [] }
+        ensures made { result.made ≡ 0 }
+    {
+        Calls::new(none_of(self.fails))
     }
 
     /// Whether the list has the number of the next call.

@@ -14,6 +14,9 @@ pub struct MemClock {
     given: u64,
 }
 
+/// A clock never fails.
+pub type MemNeverClock = MemClock;
+
 impl MemClock {
     ghost use Rattle.std.specs.Prelude.{◌≡◌};
     ghost use Rattle.edge_memory.specs.Clocks.{clock_state};

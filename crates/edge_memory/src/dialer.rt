@@ -55,7 +55,7 @@ impl Dialer for MemDialer {
     ghost use Rattle.std.specs.Prelude.{◌≡◌, ⊤, IsTrue};
     ghost use Rattle.std.proofs.Common.{subst};
     ghost use Rattle.edge_traits.specs.Causes.{HasCause};
-    ghost use Rattle.edge_memory.specs.Links.{link_state};
+    ghost use Rattle.edge_memory.specs.Links.{link_state, link_shows};
     ghost use Rattle.edge_memory.specs.Dialers.{dialer_state, dialer_shows, IsDialAnswer, after_dial, after_hang_up};
 
     ghost shows = { λ d. dialer_shows (dialer_state d) };
@@ -85,7 +85,7 @@ impl Dialer for MemDialer {
 
     fn hang_up(&mut self, link: MemLink)
         requires { IsTrue (link_state link).may_hang_up }
-        ensures { dialer_state self.new ≡ after_hang_up (dialer_state self.old) (link_state link) }
+        ensures { dialer_state self.new ≡ after_hang_up (dialer_state self.old) (link_shows (link_state link)) }
     {
         let (entry, room) = link.into_exchange();
         if let Some(room) = room {

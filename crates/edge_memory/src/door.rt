@@ -43,7 +43,7 @@ impl Door for MemDoor {
     ghost use Rattle.std.specs.Prelude.{◌≡◌, IsTrue};
     ghost use Rattle.std.proofs.Common.{subst};
     ghost use Rattle.edge_traits.specs.Causes.{HasCause};
-    ghost use Rattle.edge_memory.specs.Links.{link_state};
+    ghost use Rattle.edge_memory.specs.Links.{link_state, link_shows};
     ghost use Rattle.edge_memory.specs.Doors.{door_state, door_shows, IsAcceptAnswer, after_accept, after_leave};
 
     ghost shows = { λ d. door_shows (door_state d) };
@@ -75,7 +75,7 @@ impl Door for MemDoor {
 
     fn leave(&mut self, link: MemLink)
         requires { IsTrue (link_state link).may_leave }
-        ensures { door_state self.new ≡ after_leave (door_state self.old) (link_state link) }
+        ensures { door_state self.new ≡ after_leave (door_state self.old) (link_shows (link_state link)) }
     {
         let (entry, room) = link.into_visit();
         if let Some(room) = room {

@@ -29,6 +29,7 @@ impl MemLink {
     ghost use Rattle.std.specs.Prelude.{◌≡◌, false, is_some};
     ghost use Rattle.edge_traits.specs.Dialers.{hung};
     ghost use Rattle.edge_traits.specs.Doors.{visited};
+    ghost use Rattle.edge_memory.specs.Scripts.{never_script};
     ghost use Rattle.edge_memory.specs.Links.{link_state, link_shows, new_link, nowhere};
 
     /// A link that nobody dialed, and that nothing passed over. It takes no memory.
@@ -64,6 +65,40 @@ impl MemLink {
             sent: Bytes::new(alloc),
             ended: false,
             stopped: false,
+            exchange,
+            visit,
+        }
+    }
+
+    /// The same link before any call, where no call fails.
+    pub(crate) fn without_fails(self) -> MemLink
+        ensures { link_state result ≡ record (link_state self) { script = never_script (link_state self).script; made = 0 } }
+    {
+        let MemLink {
+            host,
+            port,
+            gives,
+            at,
+            zeros,
+            most,
+            calls,
+            sent,
+            ended,
+            stopped,
+            exchange,
+            visit,
+        } = self;
+        MemLink {
+            host,
+            port,
+            gives,
+            at,
+            zeros,
+            most,
+            calls: calls.without_fails(),
+            sent,
+            ended,
+            stopped,
             exchange,
             visit,
         }
