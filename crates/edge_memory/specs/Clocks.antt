@@ -2,7 +2,7 @@
 use Rattle.std.specs.Prelude.{ℕ, List, nat_lt}
 use Rattle.edge_traits.specs.Clocks.{ClockView}
 use Rattle.edge_memory.specs.declared.clock.MemClock.{MemClock}
-use Rattle.edge_memory.specs.Calls.{greatest}
+use Rattle.edge_traits.specs.Calls.{greatest}
 use Rattle.edge_memory.specs.Moments.{moments_of}
 
 -- the script, and how many moments were given, counted up to the greatest u64

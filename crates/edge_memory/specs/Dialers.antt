@@ -10,7 +10,7 @@ use Rattle.edge_traits.specs.Dialers.{DialerView, dial_entries, hung}
 use Rattle.edge_memory.specs.declared.script.LinkScript.{LinkScript}
 use Rattle.edge_memory.specs.declared.link.MemLink.{MemLink}
 use Rattle.edge_memory.specs.declared.dialer.MemDialer.{MemDialer}
-use Rattle.edge_memory.specs.Calls.{names_next, one_more, failed_calls}
+use Rattle.edge_traits.specs.Calls.{names_next, one_more, failed_calls}
 use Rattle.edge_memory.specs.Scripts.{first_or, ends_at_once}
 use Rattle.edge_memory.specs.Links.{link_state, new_link}
 

@@ -10,7 +10,7 @@ use Rattle.edge_traits.specs.Told.{told}
 use Rattle.edge_traits.specs.FileMaps.{Files, files_after}
 use Rattle.edge_traits.specs.Keepers.{KeeperView, HasLength, put_entries, fetch_entries}
 use Rattle.edge_memory.specs.declared.keeper.MemKeeper.{MemKeeper}
-use Rattle.edge_memory.specs.Calls.{names_next, one_more, failed_calls}
+use Rattle.edge_traits.specs.Calls.{names_next, one_more, failed_calls}
 
 -- the files, which calls fail, how many calls and overruns there were, both counted up to the greatest u64, and the entries
 pub record KeeperState : Type 0 where

@@ -1,4 +1,3 @@
-pub mod Calls
 pub mod Moving
 pub mod Scripts
 pub mod Moments

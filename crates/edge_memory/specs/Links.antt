@@ -5,7 +5,7 @@ use Rattle.edge_traits.specs.Told.{told}
 use Rattle.edge_traits.specs.Links.{Origin, LinkView, moved, moved_none}
 use Rattle.edge_memory.specs.declared.script.LinkScript.{LinkScript}
 use Rattle.edge_memory.specs.declared.link.MemLink.{MemLink}
-use Rattle.edge_memory.specs.Calls.{one_more, failed_calls}
+use Rattle.edge_traits.specs.Calls.{one_more, failed_calls}
 use Rattle.edge_memory.specs.Moving.{count_of}
 
 -- the script and whom the link was dialed to; how many calls it had, counted up to the greatest u64; what passed so far; and what may be done with it at its end

@@ -6,7 +6,7 @@ use Rattle.edge_traits.specs.Links.{moved, moved_none}
 use Rattle.edge_traits.specs.Sinks.{SinkView}
 use Rattle.edge_memory.specs.declared.script.Moves.{Moves}
 use Rattle.edge_memory.specs.declared.sink.MemSink.{MemSink}
-use Rattle.edge_memory.specs.Calls.{one_more, failed_calls}
+use Rattle.edge_traits.specs.Calls.{one_more, failed_calls}
 
 -- the script, how many calls there were, counted up to the greatest u64, what was written, and whether a write took nothing
 pub record SinkState : Type 0 where

@@ -6,7 +6,7 @@ use Rattle.edge_traits.specs.Told.{told}
 use Rattle.edge_traits.specs.Links.{moved_none}
 use Rattle.edge_traits.specs.Sources.{SourceView}
 use Rattle.edge_memory.specs.declared.source.MemSource.{MemSource}
-use Rattle.edge_memory.specs.Calls.{names_next, one_more, failed_calls}
+use Rattle.edge_traits.specs.Calls.{names_next, one_more, failed_calls}
 use Rattle.edge_memory.specs.Moving.{count_of}
 
 -- the script, how many calls there were, counted up to the greatest u64, how many bytes were given, and whether the end was

@@ -12,7 +12,7 @@ use Rattle.edge_traits.specs.declared.faults.StationFault.TheVariants.{Failed, T
 use Rattle.edge_traits.specs.Told.{told}
 use Rattle.edge_traits.specs.Stations.{StationView, run_entries}
 use Rattle.edge_memory.specs.declared.station.MemStation.{MemStation}
-use Rattle.edge_memory.specs.Calls.{names_next, one_more, failed_calls}
+use Rattle.edge_traits.specs.Calls.{names_next, one_more, failed_calls}
 use Rattle.edge_memory.specs.Scripts.{first_or}
 
 -- the runs that are still to be given, which calls fail, how many calls and overruns there were, both counted up to the greatest u64, and the entries

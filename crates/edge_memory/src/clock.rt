@@ -49,7 +49,7 @@ fn moment_of(moments: &Moments, call: u64) -> u64
 
 impl Clock for MemClock {
     ghost use Rattle.std.specs.Prelude.{◌≡◌};
-    ghost use Rattle.edge_memory.specs.Calls.{one_more};
+    ghost use Rattle.edge_traits.specs.Calls.{one_more};
     ghost use Rattle.edge_memory.specs.Moments.{moment_at};
     ghost use Rattle.edge_memory.specs.Clocks.{clock_state, clock_shows};
 

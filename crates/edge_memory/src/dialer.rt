@@ -1,11 +1,10 @@
 ghost use Rattle.std.specs.Prelude.{◌≡◌};
 ghost use Rattle.edge_traits.specs.Dialers.{undialed};
 
-use crate::calls::Calls;
 use crate::front::{ends_at_once, take_first_or};
 use crate::link::MemLink;
 use crate::{LinkScript, LinkScripts};
-use edge_traits::{CallNumbers, Dialer, EdgeFault, Exchange};
+use edge_traits::{CallNumbers, Calls, Dialer, EdgeFault, Exchange};
 use farm_types::{Bytes, HostName, Room, Trail};
 use std::alloc::Global;
 
@@ -66,7 +65,7 @@ impl Dialer for MemDialer {
 
     ghost came_stays = { λ d a b came f. subst IsTrue f.2 came };
 
-    #[tactic(auto, using(crate::proofs::Counting::causes))]
+    #[tactic(auto, using(edge_traits::proofs::Counting::causes))]
     fn dial(&mut self, alloc: Global, host: &HostName, port: u16) -> Result<MemLink, EdgeFault>
         ensures answer { IsDialAnswer (dialer_state self.old) host.now port result }
         ensures state { dialer_state self.new ≡ after_dial (dialer_state self.old) host.now port result }

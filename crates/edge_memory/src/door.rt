@@ -1,8 +1,7 @@
-use crate::calls::Calls;
 use crate::front::{ends_at_once, take_first_or};
 use crate::link::MemLink;
 use crate::{LinkScript, LinkScripts};
-use edge_traits::{CallNumbers, Door, EdgeFault, Visit};
+use edge_traits::{CallNumbers, Calls, Door, EdgeFault, Visit};
 use farm_types::{Bytes, HostName, Items, Room, Trail};
 use std::alloc::Global;
 
@@ -52,7 +51,7 @@ impl Door for MemDoor {
 
     ghost came_stays = { λ d a b came f. subst IsTrue f.3 came };
 
-    #[tactic(auto, using(crate::proofs::Counting::causes))]
+    #[tactic(auto, using(edge_traits::proofs::Counting::causes))]
     fn accept(&mut self, alloc: Global) -> Result<(MemLink, u32), EdgeFault>
         ensures answer { IsAcceptAnswer (door_state self.old) result }
         ensures state { door_state self.new ≡ after_accept (door_state self.old) result }

@@ -1,5 +1,6 @@
-use crate::calls::{Calls, raised};
-use edge_traits::{CallNumbers, EdgeFault, Fetch, FetchFault, FileList, Keeper, Put};
+use edge_traits::{
+    CallNumbers, Calls, EdgeFault, Fetch, FetchFault, FileList, Keeper, Put, raised,
+};
 use farm_types::{Bytes, Room, Trail};
 use std::alloc::Global;
 
@@ -37,12 +38,12 @@ impl Keeper for MemKeeper {
     ghost use Rattle.edge_traits.specs.FileMaps.{IsStaged};
     ghost use Rattle.edge_traits.specs.Keepers.{FetchCause};
     ghost use Rattle.edge_traits.specs.declared.faults.EdgeFault.TheVariants.{Failed};
-    ghost use Rattle.edge_memory.specs.Calls.{names_next};
+    ghost use Rattle.edge_traits.specs.Calls.{names_next};
     ghost use Rattle.edge_memory.specs.Keepers.{keeper_state, keeper_shows, after_put, IsFetchAnswer, after_fetch};
 
     ghost shows = { λ k. keeper_shows (keeper_state k) };
 
-    #[tactic(auto, using(crate::proofs::Counting::causes))]
+    #[tactic(auto, using(edge_traits::proofs::Counting::causes))]
     fn put(&mut self, alloc: Global, path: &Bytes, bytes: &[u8]) -> Result<(), EdgeFault>
         requires { ¬ (IsStaged path.now) }
         ensures failed { IsErrOf result Failed ↔ IsTrue (names_next (keeper_state self.old).fails (keeper_state self.old).made) }
@@ -63,7 +64,7 @@ impl Keeper for MemKeeper {
         Ok(())
     }
 
-    #[tactic(auto, using(crate::proofs::Counting::causes))]
+    #[tactic(auto, using(edge_traits::proofs::Counting::causes))]
     fn fetch(&mut self, alloc: Global, path: &Bytes, bound: u32) -> Result<Bytes, FetchFault>
         requires { ¬ (IsStaged path.now) }
         ensures answer { IsFetchAnswer (keeper_state self.old) path.now bound result }

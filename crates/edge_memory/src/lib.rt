@@ -1,7 +1,6 @@
 //! Devices in memory, which follow scripts.
 #![tactic(auto)]
 
-mod calls;
 mod clock;
 mod dialer;
 mod door;

@@ -1,9 +1,8 @@
 ghost use Rattle.std.specs.Prelude.{◌≤◌, length};
 
 use crate::LinkScript;
-use crate::calls::Calls;
 use crate::moving::{next_count, put_front};
-use edge_traits::{CallNumbers, EdgeFault, Exchange, Link, Visit};
+use edge_traits::{CallNumbers, Calls, EdgeFault, Exchange, Link, Visit};
 use farm_types::{Bytes, HostName, Room};
 use std::alloc::Global;
 
@@ -142,7 +141,7 @@ impl MemLink {
     }
 }
 
-#[tactic(auto, using(crate::proofs::Counting::causes))]
+#[tactic(auto, using(edge_traits::proofs::Counting::causes))]
 impl Link for MemLink {
     ghost use Rattle.std.specs.Prelude.{◌≡◌, ◌<◌, ⊤, length, is_some, min, refl};
     ghost use Rattle.std.proofs.Common.{◌∙◌, sym};

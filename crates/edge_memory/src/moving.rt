@@ -1,9 +1,8 @@
 ghost use Rattle.std.specs.Prelude.{◌≡◌, ◌≤◌, length, take};
-ghost use Rattle.edge_memory.specs.Calls.{names_next};
+ghost use Rattle.edge_traits.specs.Calls.{names_next};
 ghost use Rattle.edge_memory.specs.Moving.{next_size};
 
-use crate::calls::Calls;
-use edge_traits::CallNumbers;
+use edge_traits::{CallNumbers, Calls};
 
 /// How many bytes the next call moves, where so many could be moved.
 pub fn next_count(calls: &Calls, zeros: &CallNumbers, most: u32, limit: usize) -> usize

@@ -1,7 +1,6 @@
 use crate::Moves;
-use crate::calls::Calls;
 use crate::moving::next_count;
-use edge_traits::{CallNumbers, EdgeFault, Sink};
+use edge_traits::{CallNumbers, Calls, EdgeFault, Sink};
 use farm_types::Bytes;
 use std::alloc::Global;
 
@@ -41,7 +40,7 @@ impl Sink for MemSink {
 
     ghost shows = { λ s. sink_shows (sink_state s) };
 
-    #[tactic(auto, using(crate::proofs::Counting::causes))]
+    #[tactic(auto, using(edge_traits::proofs::Counting::causes))]
     fn write(&mut self, piece: &[u8]) -> Result<usize, EdgeFault>
         requires { 0 < length piece.now }
         ensures answer { IsNextAnswer (sink_state self.old).moves (sink_state self.old).made (length piece.now) result }

@@ -1,8 +1,7 @@
 ghost use Rattle.std.specs.Prelude.{◌<◌, ◌≤◌, length};
 
-use crate::calls::Calls;
 use crate::moving::put_front;
-use edge_traits::{CallNumbers, EdgeFault, Source};
+use edge_traits::{CallNumbers, Calls, EdgeFault, Source};
 use farm_types::Bytes;
 
 /// A source that gives a text.
@@ -46,7 +45,7 @@ impl Source for MemSource {
 
     ghost shows = { λ s. source_shows (source_state s) };
 
-    #[tactic(auto, using(crate::proofs::Counting::causes))]
+    #[tactic(auto, using(edge_traits::proofs::Counting::causes))]
     fn read(&mut self, room: &mut [u8]) -> Result<usize, EdgeFault>
         requires { 0 < length room.old }
         ensures answer { result ≡ read_answer (source_state self.old) (length room.old) }

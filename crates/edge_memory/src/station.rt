@@ -3,9 +3,8 @@ ghost use Rattle.farm_types.specs.Rans.{nothing_ran};
 ghost use Rattle.edge_memory.specs.Scripts.{first_or};
 ghost use Rattle.edge_memory.specs.Stations.{first_over};
 
-use crate::calls::{Calls, raised};
 use crate::front::take_first_or;
-use edge_traits::{Bounds, CallNumbers, Run, Station, StationFault, Stream};
+use edge_traits::{Bounds, CallNumbers, Calls, Run, Station, StationFault, Stream, raised};
 use farm_types::{Bytes, Items, PlacedWords, Ran, Room, Trail, Word};
 use std::alloc::{AllocError, Global};
 
@@ -84,7 +83,7 @@ impl Station for MemStation {
 
     ghost ran = { λ s words input ran. ⊤ };
 
-    #[tactic(auto, using(crate::proofs::Counting::causes))]
+    #[tactic(auto, using(edge_traits::proofs::Counting::causes))]
     fn run(
         &mut self,
         alloc: Global,

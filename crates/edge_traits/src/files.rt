@@ -1,6 +1,6 @@
 ghost use Rattle.std.specs.Prelude.{◌≡◌, OnOk, OnErr};
 ghost use Rattle.std.specs.Option.{option_copied};
-ghost use Rattle.std.specs.FinMap.{empty, get, insert};
+ghost use Rattle.std.specs.FinMap.{empty, get, insert, remove};
 ghost use Rattle.edge_traits.specs.FileMaps.{place_of};
 
 use farm_types::Bytes;
@@ -60,6 +60,14 @@ impl FileList {
             return Some(&self.stored[at].1);
         }
         None
+    }
+
+    /// Takes a file out, if it is there. It takes no memory.
+    pub fn remove(&mut self, path: &Bytes)
+        ensures { self.new ≡ remove self.old path.now }
+    {
+        let path = path.as_slice();
+        self.stored.retain(|file| file.0.as_slice() != path);
     }
 }
 

@@ -17,7 +17,7 @@ mod sink;
 mod source;
 mod station;
 
-pub use calls::CallNumbers;
+pub use calls::{CallNumbers, Calls, none_of, raised};
 pub use cause::Cause;
 pub use clock::Clock;
 pub use dialer::Dialer;

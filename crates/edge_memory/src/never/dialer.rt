@@ -3,8 +3,7 @@ ghost use Rattle.std.specs.Prelude.{◌≡◌, []};
 use crate::LinkScripts;
 use crate::dialer::MemDialer;
 use crate::never::link::MemNeverLink;
-use crate::never::none_of;
-use edge_traits::{CallNumbers, Dialer, EdgeFault};
+use edge_traits::{CallNumbers, Dialer, EdgeFault, none_of};
 use farm_types::HostName;
 use std::alloc::Global;
 
@@ -48,7 +47,7 @@ impl Dialer for MemNeverDialer {
 
     ghost came_stays = { λ d a b came f. subst IsTrue f.2 came };
 
-    #[tactic(auto, using(crate::proofs::Counting::nevers))]
+    #[tactic(auto, using(edge_traits::proofs::Counting::nevers))]
     fn dial(&mut self, alloc: Global, host: &HostName, port: u16) -> Result<MemNeverLink, EdgeFault>
         ensures link { IfOk result (λ link. never_link_state link ≡ new_link (never_script (first_or ends_at_once (never_dialer_state self.old).links)) (record { host = host.now; port = port }) true false) }
         ensures never { ¬ (IsErrOf result Failed) }
@@ -60,7 +59,7 @@ impl Dialer for MemNeverDialer {
         })
     }
 
-    #[tactic(auto, using(crate::proofs::Counting::nevers))]
+    #[tactic(auto, using(edge_traits::proofs::Counting::nevers))]
     fn hang_up(&mut self, link: MemNeverLink)
         requires { IsTrue (never_link_state link).may_hang_up }
         ensures { never_dialer_state self.new ≡ after_hang_up (never_dialer_state self.old) (never_link_shows (never_link_state link)) }

@@ -2,9 +2,8 @@ ghost use Rattle.std.specs.Prelude.{◌≡◌, []};
 
 use crate::door::MemDoor;
 use crate::never::link::MemNeverLink;
-use crate::never::none_of;
 use crate::{LinkScripts, Peers};
-use edge_traits::{CallNumbers, Door, EdgeFault};
+use edge_traits::{CallNumbers, Door, EdgeFault, none_of};
 use std::alloc::Global;
 
 /// A door whose links follow scripts. Neither it nor its links fail.
@@ -45,7 +44,7 @@ impl Door for MemNeverDoor {
 
     ghost came_stays = { λ d a b came f. subst IsTrue f.3 came };
 
-    #[tactic(auto, using(crate::proofs::Counting::nevers))]
+    #[tactic(auto, using(edge_traits::proofs::Counting::nevers))]
     fn accept(&mut self, alloc: Global) -> Result<(MemNeverLink, u32), EdgeFault>
         ensures link { IfOk result (λ accepted. never_link_state accepted.0 ≡ new_link (never_script (first_or ends_at_once (never_door_state self.old).links)) nowhere false true) }
         ensures peer { IfOk result (λ accepted. accepted.1 ≡ first_or 0 (never_door_state self.old).peers) }
@@ -59,7 +58,7 @@ impl Door for MemNeverDoor {
         Ok((link, peer))
     }
 
-    #[tactic(auto, using(crate::proofs::Counting::nevers))]
+    #[tactic(auto, using(edge_traits::proofs::Counting::nevers))]
     fn leave(&mut self, link: MemNeverLink)
         requires { IsTrue (never_link_state link).may_leave }
         ensures { never_door_state self.new ≡ after_leave (never_door_state self.old) (never_link_shows (never_link_state link)) }

@@ -1,8 +1,7 @@
 ghost use Rattle.std.specs.Prelude.{◌≡◌, []};
 
 use crate::keeper::MemKeeper;
-use crate::never::none_of;
-use edge_traits::{CallNumbers, EdgeFault, FetchFault, FileList, Keeper};
+use edge_traits::{CallNumbers, EdgeFault, FetchFault, FileList, Keeper, none_of};
 use farm_types::Bytes;
 use std::alloc::Global;
 
@@ -38,7 +37,7 @@ impl Keeper for MemNeverKeeper {
 
     ghost shows = { λ k. never_keeper_shows (never_keeper_state k) };
 
-    #[tactic(auto, using(crate::proofs::Counting::nevers))]
+    #[tactic(auto, using(edge_traits::proofs::Counting::nevers))]
     fn put(&mut self, alloc: Global, path: &Bytes, bytes: &[u8]) -> Result<(), EdgeFault>
         requires { ¬ (IsStaged path.now) }
         ensures never { ¬ (IsErrOf result Failed) }
@@ -47,7 +46,7 @@ impl Keeper for MemNeverKeeper {
         self.inner.put(alloc, path, bytes)
     }
 
-    #[tactic(auto, using(crate::proofs::Counting::nevers))]
+    #[tactic(auto, using(edge_traits::proofs::Counting::nevers))]
     fn fetch(&mut self, alloc: Global, path: &Bytes, bound: u32) -> Result<Bytes, FetchFault>
         requires { ¬ (IsStaged path.now) }
         ensures answer { IsFetchAnswer (never_keeper_state self.old) path.now bound result }

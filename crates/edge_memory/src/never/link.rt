@@ -1,9 +1,8 @@
 ghost use Rattle.std.specs.Prelude.{◌≡◌, []};
 
 use crate::link::MemLink;
-use crate::never::none_of;
 use crate::{LinkScript, Moves};
-use edge_traits::{EdgeFault, Link};
+use edge_traits::{EdgeFault, Link, none_of};
 use std::alloc::Global;
 
 /// A link that follows a script and never fails.
@@ -71,7 +70,7 @@ impl Link for MemNeverLink {
 
     ghost may_give_stays = { λ a b f. record { kept = λ sent given may. may; back = λ sent given may. may } };
 
-    #[tactic(auto, using(crate::proofs::Counting::nevers))]
+    #[tactic(auto, using(edge_traits::proofs::Counting::nevers))]
     fn send(&mut self, piece: &[u8]) -> Result<usize, EdgeFault>
         requires { 0 < length piece.now }
         ensures answer { IsNextAnswer (never_link_state self.old).script.moves (never_link_state self.old).made (length piece.now) result }
@@ -81,7 +80,7 @@ impl Link for MemNeverLink {
         self.inner.send(piece)
     }
 
-    #[tactic(auto, using(crate::proofs::Counting::nevers))]
+    #[tactic(auto, using(edge_traits::proofs::Counting::nevers))]
     fn recv(&mut self, room: &mut [u8]) -> Result<usize, EdgeFault>
         requires { 0 < length room.old }
         ensures answer { result ≡ next_answer (never_link_state self.old).script.moves (never_link_state self.old).made (min (length room.old) (length (left_of (never_link_state self.old)))) }

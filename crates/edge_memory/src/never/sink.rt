@@ -1,9 +1,8 @@
 ghost use Rattle.std.specs.Prelude.{◌≡◌, []};
 
 use crate::Moves;
-use crate::never::none_of;
 use crate::sink::MemSink;
-use edge_traits::{EdgeFault, Sink};
+use edge_traits::{EdgeFault, Sink, none_of};
 use std::alloc::Global;
 
 /// A sink that keeps what is written and never fails.
@@ -43,7 +42,7 @@ impl Sink for MemNeverSink {
 
     ghost shows = { λ s. never_sink_shows (never_sink_state s) };
 
-    #[tactic(auto, using(crate::proofs::Counting::nevers))]
+    #[tactic(auto, using(edge_traits::proofs::Counting::nevers))]
     fn write(&mut self, piece: &[u8]) -> Result<usize, EdgeFault>
         requires { 0 < length piece.now }
         ensures answer { IsNextAnswer (never_sink_state self.old).moves (never_sink_state self.old).made (length piece.now) result }

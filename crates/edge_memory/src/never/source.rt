@@ -1,8 +1,7 @@
 ghost use Rattle.std.specs.Prelude.{◌≡◌, []};
 
-use crate::never::none_of;
 use crate::source::MemSource;
-use edge_traits::{CallNumbers, EdgeFault, Source};
+use edge_traits::{CallNumbers, EdgeFault, Source, none_of};
 use farm_types::Bytes;
 
 /// A source that gives a text and never fails.
@@ -38,7 +37,7 @@ impl Source for MemNeverSource {
 
     ghost shows = { λ s. never_source_shows (never_source_state s) };
 
-    #[tactic(auto, using(crate::proofs::Counting::nevers))]
+    #[tactic(auto, using(edge_traits::proofs::Counting::nevers))]
     fn read(&mut self, room: &mut [u8]) -> Result<usize, EdgeFault>
         requires { 0 < length room.old }
         ensures answer { result ≡ read_answer (never_source_state self.old) (length room.old) }

@@ -1,9 +1,8 @@
 ghost use Rattle.std.specs.Prelude.{◌≡◌, []};
 
 use crate::RanList;
-use crate::never::none_of;
 use crate::station::MemStation;
-use edge_traits::{Bounds, CallNumbers, Station, StationFault};
+use edge_traits::{Bounds, CallNumbers, Station, StationFault, none_of};
 use farm_types::{Ran, Word};
 use std::alloc::Global;
 
@@ -39,7 +38,7 @@ impl Station for MemNeverStation {
 
     ghost ran = { λ s words input ran. ⊤ };
 
-    #[tactic(auto, using(crate::proofs::Counting::nevers))]
+    #[tactic(auto, using(edge_traits::proofs::Counting::nevers))]
     fn run(
         &mut self,
         alloc: Global,

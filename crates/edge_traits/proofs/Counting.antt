@@ -2,7 +2,7 @@
 use Rattle.std.proofs.Common.{◌∙◌, sym, ap, [], ◌≡◌, ℕ, zero, suc, ◌+◌, ◌≤◌, Bool, true, false, List, refl, add-one, arith}
 use Rattle.std.specs.Prelude.{if◌then◌else◌, ◌&&◌, nat_lt}
 use Rattle.edge_traits.specs.Causes.{Rose}
-use Rattle.edge_memory.specs.Calls.{is_in, failed_calls, names_next, one_more, greatest}
+use Rattle.edge_traits.specs.Calls.{is_in, failed_calls, names_next, one_more, greatest}
 
 -- one call more, whose number is in the list or isn't
 pub failed_more : (fails : List ℕ) (made : ℕ) → failed_calls fails (made + 1) ≡ (if is_in (made + 1) fails then 1 else 0) + failed_calls fails made
