@@ -1,5 +1,7 @@
 //! One task and a copy, each as fast as it was in some rounds.
 
+ghost use Rattle.std.specs.Prelude.{◌≡◌, ◌*◌, ◌/◌, ◌^◌, ◌<◌};
+
 use crate::sample::Sample;
 use compile_reply::Reply;
 use compile_request::{RequestReader, Step};
@@ -35,8 +37,11 @@ pub struct Times {
 }
 
 impl Times {
-    /// How many hundredths of a copy the task takes.
-    pub fn hundredths(self) -> u64 {
+    /// How many hundredths of a copy the task takes. Where the copy takes no time it is 0.
+    pub fn hundredths(self) -> u64
+        ensures none { self.copy ≡ 0 → result ≡ 0 }
+        ensures exact { 0 < self.copy → self.task * 100 < 2 ^ 64 → result ≡ self.task * 100 / self.copy }
+    {
         self.task
             .saturating_mul(100)
             .checked_div(self.copy)
