@@ -13,14 +13,14 @@ use farm_types::{Bytes, Outcome};
 use std::alloc::{AllocError, Global};
 use wire_tokens::{DONE, DOTO, Name4, ReplyFault, SERR, SOUT, STAT, Scan, Which, scan_token};
 
-/// What a text is.
+/// What a text of a reply is.
 #[derive(Debug, Drop)]
 pub enum Reply {
     /// Its first `used` bytes spell the outcome.
     Whole { outcome: Outcome, used: usize },
-    /// It could go on as a spelling, or to a fault.
+    /// No fault stands in it, and no prefix spells an outcome: it is cut, or more is to come.
     Short,
-    /// This fault stands in it.
+    /// This fault stands in it, at this place; places count its bytes from 0.
     Bad { at: u64, fault: ReplyFault },
     /// Memory ran out.
     Memory,
@@ -160,7 +160,7 @@ fn said(alloc: Global, text: &[u8]) -> Reply
     }
 }
 
-/// Reads a reply at the front of a text. Bytes may follow it.
+/// Reads a reply at the front of a text. Bytes that follow it are ignored.
 pub fn decode(alloc: Global, text: &[u8]) -> Reply
     // The outcome that a prefix spells, the fault that stands, or that the text is short,
     ensures says { Says text.now result }

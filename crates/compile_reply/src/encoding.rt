@@ -8,7 +8,7 @@ use farm_types::{Bytes, Outcome};
 use std::alloc::{AllocError, Global};
 use wire_tokens::{DONE, DOTO, SERR, SOUT, STAT, push_body, push_token};
 
-/// The spelling of an outcome, in lower-case digits.
+/// The text of an outcome, in lower-case digits. It fails for want of memory alone.
 pub fn encode(alloc: Global, outcome: &Outcome) -> Result<Bytes, AllocError>
     requires { OutcomeFits outcome.now.status outcome.now.err outcome.now.out outcome.now.object }
     ensures { IfOk result (λ text. text ≡ reply_text outcome.now) }

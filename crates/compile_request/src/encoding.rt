@@ -19,7 +19,7 @@ fn push_words(text: &mut Bytes, words: &[Bytes]) -> Result<(), AllocError>
     Ok(())
 }
 
-/// The spelling of a request, in lower-case digits.
+/// The text of a request, in lower-case digits. It fails for want of memory alone.
 pub fn encode(alloc: Global, request: &Request) -> Result<Bytes, AllocError>
     requires { RequestFits request.now.words request.now.source }
     ensures { IfOk result (λ text. text ≡ request_text request.now) }

@@ -16,11 +16,12 @@ use wire_tokens::RequestFault;
 /// What a piece came to.
 #[derive(Debug, Drop)]
 pub enum Step {
-    /// All pieces so far are short.
+    /// All pieces so far are short: no fault stands in them, and no prefix spells a request.
     More,
-    /// They spell the request, with this many bytes of the last piece.
+    /// They spell the request, with `used` bytes of the last piece. The bytes after these are
+    /// ignored.
     Whole { request: Request, used: usize },
-    /// This fault stands in them.
+    /// This fault stands in them, at this place; places count from the first piece's front.
     Bad { at: u64, fault: RequestFault },
     /// Memory ran out.
     Memory,
@@ -34,7 +35,8 @@ pub enum State {
     Spent,
 }
 
-/// Reads a request that comes in pieces.
+/// Reads a request that comes in pieces of any size. After a fault it answers that fault to every
+/// later piece; after a whole request or want of memory it is spent.
 #[derive(Debug, Drop)]
 pub struct RequestReader {
     state: State,
@@ -50,7 +52,7 @@ impl Model for RequestReader {
 }
 
 impl RequestReader {
-    /// A reader that was given nothing.
+    /// A reader that was given nothing. It takes no memory.
     pub fn new(alloc: Global) -> RequestReader
         ensures at { IsAt result [] }
         ensures fresh { IsSpent result → ⊥ }
@@ -71,14 +73,14 @@ impl RequestReader {
         }
     }
 
-    /// Whether a request was read, or memory ran out.
+    /// Whether a request was read, or memory ran out. It takes no memory.
     pub fn is_spent(&self) -> bool
         ensures { IsTrue result ↔ IsSpent self.now }
     {
         matches!(self.state, State::Spent)
     }
 
-    /// Takes the next piece.
+    /// Takes the next piece, of any length. The work is linear in that length.
     pub fn feed(&mut self, piece: &[u8]) -> Step
         requires { IsSpent self.old → ⊥ }
 

@@ -97,7 +97,12 @@ fn time<R: Runtime>(rt: &R, alloc: Global, task: Task, sample: &Sample) -> anyho
 }
 
 /// Runs the task and a copy by turns.
-pub fn measure<R: Runtime>(rt: &R, alloc: Global, task: Task, sample: &Sample) -> anyhow::Result<Times> {
+pub fn measure<R: Runtime>(
+    rt: &R,
+    alloc: Global,
+    task: Task,
+    sample: &Sample,
+) -> anyhow::Result<Times> {
     let mut times = Times {
         task: u64::MAX,
         copy: u64::MAX,

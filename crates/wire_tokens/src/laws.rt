@@ -9,7 +9,8 @@ ghost use Rattle.wire_tokens.specs.declared.faults.RequestFault.{RequestFault};
 ghost use Rattle.wire_tokens.specs.Request.{SpellsRequest, request_text, BeginsRequest, RequestFaultStands, IsShortRequest};
 ghost use Rattle.wire_tokens.specs.Reply.{SpellsReply, reply_text, BeginsReply, ReplyFaultStands, IsShortReply};
 
-/// Each text of a request is read in one way.
+/// Each text of a request is read in one way: the laws of the definitions that readers and writers
+/// of requests meet. It does nothing.
 pub fn one_reading_of_requests()
     // A text begins with at most one spelling, which has one value.
     ensures one_spelling { (text : List ℕ) (i j : ℕ) (q p : Request) → BeginsRequest text i q → BeginsRequest text j p → (i ≡ j) × (q ≡ p) }
@@ -42,7 +43,8 @@ pub fn one_reading_of_requests()
     ensures longest { (text : List ℕ) × IsShortRequest text × (length text ≡ 34615331) }
 {}
 
-/// Each text of a reply is read in one way.
+/// Each text of a reply is read in one way: the laws of the definitions that readers and writers of
+/// replies meet. It does nothing.
 pub fn one_reading_of_replies()
     // A text begins with at most one spelling, which has one value.
     ensures one_spelling { (text : List ℕ) (i j : ℕ) (o p : Outcome) → BeginsReply text i o → BeginsReply text j p → (i ≡ j) × (o ≡ p) }

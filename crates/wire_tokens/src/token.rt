@@ -11,10 +11,12 @@ ghost use Rattle.wire_tokens.specs.Token.{IsToken, token, lower_digit, is_digit,
 #[derive(Clone, Copy, Debug, PartialEq, Eq)]
 pub struct Name4(pub [u8; 4]);
 
-/// Why a text is no token of a name.
+/// Why twelve bytes are no token of a name. The place counts them from 0.
 #[derive(Clone, Copy, Debug, PartialEq, Eq)]
 pub enum TokenFault {
+    /// The first byte that isn't the name's.
     WrongName { at: u8 },
+    /// The first byte after the name that is no hexadecimal digit.
     BadDigit { at: u8 },
 }
 
@@ -99,7 +101,8 @@ pub enum Scan {
     Short,
 }
 
-/// Reads the token at the front of a text.
+/// Reads the token at the front of a text of any length, in digits of either case. It takes no
+/// memory.
 pub fn scan_token(text: &[u8], expected: Name4) -> Scan
     ensures scan { result ≡ scan_of expected.0 text.now }
     ensures four { length expected.0 ≡ 4 }
@@ -123,7 +126,8 @@ pub fn scan_token(text: &[u8], expected: Name4) -> Scan
     Scan::Number(number_of(&text[4..12]))
 }
 
-/// Reads a token of the expected name, in digits of either case. It takes no memory.
+/// Reads a token of the expected name, in digits of either case, with no sign and no blank. It
+/// takes no memory.
 pub fn read_token(text: &[u8; 12], expected: Name4) -> Result<u32, TokenFault>
     ensures found { IfOk result (λ n. IsToken expected.0 n text.now) }
     ensures found_always { (n : ℕ) → IsToken expected.0 n text.now → result ≡ Ok n }
@@ -147,7 +151,7 @@ fn write_name(name: &[u8; 4], room: &mut [u8; 12])
     room[3] = name[3];
 }
 
-/// Writes the token of a name and a number, in lower-case digits.
+/// Writes the token of a name and a number, in lower-case digits. It takes no memory.
 pub fn write_token(name: Name4, number: u32, room: &mut [u8; 12])
     ensures { room.new ≡ token name.0 number }
 {
