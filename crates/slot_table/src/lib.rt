@@ -1,0 +1,17 @@
+//! The slots of the hosts of a farm: how many jobs each host may work at, which host a job gets, and which
+//! hosts are left alone for a while after a failure.
+#![tactic(auto)]
+
+mod calls;
+mod grant;
+mod limits;
+mod mask;
+mod slots;
+mod state;
+
+pub use calls::{CallEntry, CallList, SlotCall, SlotReply};
+pub use grant::{Grant, LocalGrant, Take};
+pub use limits::Limits;
+pub use mask::Mask;
+pub use slots::Slots;
+pub use state::SlotState;

@@ -1,0 +1,43 @@
+//! Sets of host entries.
+ghost use Rattle.std.specs.Prelude.{◌≡◌, ℕ, ◌<◌, ◌≤◌, ◌&&◌, not, nat_lt, nat_eq};
+ghost use Rattle.slot_table.specs.Mask.{in_mask};
+
+/// A set of host entries: bit `i` says whether entry `i` is in it. It has entries below 64 alone.
+#[derive(Clone, Copy, PartialEq, Eq, Debug)]
+pub struct Mask {
+    pub bits: u64,
+}
+
+impl Mask {
+    /// Every entry below `count`.
+    pub fn all(count: u32) -> Mask
+        requires { count ≤ 64 }
+        ensures { (i : ℕ) → in_mask result i ≡ nat_lt i count }
+    {
+        Mask {
+            bits: if count < 64 {
+                (1 << count) - 1
+            } else {
+                u64::MAX
+            },
+        }
+    }
+
+    /// The same entries, and `host` no more.
+    pub fn without(self, host: u32) -> Mask
+        requires { host < 64 }
+        ensures { (i : ℕ) → in_mask result i ≡ (in_mask self i && not (nat_eq i host)) }
+    {
+        Mask {
+            bits: self.bits & !(1 << host),
+        }
+    }
+
+    /// Whether the entry is in it.
+    pub fn contains(self, host: u32) -> bool
+        requires { host < 64 }
+        ensures { result ≡ in_mask self host }
+    {
+        self.bits >> host & 1 == 1
+    }
+}
