@@ -2,3 +2,5 @@ pub mod Limits
 pub mod Mask
 pub mod Step
 pub mod Grants
+pub mod History
+pub mod Laws

@@ -4,6 +4,7 @@
 
 mod calls;
 mod grant;
+mod laws;
 mod limits;
 mod mask;
 mod slots;
@@ -11,6 +12,7 @@ mod state;
 
 pub use calls::{CallEntry, CallList, SlotCall, SlotReply};
 pub use grant::{Grant, LocalGrant, Take};
+pub use laws::holds_by_own_calls;
 pub use limits::Limits;
 pub use mask::Mask;
 pub use slots::Slots;

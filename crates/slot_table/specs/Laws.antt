@@ -1,0 +1,52 @@
+-- What holds of every legal history.
+use Rattle.std.specs.Prelude.{◌≡◌, ◌≢◌, ℕ, ◌<◌, ◌≤◌, true, List, [], ◌∷◌, ◌++◌, Some, None, slice_index}
+use Rattle.std.specs.List.{range_with_len}
+use Rattle.slot_table.specs.declared.limits.Limits.{Limits}
+use Rattle.slot_table.specs.declared.state.SlotState.{SlotState}
+use Rattle.slot_table.specs.declared.mask.Mask.{Mask}
+use Rattle.slot_table.specs.declared.calls.SlotCall.{SlotCall}
+use Rattle.slot_table.specs.declared.calls.SlotCall.TheVariants.{Take, TakeLocal}
+use Rattle.slot_table.specs.declared.calls.SlotReply.TheVariants.{Full, Local}
+use Rattle.slot_table.specs.declared.calls.CallEntry.{CallEntry}
+use Rattle.slot_table.specs.Limits.{AreLimits, is_local}
+use Rattle.slot_table.specs.Step.{slot_step, CanStep}
+use Rattle.slot_table.specs.History.{entry, Holding, has, count_at, IsLegal, IsLegalFrom, may_call, state_after, outstanding, calls_by, held_by, jobs_drawn}
+
+-- A state agrees with the outstanding grants: each entry's slots that are given out are its grants, never more than its limit, and
+-- the same for local slots. Each grant is of an entry, a local entry is never left alone, and no number past the last job is drawn
+pub record Agrees {h : ℕ} (l : Limits h) (s : SlotState h) (out : List Holding) : Type 0 where
+  pub held : (i : ℕ) → i < l.count → slice_index s.held i ≡ count_at (Some i) out
+  pub limit : (i : ℕ) → i < l.count → slice_index s.held i ≤ slice_index l.limit i
+  pub local_held : s.local_held ≡ count_at None out
+  pub local_limit : s.local_held ≤ l.local_slots
+  pub entries : (a : Holding) (i : ℕ) → has a out ≡ true → a.host ≡ Some i → i < l.count
+  pub until : (i : ℕ) → i < l.count → is_local l i ≡ true → slice_index s.until i ≡ 0
+  pub next : s.next ≤ l.jobs
+
+-- the state after a legal history agrees with the grants that are outstanding then
+abbrev pub StateAgrees : Type 0
+StateAgrees = (h : ℕ) (l : Limits h) (es : List CallEntry) → l.count ≤ h → IsLegal l es → Agrees l (state_after l es) (outstanding es)
+
+-- the jobs drawn are 0 to next - 1, in order, each once
+abbrev pub DrawsInOrder : Type 0
+DrawsInOrder = (h : ℕ) (l : Limits h) (es : List CallEntry) → IsLegal l es → jobs_drawn es ≡ range_with_len 0 (state_after l es).next
+
+-- what is outstanding to a caller depends on its own calls alone
+abbrev pub HoldsByOwnCalls : Type 0
+HoldsByOwnCalls = (caller : ℕ) (es : List CallEntry) → held_by caller (outstanding es) ≡ outstanding (calls_by caller es)
+
+-- A call that may be made can step, and leads to one more legal history
+pub record Steps {h : ℕ} (l : Limits h) (es : List CallEntry) (caller : ℕ) (call : SlotCall) : Type 0 where
+  pub can : CanStep l (state_after l es) call
+  pub legal : IsLegal l (es ++ entry caller call (slot_step l (state_after l es) call).1 ∷ [])
+
+abbrev pub PermittedSteps : Type 0
+PermittedSteps = (h : ℕ) (l : Limits h) (es : List CallEntry) (caller : ℕ) (call : SlotCall) → l.count ≤ h → IsLegal l es → may_call l caller (outstanding es) call ≡ true → Steps l es caller call
+
+-- where nothing is outstanding, no take is answered Full and no local slot is refused
+pub record NothingIsFull {h : ℕ} (l : Limits h) (s : SlotState h) : Type 0 where
+  pub take : (job : ℕ) (mask : Mask) (now : ℕ) → (slot_step l s (Take job mask now)).1 ≢ Full
+  pub local : (job : ℕ) → (slot_step l s (TakeLocal job)).1 ≡ Local true
+
+abbrev pub FreeWhereAllIsBack : Type 0
+FreeWhereAllIsBack = (h : ℕ) (l : Limits h) (es : List CallEntry) → AreLimits l → IsLegal l es → outstanding es ≡ [] → NothingIsFull l (state_after l es)
