@@ -3,3 +3,7 @@ pub mod Searches
 pub mod Holdings
 pub mod Callers
 pub mod Histories
+pub mod Keeps
+pub mod Draws
+pub mod Permits
+pub mod Frees

@@ -1,8 +1,10 @@
 -- Searches over a range of entries, one entry after another.
-use Rattle.std.proofs.Common.{◌≡◌, ℕ, zero, suc, ◌+◌, ◌-◌, ◌<◌, ◌≤◌, Bool, true, false, ◌&&◌, cond, List, [], ◌∷◌, ◌++◌, Option, Some, None, take, drop, refl, sym, ap, ◌∙◌, arith}
+use Rattle.std.proofs.Common.{◌≡◌, ℕ, zero, suc, ◌+◌, ◌-◌, ◌<◌, ◌≤◌, Bool, true, false, ◌&&◌, not, nat_lt, cond, List, [], ◌∷◌, ◌++◌, Option, Some, None, take, drop, refl, sym, ap, ◌∙◌, arith}
 use Rattle.std.specs.Prelude.{find}
 use Rattle.std.specs.Option.{option_or}
-use Rattle.std.proofs.lemmas.List.Folds.{find-append}
+use Rattle.std.proofs.lemmas.Bool.{and_parts, lt-ltb}
+use Rattle.std.proofs.lemmas.List.{take-append-drop}
+use Rattle.std.proofs.lemmas.List.Folds.{find-append, list_all-append}
 use Rattle.std.specs.List.{range_with_len, list_all}
 
 range-one : (a n : ℕ) → a < n → range_with_len a (n - a) ≡ a ∷ range_with_len (a + 1) (n - (a + 1))
@@ -63,3 +65,53 @@ find-nothing p k n is = ap (λ (m : ℕ). find p (drop k (range_with_len 0 m) ++
     none : (k : ℕ) → find p (drop k [] ++ take k []) ≡ None
     none zero = refl
     none (suc k) = refl
+
+-- what is found passes the test, and what every entry passes
+abbrev pub Passes : (ℕ → Bool) → (ℕ → Bool) → Option ℕ → Type 0
+Passes p q None = Unit {0}
+Passes p q (Some i) = (p i ≡ true) × (q i ≡ true)
+
+pub find-passes : (p q : ℕ → Bool) (xs : List ℕ) → list_all q xs ≡ true → Passes p q (find p xs)
+find-passes p q [] all = tt
+find-passes p q (x ∷ xs) all = let parts = and_parts (q x) (list_all q xs) all in go (p x) refl (find-passes p q xs parts.1)
+  where
+    go : (b : Bool) → p x ≡ b → Passes p q (find p xs) → Passes p q (cond b (Some x) (find p xs))
+    go true is rest = (is, (and_parts (q x) (list_all q xs) all).0)
+    go false is rest = rest
+
+-- where nothing is found, every entry fails the test
+pub find-none : (p : ℕ → Bool) (xs : List ℕ) → find p xs ≡ None → list_all (λ i. not (p i)) xs ≡ true
+find-none p [] none = refl
+find-none p (x ∷ xs) none = go (p x) none (find-none p xs)
+  where
+    go : (b : Bool) → cond b (Some x) (find p xs) ≡ None → (find p xs ≡ None → list_all (λ i. not (p i)) xs ≡ true) → (not b && list_all (λ i. not (p i)) xs) ≡ true
+    go true e ih = cc
+    go false e ih = ih e
+
+-- the rotated order has the same entries
+pub all-rotated : (q : ℕ → Bool) (k : ℕ) (xs : List ℕ) → list_all q (drop k xs ++ take k xs) ≡ list_all q xs
+all-rotated q k xs = list_all-append q (drop k xs) (take k xs) ∙ swap (list_all q (drop k xs)) (list_all q (take k xs)) ∙ sym (list_all-append q (take k xs) (drop k xs)) ∙ ap (list_all q) (take-append-drop k xs)
+  where
+    swap : (a b : Bool) → (a && b) ≡ (b && a)
+    swap true true = refl
+    swap true false = refl
+    swap false true = refl
+    swap false false = refl
+
+-- a test that holds from a on, below a + n, holds of each entry of the range
+pub all-range : (q : ℕ → Bool) (a n : ℕ) → ((i : ℕ) → i < a + n → q i ≡ true) → list_all q (range_with_len a n) ≡ true
+all-range q a zero each = refl
+all-range q a (suc n) each = let here : a < a + suc n = omega arith in
+    ap (λ (b : Bool). b && list_all q (range_with_len (a + 1) n)) (each a here) ∙ all-range q (a + 1) n (λ i below. let below' : i < a + suc n = omega arith in each i below')
+
+-- each entry of the range that passes one test passes another
+pub all-weaker : (q r : ℕ → Bool) (a n : ℕ) → ((i : ℕ) → i < a + n → q i ≡ true → r i ≡ true) → list_all q (range_with_len a n) ≡ true → list_all r (range_with_len a n) ≡ true
+all-weaker q r a zero each all = refl
+all-weaker q r a (suc n) each all =
+    let here : a < a + suc n = omega arith in
+    let parts = and_parts (q a) (list_all q (range_with_len (a + 1) n)) all in
+    ap (λ (b : Bool). b && list_all r (range_with_len (a + 1) n)) (each a here parts.0) ∙ all-weaker q r (a + 1) n (λ i below. let below' : i < a + suc n = omega arith in each i below') parts.1
+
+-- the entries that a search looks at are below their number
+pub search-below : (k n : ℕ) → list_all (λ i. nat_lt i n) (drop k (range_with_len 0 n) ++ take k (range_with_len 0 n)) ≡ true
+search-below k n = all-rotated (λ i. nat_lt i n) k (range_with_len 0 n) ∙ all-range (λ i. nat_lt i n) 0 n (λ i below. lt-ltb i n (omega arith))

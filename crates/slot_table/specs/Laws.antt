@@ -10,7 +10,7 @@ use Rattle.slot_table.specs.declared.calls.SlotReply.TheVariants.{Full, Local}
 use Rattle.slot_table.specs.declared.calls.CallEntry.{CallEntry}
 use Rattle.slot_table.specs.Limits.{AreLimits, is_local}
 use Rattle.slot_table.specs.Step.{slot_step, CanStep}
-use Rattle.slot_table.specs.History.{entry, Holding, has, count_at, IsLegal, IsLegalFrom, may_call, state_after, outstanding, calls_by, held_by, jobs_drawn}
+use Rattle.slot_table.specs.History.{entry, Holding, has, count_at, IsLegal, may_call, state_after, outstanding, calls_by, held_by, jobs_drawn}
 
 -- A state agrees with the outstanding grants: each entry's slots that are given out are its grants, never more than its limit, and
 -- the same for local slots. Each grant is of an entry, a local entry is never left alone, and no number past the last job is drawn

@@ -4,5 +4,25 @@ ghost use Rattle.slot_table.specs.Laws.{StateAgrees, DrawsInOrder, HoldsByOwnCal
 /// What is outstanding to a caller depends on its own calls alone.
 pub fn holds_by_own_calls()
     ensures { HoldsByOwnCalls }
-{
-}
+{}
+
+/// After every legal history each entry's slots that are given out are its outstanding grants, never more
+/// than its limit, and the same for local slots; a local entry is never left alone.
+pub fn state_agrees()
+    ensures { StateAgrees }
+{}
+
+/// The jobs that a legal history draws are 0 to the state's `next` less 1, in order, each once.
+pub fn draws_in_order()
+    ensures { DrawsInOrder }
+{}
+
+/// After a legal history each call that a caller may make can step, and the history with it is legal.
+pub fn permitted_steps()
+    ensures { PermittedSteps }
+{}
+
+/// After a legal history with nothing outstanding no take is answered Full, and no local slot is refused.
+pub fn free_where_all_is_back()
+    ensures { FreeWhereAllIsBack }
+{}

@@ -12,7 +12,9 @@ mod state;
 
 pub use calls::{CallEntry, CallList, SlotCall, SlotReply};
 pub use grant::{Grant, LocalGrant, Take};
-pub use laws::holds_by_own_calls;
+pub use laws::{
+    draws_in_order, free_where_all_is_back, holds_by_own_calls, permitted_steps, state_agrees,
+};
 pub use limits::Limits;
 pub use mask::Mask;
 pub use slots::Slots;
