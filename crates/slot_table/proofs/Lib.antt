@@ -7,3 +7,4 @@ pub mod Keeps
 pub mod Draws
 pub mod Permits
 pub mod Frees
+pub mod Keeping

@@ -1,5 +1,5 @@
 -- What contracts see of a grant, and of the answers that carry one.
-use Rattle.std.specs.Prelude.{◌≡◌, ℕ, ◌<◌, Bool, true, false, Option, Some, None}
+use Rattle.std.specs.Prelude.{◌≡◌, ℕ, ◌<◌, Bool, true, Option, Some, None, if◌then◌else◌}
 use Rattle.slot_table.specs.declared.limits.Limits.{Limits}
 use Rattle.slot_table.specs.declared.mask.Mask.{Mask}
 use Rattle.slot_table.specs.Mask.{in_mask}
@@ -37,11 +37,6 @@ IsGrantFor caller job (GotGrant grant) = (caller_of grant ≡ caller) × (job_of
 IsGrantFor caller job IsFull = Unit {0}
 IsGrantFor caller job IsDown = Unit {0}
 
--- whether a local slot was given out
-abbrev pub is_given : Option LocalGrant → Bool
-is_given (Some grant) = true
-is_given None = false
-
 -- a local grant that is answered is for this caller and job
 abbrev pub IsLocalGrantFor : ℕ → ℕ → Option LocalGrant → Type 0
 IsLocalGrantFor caller job (Some grant) = (local_caller_of grant ≡ caller) × (local_job_of grant ≡ job)
@@ -52,3 +47,7 @@ abbrev pub IsEntryOf : {h : ℕ} → Limits h → Mask → Take → Type 0
 IsEntryOf l mask (GotGrant grant) = (host_of grant < l.count) × (in_mask mask (host_of grant) ≡ true)
 IsEntryOf l mask IsFull = Unit {0}
 IsEntryOf l mask IsDown = Unit {0}
+
+-- how many of the calls that there is room for one call spends: one where a caller is alone, and none otherwise
+abbrev pub cost : Bool → ℕ
+cost alone = if alone then 1 else 0

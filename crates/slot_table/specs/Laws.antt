@@ -8,7 +8,7 @@ use Rattle.slot_table.specs.declared.calls.SlotCall.{SlotCall}
 use Rattle.slot_table.specs.declared.calls.SlotCall.TheVariants.{Take, TakeLocal}
 use Rattle.slot_table.specs.declared.calls.SlotReply.TheVariants.{Full, Local}
 use Rattle.slot_table.specs.declared.calls.CallEntry.{CallEntry}
-use Rattle.slot_table.specs.Limits.{AreLimits, is_local}
+use Rattle.slot_table.specs.Limits.{AreValid, is_local}
 use Rattle.slot_table.specs.Step.{slot_step, CanStep}
 use Rattle.slot_table.specs.History.{entry, Holding, has, count_at, IsLegal, may_call, state_after, outstanding, calls_by, held_by, jobs_drawn}
 
@@ -49,4 +49,4 @@ pub record NothingIsFull {h : ℕ} (l : Limits h) (s : SlotState h) : Type 0 whe
   pub local : (job : ℕ) → (slot_step l s (TakeLocal job)).1 ≡ Local true
 
 abbrev pub FreeWhereAllIsBack : Type 0
-FreeWhereAllIsBack = (h : ℕ) (l : Limits h) (es : List CallEntry) → AreLimits l → IsLegal l es → outstanding es ≡ [] → NothingIsFull l (state_after l es)
+FreeWhereAllIsBack = (h : ℕ) (l : Limits h) (es : List CallEntry) → AreValid l → IsLegal l es → outstanding es ≡ [] → NothingIsFull l (state_after l es)

@@ -4,3 +4,5 @@ pub mod Step
 pub mod Grants
 pub mod History
 pub mod Laws
+pub mod Backoff
+pub mod Log

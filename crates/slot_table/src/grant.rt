@@ -88,6 +88,17 @@ pub enum Take {
 }
 
 impl Take {
+    /// The answer as a reply.
+    pub fn reply(&self) -> SlotReply
+        ensures { result ≡ reply_of self.now }
+    {
+        match self {
+            Take::Got(grant) => SlotReply::Got(grant.host),
+            Take::Full => SlotReply::Full,
+            Take::Down => SlotReply::Down,
+        }
+    }
+
     /// The answer as a reply. Its grant is no more.
     pub(crate) fn into_reply(self) -> SlotReply
         ensures { result ≡ reply_of self }

@@ -1,11 +1,11 @@
 //! The slots of one thread.
-ghost use Rattle.std.specs.Prelude.{◌≡◌, ◌-◌, ◌<◌, ◌≤◌, true, find, IfSome};
+ghost use Rattle.std.specs.Prelude.{◌≡◌, ◌-◌, ◌<◌, ◌≤◌, true, find, is_some, IfSome};
 ghost use Rattle.std.specs.List.{range_with_len};
 ghost use Rattle.slot_table.specs.declared.calls.SlotCall.TheVariants.{Draw, Take as AskTake, Give, GiveBad, TakeLocal, GiveLocal};
 ghost use Rattle.slot_table.specs.declared.calls.SlotReply.TheVariants.{Drawn, Local, Given};
-ghost use Rattle.slot_table.specs.Limits.{AreLimits};
+ghost use Rattle.slot_table.specs.Limits.{AreValid};
 ghost use Rattle.slot_table.specs.Step.{slot_step, opening, CanStep, IsHeld, is_free, is_ruled_out, is_down, first_place, search_order, given, left_alone};
-ghost use Rattle.slot_table.specs.Grants.{reply_of, IsGrantFor, IsEntryOf, is_given, IsLocalGrantFor, host_of, job_of, local_job_of};
+ghost use Rattle.slot_table.specs.Grants.{reply_of, IsGrantFor, IsEntryOf, IsLocalGrantFor, host_of, job_of, local_job_of};
 
 use crate::calls::{SlotCall, SlotReply};
 use crate::grant::{Grant, LocalGrant, Take};
@@ -18,13 +18,13 @@ use crate::state::SlotState;
 pub struct Slots<const H: usize> {
     pub limits: Limits<H>,
     pub state: SlotState<H>,
-    pub ghost bounded: { AreLimits limits },
+    pub ghost bounded: { AreValid limits },
 }
 
 impl<const H: usize> Slots<H> {
     /// No job is drawn, no slot is given out and no host is left alone.
     pub fn new(limits: Limits<H>) -> Slots<H>
-        requires { AreLimits limits }
+        requires { AreValid limits }
         ensures limits { result.limits ≡ limits.entry }
         ensures state { result.state ≡ opening H }
     {
@@ -149,7 +149,7 @@ impl<const H: usize> Slots<H> {
 
     /// Gives a host's slot back.
     pub fn give(&mut self, grant: Grant)
-        requires { CanStep self.old.limits self.old.state (Give (host_of grant) (job_of grant)) }
+        requires can { CanStep self.old.limits self.old.state (Give (host_of grant) (job_of grant)) }
         ensures limits { self.new.limits ≡ self.old.limits }
         ensures step { slot_step self.old.limits self.old.state (Give (host_of grant) (job_of grant)) ≡ (self.new.state, Given) }
     {
@@ -159,7 +159,7 @@ impl<const H: usize> Slots<H> {
     /// Gives a slot of a host that isn't local back. The host is left alone until the moment `until`, or
     /// longer where it already was.
     pub fn give_bad(&mut self, grant: Grant, until: u64)
-        requires { CanStep self.old.limits self.old.state (GiveBad (host_of grant) (job_of grant) until) }
+        requires can { CanStep self.old.limits self.old.state (GiveBad (host_of grant) (job_of grant) until) }
         ensures limits { self.new.limits ≡ self.old.limits }
         ensures step { slot_step self.old.limits self.old.state (GiveBad (host_of grant) (job_of grant) until) ≡ (self.new.state, Given) }
     {
@@ -190,7 +190,7 @@ impl<const H: usize> Slots<H> {
     /// A local slot. None exactly where all of them are given out.
     pub fn take_local(&mut self, caller: u32, job: u32) -> Option<LocalGrant>
         ensures limits { self.new.limits ≡ self.old.limits }
-        ensures step { slot_step self.old.limits self.old.state (TakeLocal job) ≡ (self.new.state, Local (is_given result)) }
+        ensures step { slot_step self.old.limits self.old.state (TakeLocal job) ≡ (self.new.state, Local (is_some result)) }
         ensures grant { IsLocalGrantFor caller job result }
     {
         if self.state.local_held < self.limits.local_slots {
@@ -203,7 +203,7 @@ impl<const H: usize> Slots<H> {
 
     /// Gives a local slot back.
     pub fn give_local(&mut self, grant: LocalGrant)
-        requires { CanStep self.old.limits self.old.state (GiveLocal (local_job_of grant)) }
+        requires can { CanStep self.old.limits self.old.state (GiveLocal (local_job_of grant)) }
         ensures limits { self.new.limits ≡ self.old.limits }
         ensures step { slot_step self.old.limits self.old.state (GiveLocal (local_job_of grant)) ≡ (self.new.state, Given) }
     {
@@ -213,7 +213,7 @@ impl<const H: usize> Slots<H> {
 
     /// Any call, as plain data.
     pub fn step(&mut self, call: SlotCall) -> SlotReply
-        requires { CanStep self.old.limits self.old.state call }
+        requires can { CanStep self.old.limits self.old.state call }
         ensures limits { self.new.limits ≡ self.old.limits }
         ensures step { slot_step self.old.limits self.old.state call ≡ (self.new.state, result) }
     {

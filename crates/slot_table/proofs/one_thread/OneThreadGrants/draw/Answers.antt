@@ -1,0 +1,8 @@
+use Rattle.std.proofs.Common.{refl, arith}
+use Rattle.slot_table.specs.declared.calls.SlotCall.TheVariants.{Draw}
+use Rattle.slot_table.specs.declared.calls.SlotReply.TheVariants.{Drawn}
+use Rattle.slot_table.proofs.Keeping.{kept-more}
+use Rattle.slot_table.proofs.one_thread.OneThreadGrants.draw.Goals as goal
+
+pub invariant_of-self : goal.invariant_of-self
+invariant_of-self g c = (kept-more _ _ _ _ _ _ Draw (Drawn c.draw-drawn.result) c.self.invariant.0 refl c.draw-drawn.ensures.limits c.draw-drawn.ensures.step c.note.ensures.calls, omega arith)

@@ -1,0 +1,133 @@
+//! Who hands out jobs and slots.
+ghost use Rattle.std.specs.Prelude.{◌≡◌, ◌≢◌, ℕ, ◌+◌, ◌≤◌, Bool, true, false, List, [], ◌∷◌, ◌++◌, is_some, IsSome};
+ghost use Rattle.slot_table.specs.declared.limits.Limits.{Limits};
+ghost use Rattle.slot_table.specs.declared.calls.CallEntry.{CallEntry};
+ghost use Rattle.slot_table.specs.declared.calls.SlotCall.TheVariants.{Draw, Take as AskTake, Give, GiveBad, TakeLocal, GiveLocal};
+ghost use Rattle.slot_table.specs.declared.calls.SlotReply.TheVariants.{Drawn, Full, Local, Given};
+ghost use Rattle.slot_table.specs.Limits.{is_local};
+ghost use Rattle.slot_table.specs.History.{entry, holding, has, outstanding};
+ghost use Rattle.slot_table.specs.Grants.{host_of, job_of, local_job_of, reply_of, IsGrantFor, IsEntryOf, IsLocalGrantFor, cost};
+
+use crate::grant::{Grant, LocalGrant, Take};
+use crate::mask::Mask;
+
+/// Who hands out jobs and slots to one caller. No call takes memory.
+///
+/// Where it is `alone`, its calls are the only ones, and each of them spends one of the calls that it has
+/// room for. What no call changes are its home, its place, its limits and the caller's number.
+pub trait Grants {
+    /// What tells the slots that it hands out from others.
+    type Home;
+
+    ghost home: { Self → Self.Home };
+
+    /// Where what its calls change is kept.
+    ghost place: { Self → ℕ } = { λ _. 0 };
+
+    /// What each call needs of it, and keeps.
+    ghost ready: { Self → Type 0 } = { λ _. Unit {0} };
+
+    /// The length of the arrays of its limits.
+    ghost width: { ℕ };
+
+    ghost limits: { Self → Limits width };
+
+    /// The caller's number.
+    ghost number: { Self → ℕ };
+
+    /// Its own calls so far, with their replies.
+    ghost mine: { Self → List CallEntry };
+
+    /// Whether there are no other callers.
+    ghost alone: { Bool };
+
+    /// How many calls it has room for, where it is alone.
+    ghost spare: { Self → ℕ };
+
+    /// The caller's number.
+    fn caller(&self) -> u32
+        ensures { result ≡ number self.now };
+
+    /// The next job's number, or None where all jobs are drawn.
+    fn draw(&mut self) -> Option<u32>
+        requires ready { ready self.old }
+        requires spare { cost alone ≤ spare self.old }
+        ensures ready { ready self.new }
+        ensures home { home self.new ≡ home self.old }
+        ensures place { place self.new ≡ place self.old }
+        ensures limits { limits self.new ≡ limits self.old }
+        ensures number { number self.new ≡ number self.old }
+        ensures spare { spare self.new + cost alone ≡ spare self.old }
+        ensures mine { mine self.new ≡ mine self.old ++ entry (number self.old) Draw (Drawn result) ∷ [] };
+
+    /// A slot of the first entry, in the order of the job's search, that is in the mask, has a free slot and
+    /// isn't left alone at the moment `now`.
+    fn take(&mut self, job: u32, mask: Mask, now: u64) -> Take
+        requires ready { ready self.old }
+        requires spare { cost alone ≤ spare self.old }
+        ensures ready { ready self.new }
+        ensures home { home self.new ≡ home self.old }
+        ensures place { place self.new ≡ place self.old }
+        ensures limits { limits self.new ≡ limits self.old }
+        ensures number { number self.new ≡ number self.old }
+        ensures spare { spare self.new + cost alone ≡ spare self.old }
+        ensures mine { mine self.new ≡ mine self.old ++ entry (number self.old) (AskTake job mask now) (reply_of result) ∷ [] }
+        ensures grant { IsGrantFor (number self.old) job result }
+        ensures entry { IsEntryOf (limits self.old) mask result }
+        ensures free { alone ≡ true → outstanding (mine self.old) ≡ [] → reply_of result ≢ Full };
+
+    /// Gives a host's slot back.
+    fn give(&mut self, grant: Grant)
+        requires ready { ready self.old }
+        requires spare { cost alone ≤ spare self.old }
+        requires out { has (holding (number self.old) (job_of grant) (Some (host_of grant))) (outstanding (mine self.old)) ≡ true }
+        ensures ready { ready self.new }
+        ensures home { home self.new ≡ home self.old }
+        ensures place { place self.new ≡ place self.old }
+        ensures limits { limits self.new ≡ limits self.old }
+        ensures number { number self.new ≡ number self.old }
+        ensures spare { spare self.new + cost alone ≡ spare self.old }
+        ensures mine { mine self.new ≡ mine self.old ++ entry (number self.old) (Give (host_of grant) (job_of grant)) Given ∷ [] };
+
+    /// Gives a slot of a host that isn't local back. The host is left alone until the moment `until`, or
+    /// longer where it already was.
+    fn give_bad(&mut self, grant: Grant, until: u64)
+        requires ready { ready self.old }
+        requires spare { cost alone ≤ spare self.old }
+        requires out { has (holding (number self.old) (job_of grant) (Some (host_of grant))) (outstanding (mine self.old)) ≡ true }
+        requires remote { is_local (limits self.old) (host_of grant) ≡ false }
+        ensures ready { ready self.new }
+        ensures home { home self.new ≡ home self.old }
+        ensures place { place self.new ≡ place self.old }
+        ensures limits { limits self.new ≡ limits self.old }
+        ensures number { number self.new ≡ number self.old }
+        ensures spare { spare self.new + cost alone ≡ spare self.old }
+        ensures mine { mine self.new ≡ mine self.old ++ entry (number self.old) (GiveBad (host_of grant) (job_of grant) until) Given ∷ [] };
+
+    /// A local slot, or None where all of them are given out.
+    fn take_local(&mut self, job: u32) -> Option<LocalGrant>
+        requires ready { ready self.old }
+        requires spare { cost alone ≤ spare self.old }
+        ensures ready { ready self.new }
+        ensures home { home self.new ≡ home self.old }
+        ensures place { place self.new ≡ place self.old }
+        ensures limits { limits self.new ≡ limits self.old }
+        ensures number { number self.new ≡ number self.old }
+        ensures spare { spare self.new + cost alone ≡ spare self.old }
+        ensures mine { mine self.new ≡ mine self.old ++ entry (number self.old) (TakeLocal job) (Local (is_some result)) ∷ [] }
+        ensures grant { IsLocalGrantFor (number self.old) job result }
+        ensures free { alone ≡ true → outstanding (mine self.old) ≡ [] → IsSome result };
+
+    /// Gives a local slot back.
+    fn give_local(&mut self, grant: LocalGrant)
+        requires ready { ready self.old }
+        requires spare { cost alone ≤ spare self.old }
+        requires out { has (holding (number self.old) (local_job_of grant) None) (outstanding (mine self.old)) ≡ true }
+        ensures ready { ready self.new }
+        ensures home { home self.new ≡ home self.old }
+        ensures place { place self.new ≡ place self.old }
+        ensures limits { limits self.new ≡ limits self.old }
+        ensures number { number self.new ≡ number self.old }
+        ensures spare { spare self.new + cost alone ≡ spare self.old }
+        ensures mine { mine self.new ≡ mine self.old ++ entry (number self.old) (GiveLocal (local_job_of grant)) Given ∷ [] };
+}
