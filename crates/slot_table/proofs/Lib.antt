@@ -8,3 +8,4 @@ pub mod Draws
 pub mod Permits
 pub mod Frees
 pub mod Keeping
+pub mod Rounds

@@ -1,8 +1,11 @@
 -- What contracts see of a grant, and of the answers that carry one.
-use Rattle.std.specs.Prelude.{◌≡◌, ℕ, ◌<◌, Bool, true, Option, Some, None, if◌then◌else◌}
+use Rattle.std.specs.Prelude.{◌≡◌, ℕ, ◌<◌, Bool, true, List, Option, Some, None, if◌then◌else◌}
 use Rattle.slot_table.specs.declared.limits.Limits.{Limits}
 use Rattle.slot_table.specs.declared.mask.Mask.{Mask}
+use Rattle.slot_table.specs.declared.state.SlotState.{SlotState}
 use Rattle.slot_table.specs.Mask.{in_mask}
+use Rattle.slot_table.specs.Step.{IsHeld}
+use Rattle.slot_table.specs.History.{Holding, holding, has}
 use Rattle.slot_table.specs.declared.grant.Grant.{Grant}
 use Rattle.slot_table.specs.declared.grant.LocalGrant.{LocalGrant}
 use Rattle.slot_table.specs.declared.grant.Take.{Take}
@@ -37,6 +40,12 @@ IsGrantFor caller job (GotGrant grant) = (caller_of grant ≡ caller) × (job_of
 IsGrantFor caller job IsFull = Unit {0}
 IsGrantFor caller job IsDown = Unit {0}
 
+-- a grant that a take answers can be given back
+abbrev pub CanGive : {h : ℕ} → Limits h → SlotState h → Take → Type 0
+CanGive l s (GotGrant grant) = IsHeld l s (host_of grant)
+CanGive l s IsFull = Unit {0}
+CanGive l s IsDown = Unit {0}
+
 -- a local grant that is answered is for this caller and job
 abbrev pub IsLocalGrantFor : ℕ → ℕ → Option LocalGrant → Type 0
 IsLocalGrantFor caller job (Some grant) = (local_caller_of grant ≡ caller) × (local_job_of grant ≡ job)
@@ -47,6 +56,17 @@ abbrev pub IsEntryOf : {h : ℕ} → Limits h → Mask → Take → Type 0
 IsEntryOf l mask (GotGrant grant) = (host_of grant < l.count) × (in_mask mask (host_of grant) ≡ true)
 IsEntryOf l mask IsFull = Unit {0}
 IsEntryOf l mask IsDown = Unit {0}
+
+-- a grant that a take answers is outstanding to this caller
+abbrev pub IsOutstanding : ℕ → List Holding → Take → Type 0
+IsOutstanding caller held (GotGrant grant) = has (holding caller (job_of grant) (Some (host_of grant))) held ≡ true
+IsOutstanding caller held IsFull = Unit {0}
+IsOutstanding caller held IsDown = Unit {0}
+
+-- a local grant that is answered is outstanding to this caller
+abbrev pub IsLocalOutstanding : ℕ → List Holding → Option LocalGrant → Type 0
+IsLocalOutstanding caller held (Some grant) = has (holding caller (local_job_of grant) None) held ≡ true
+IsLocalOutstanding caller held None = Unit {0}
 
 -- how many of the calls that there is room for one call spends: one where a caller is alone, and none otherwise
 abbrev pub cost : Bool → ℕ

@@ -6,7 +6,7 @@ ghost use Rattle.slot_table.specs.declared.calls.SlotCall.TheVariants.{Draw, Tak
 ghost use Rattle.slot_table.specs.declared.calls.SlotReply.TheVariants.{Drawn, Full, Local, Given};
 ghost use Rattle.slot_table.specs.Limits.{is_local};
 ghost use Rattle.slot_table.specs.History.{entry, holding, has, outstanding};
-ghost use Rattle.slot_table.specs.Grants.{host_of, job_of, local_job_of, reply_of, IsGrantFor, IsEntryOf, IsLocalGrantFor, cost};
+ghost use Rattle.slot_table.specs.Grants.{host_of, job_of, local_job_of, reply_of, IsGrantFor, IsEntryOf, IsOutstanding, IsLocalGrantFor, IsLocalOutstanding, cost};
 
 use crate::grant::{Grant, LocalGrant, Take};
 use crate::mask::Mask;
@@ -74,6 +74,7 @@ pub trait Grants {
         ensures mine { mine self.new ≡ mine self.old ++ entry (number self.old) (AskTake job mask now) (reply_of result) ∷ [] }
         ensures grant { IsGrantFor (number self.old) job result }
         ensures entry { IsEntryOf (limits self.old) mask result }
+        ensures out { IsOutstanding (number self.new) (outstanding (mine self.new)) result }
         ensures free { alone ≡ true → outstanding (mine self.old) ≡ [] → reply_of result ≢ Full };
 
     /// Gives a host's slot back.
@@ -116,6 +117,7 @@ pub trait Grants {
         ensures spare { spare self.new + cost alone ≡ spare self.old }
         ensures mine { mine self.new ≡ mine self.old ++ entry (number self.old) (TakeLocal job) (Local (is_some result)) ∷ [] }
         ensures grant { IsLocalGrantFor (number self.old) job result }
+        ensures out { IsLocalOutstanding (number self.new) (outstanding (mine self.new)) result }
         ensures free { alone ≡ true → outstanding (mine self.old) ≡ [] → IsSome result };
 
     /// Gives a local slot back.

@@ -1,11 +1,11 @@
 //! The slots of one thread.
-ghost use Rattle.std.specs.Prelude.{◌≡◌, ◌-◌, ◌<◌, ◌≤◌, true, find, is_some, IfSome};
+ghost use Rattle.std.specs.Prelude.{◌≡◌, ◌-◌, ◌<◌, ◌≤◌, true, find, is_some, IsSome, IfSome, IsTrue, ◌↔◌};
 ghost use Rattle.std.specs.List.{range_with_len};
 ghost use Rattle.slot_table.specs.declared.calls.SlotCall.TheVariants.{Draw, Take as AskTake, Give, GiveBad, TakeLocal, GiveLocal};
 ghost use Rattle.slot_table.specs.declared.calls.SlotReply.TheVariants.{Drawn, Local, Given};
 ghost use Rattle.slot_table.specs.Limits.{AreValid};
 ghost use Rattle.slot_table.specs.Step.{slot_step, opening, CanStep, IsHeld, is_free, is_ruled_out, is_down, first_place, search_order, given, left_alone};
-ghost use Rattle.slot_table.specs.Grants.{reply_of, IsGrantFor, IsEntryOf, IsLocalGrantFor, host_of, job_of, local_job_of};
+ghost use Rattle.slot_table.specs.Grants.{reply_of, IsGrantFor, IsEntryOf, CanGive, IsLocalGrantFor, host_of, job_of, local_job_of};
 
 use crate::calls::{SlotCall, SlotReply};
 use crate::grant::{Grant, LocalGrant, Take};
@@ -136,6 +136,7 @@ impl<const H: usize> Slots<H> {
         ensures step { slot_step self.old.limits self.old.state (AskTake job mask now) ≡ (self.new.state, reply_of result) }
         ensures grant { IsGrantFor caller job result }
         ensures entry { IsEntryOf self.old.limits mask result }
+        ensures held { CanGive self.new.limits self.new.state result }
     {
         match self.first_free(job, mask, now) {
             Some(host) => {
@@ -192,6 +193,7 @@ impl<const H: usize> Slots<H> {
         ensures limits { self.new.limits ≡ self.old.limits }
         ensures step { slot_step self.old.limits self.old.state (TakeLocal job) ≡ (self.new.state, Local (is_some result)) }
         ensures grant { IsLocalGrantFor caller job result }
+        ensures held { IsSome result → 0 < self.new.state.local_held }
     {
         if self.state.local_held < self.limits.local_slots {
             self.state.local_held += 1;
@@ -209,6 +211,27 @@ impl<const H: usize> Slots<H> {
     {
         grant.spend();
         self.state.local_held -= 1;
+    }
+
+    /// Whether a call meets its condition: what it gives back is held, and a local entry isn't left alone.
+    pub fn can_step(&self, call: SlotCall) -> bool
+        ensures { IsTrue result ↔ CanStep self.now.limits self.now.state call }
+    {
+        match call {
+            SlotCall::Draw | SlotCall::Take { .. } | SlotCall::TakeLocal { .. } => true,
+            SlotCall::Give { host, .. } => self.is_held(host),
+            SlotCall::GiveBad { host, .. } => {
+                self.is_held(host) && !self.limits.local[host as usize]
+            }
+            SlotCall::GiveLocal { .. } => self.state.local_held > 0,
+        }
+    }
+
+    /// Whether a slot of the entry is given out.
+    fn is_held(&self, host: u32) -> bool
+        ensures { IsTrue result ↔ IsHeld self.now.limits self.now.state host }
+    {
+        host < self.limits.count && self.state.held[host as usize] > 0
     }
 
     /// Any call, as plain data.
