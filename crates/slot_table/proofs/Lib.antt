@@ -9,3 +9,4 @@ pub mod Permits
 pub mod Frees
 pub mod Keeping
 pub mod Rounds
+pub mod Takes

@@ -1,8 +1,8 @@
 -- Searches over a range of entries, one entry after another.
-use Rattle.std.proofs.Common.{◌≡◌, ℕ, zero, suc, ◌+◌, ◌-◌, ◌<◌, ◌≤◌, Bool, true, false, ◌&&◌, not, nat_lt, cond, List, [], ◌∷◌, ◌++◌, Option, Some, None, take, drop, refl, sym, ap, ◌∙◌, arith}
+use Rattle.std.proofs.Common.{◌≡◌, inl, inr, ℕ, zero, suc, ◌+◌, ◌-◌, ◌<◌, ◌≤◌, Bool, true, false, ◌&&◌, not, nat_lt, cond, List, [], ◌∷◌, ◌++◌, Option, Some, None, take, drop, refl, sym, ap, ◌∙◌, arith}
 use Rattle.std.specs.Prelude.{find}
 use Rattle.std.specs.Option.{option_or}
-use Rattle.std.proofs.lemmas.Bool.{and_parts, lt-ltb}
+use Rattle.std.proofs.lemmas.Bool.{and_parts, cases_eq, lt-ltb}
 use Rattle.std.proofs.lemmas.List.{take-append-drop}
 use Rattle.std.proofs.lemmas.List.Folds.{find-append, list_all-append}
 use Rattle.std.specs.List.{range_with_len, list_all}
@@ -115,3 +115,10 @@ all-weaker q r a (suc n) each all =
 -- the entries that a search looks at are below their number
 pub search-below : (k n : ℕ) → list_all (λ i. nat_lt i n) (drop k (range_with_len 0 n) ++ take k (range_with_len 0 n)) ≡ true
 search-below k n = all-rotated (λ i. nat_lt i n) k (range_with_len 0 n) ∙ all-range (λ i. nat_lt i n) 0 n (λ i below. lt-ltb i n (omega arith))
+
+-- what holds of each entry of a range holds of one of them
+pub all-at : (q : ℕ → Bool) (a n : ℕ) → list_all q (range_with_len a n) ≡ true → (i : ℕ) → a ≤ i → i < a + n → q i ≡ true
+all-at q a zero all i low high = absurd (omega arith)
+all-at q a (suc n) all i low high =
+    let parts = and_parts (q a) (list_all q (range_with_len (a + 1) n)) all in
+    elim (cases_eq i a) [ inl e ↦ ap q e ∙ parts.0 | inr apart ↦ all-at q (a + 1) n parts.1 i (omega arith) (omega arith) ]

@@ -1,12 +1,14 @@
 -- What holds of every legal history.
-use Rattle.std.specs.Prelude.{◌≡◌, ◌≢◌, ℕ, ◌<◌, ◌≤◌, true, List, [], ◌∷◌, ◌++◌, Some, None, slice_index}
+use Rattle.std.specs.Prelude.{◌≡◌, ◌≢◌, ℕ, ◌<◌, ◌≤◌, ◌↔◌, true, List, [], ◌∷◌, ◌++◌, Some, None, slice_index}
 use Rattle.std.specs.List.{range_with_len}
 use Rattle.slot_table.specs.declared.limits.Limits.{Limits}
 use Rattle.slot_table.specs.declared.state.SlotState.{SlotState}
 use Rattle.slot_table.specs.declared.mask.Mask.{Mask}
 use Rattle.slot_table.specs.declared.calls.SlotCall.{SlotCall}
 use Rattle.slot_table.specs.declared.calls.SlotCall.TheVariants.{Take, TakeLocal}
-use Rattle.slot_table.specs.declared.calls.SlotReply.TheVariants.{Full, Local}
+use Rattle.slot_table.specs.declared.calls.SlotReply.{SlotReply}
+use Rattle.slot_table.specs.declared.calls.SlotReply.TheVariants.{Got, Full, Down, Local}
+use Rattle.slot_table.specs.Mask.{in_mask}
 use Rattle.slot_table.specs.declared.calls.CallEntry.{CallEntry}
 use Rattle.slot_table.specs.Limits.{AreValid, is_local}
 use Rattle.slot_table.specs.Step.{slot_step, CanStep}
@@ -42,6 +44,23 @@ pub record Steps {h : ℕ} (l : Limits h) (es : List CallEntry) (caller : ℕ) (
 
 abbrev pub PermittedSteps : Type 0
 PermittedSteps = (h : ℕ) (l : Limits h) (es : List CallEntry) (caller : ℕ) (call : SlotCall) → l.count ≤ h → IsLegal l es → may_call l caller (outstanding es) call ≡ true → Steps l es caller call
+
+-- entry i may be taken at this moment
+pub record MayBeTaken {h : ℕ} (l : Limits h) (s : SlotState h) (mask : Mask) (now i : ℕ) : Type 0 where
+  pub entry : i < l.count
+  pub masked : in_mask mask i ≡ true
+  pub room : slice_index s.held i < slice_index l.limit i
+  pub up : slice_index s.until i ≤ now
+
+-- What the reply to a take says of the entries in the mask: one that is got may be taken; it is Down exactly where each of them is
+-- to be left alone; where it is Full, each of them that isn't has as many slots given out as its limit
+pub record TakeTells {h : ℕ} (l : Limits h) (s : SlotState h) (mask : Mask) (now : ℕ) (reply : SlotReply) : Type 0 where
+  pub got : (i : ℕ) → reply ≡ Got i → MayBeTaken l s mask now i
+  pub down : (reply ≡ Down) ↔ ((i : ℕ) → i < l.count → in_mask mask i ≡ true → now < slice_index s.until i)
+  pub full : reply ≡ Full → (i : ℕ) → i < l.count → in_mask mask i ≡ true → slice_index s.until i ≤ now → slice_index l.limit i ≤ slice_index s.held i
+
+abbrev pub TakesTell : Type 0
+TakesTell = (h : ℕ) (l : Limits h) (s : SlotState h) (job : ℕ) (mask : Mask) (now : ℕ) → TakeTells l s mask now (slot_step l s (Take job mask now)).1
 
 -- where nothing is outstanding, no take is answered Full and no local slot is refused
 pub record NothingIsFull {h : ℕ} (l : Limits h) (s : SlotState h) : Type 0 where

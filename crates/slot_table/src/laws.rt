@@ -1,5 +1,13 @@
 //! What holds of every legal history of calls.
-ghost use Rattle.slot_table.specs.Laws.{StateAgrees, DrawsInOrder, HoldsByOwnCalls, PermittedSteps, FreeWhereAllIsBack};
+ghost use Rattle.slot_table.specs.Laws.{StateAgrees, DrawsInOrder, HoldsByOwnCalls, PermittedSteps, FreeWhereAllIsBack, TakesTell};
+
+/// What the reply to a take says of the entries in its mask, in any state: one that is got is below its
+/// limit and isn't to be left alone; it is Down exactly where each of them is to be left alone; and where
+/// it is Full each of the others is at its limit.
+pub fn takes_tell()
+    ensures { TakesTell }
+{
+}
 
 /// What is outstanding to a caller depends on its own calls alone.
 pub fn holds_by_own_calls()
