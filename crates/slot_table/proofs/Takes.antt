@@ -1,13 +1,11 @@
 -- What the reply to a take says of the entries.
-use Rattle.std.proofs.Common.{◌≡◌, ◌↔◌, ◌⊎◌, inl, inr, ℕ, ◌<◌, ◌≤◌, Bool, true, false, ◌&&◌, ◌||◌, not, Option, Some, None, nat_lt, refl, sym, ap, ◌∙◌, subst, arith, true≢false}
+use Rattle.std.proofs.Common.{◌≡◌, ℕ, ◌<◌, ◌≤◌, Bool, true, false, ◌&&◌, ◌||◌, not, Option, Some, None, nat_lt, refl, sym, ◌∙◌, subst, arith, true≢false}
 use Rattle.std.specs.Prelude.{slice_index, find}
 use Rattle.std.proofs.lemmas.Bool.{ltb-true, lt-ltb, and_parts}
 use Rattle.std.proofs.lemmas.Bool.Decides.{nat_tests}
 use Rattle.slot_table.specs.declared.limits.Limits.{Limits}
 use Rattle.slot_table.specs.declared.state.SlotState.{SlotState}
 use Rattle.slot_table.specs.declared.mask.Mask.{Mask}
-use Rattle.slot_table.specs.declared.calls.SlotReply.{SlotReply}
-use Rattle.slot_table.specs.declared.calls.SlotReply.TheVariants.{Got, Full, Down}
 use Rattle.slot_table.specs.Mask.{in_mask}
 use Rattle.slot_table.specs.Step.{entries, first_place, search_order, is_left_alone, is_free, is_ruled_out, is_down, take_free}
 use Rattle.slot_table.specs.Laws.{MayBeTaken, TakeTells, TakesTell}
@@ -67,4 +65,4 @@ takes-tell h l s job mask now =
     (λ all i below is. ltb-true now (slice_index s.until i) (left-alone (in_mask mask i) (is_left_alone s now i) (all-at (is_ruled_out s mask now) 0 l.count all i (omega arith) (omega arith)) is))
     (λ all. all-range (is_ruled_out s mask now) 0 l.count (λ i below. ruled-out (in_mask mask i) (is_left_alone s now i) (λ is. lt-ltb now (slice_index s.until i) (all i (omega arith) is))))
     (λ none i below is up. test-false (slice_index s.held i) (slice_index l.limit i) (no-room (in_mask mask i) (nat_lt (slice_index s.held i) (slice_index l.limit i)) (is_left_alone s now i)
-      (all-at (λ j. not (is_free l s mask now j)) 0 l.count (sym (all-rotated (λ j. not (is_free l s mask now j)) (first_place l job) (entries l)) ∙ find-none (is_free l s mask now) (search_order l job) none) i (omega arith) (omega arith)) is (false-test now (slice_index s.until i) up)))
+    (all-at (λ j. not (is_free l s mask now j)) 0 l.count (sym (all-rotated (λ j. not (is_free l s mask now j)) (first_place l job) (entries l)) ∙ find-none (is_free l s mask now) (search_order l job) none) i (omega arith) (omega arith)) is (false-test now (slice_index s.until i) up)))

@@ -6,8 +6,7 @@ ghost use Rattle.slot_table.specs.Laws.{StateAgrees, DrawsInOrder, HoldsByOwnCal
 /// it is Full each of the others is at its limit.
 pub fn takes_tell()
     ensures { TakesTell }
-{
-}
+{}
 
 /// What is outstanding to a caller depends on its own calls alone.
 pub fn holds_by_own_calls()

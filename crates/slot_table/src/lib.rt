@@ -18,6 +18,7 @@ pub use grant::{Grant, LocalGrant, Take};
 pub use grants::Grants;
 pub use laws::{
     draws_in_order, free_where_all_is_back, holds_by_own_calls, permitted_steps, state_agrees,
+    takes_tell,
 };
 pub use limits::Limits;
 pub use mask::Mask;

@@ -23,7 +23,7 @@ impl Mask {
         }
     }
 
-    /// The same entries, and `host` no more.
+    /// The same entries without `host`.
     pub fn without(self, host: u32) -> Mask
         requires { host < 64 }
         ensures { (i : ℕ) → in_mask result i ≡ (in_mask self i && not (nat_eq i host)) }

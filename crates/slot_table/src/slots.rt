@@ -18,7 +18,7 @@ use crate::state::SlotState;
 pub struct Slots<const H: usize> {
     pub limits: Limits<H>,
     pub state: SlotState<H>,
-    pub ghost bounded: { AreValid limits },
+    pub ghost valid: { AreValid limits },
 }
 
 impl<const H: usize> Slots<H> {

@@ -80,7 +80,14 @@ fn a_host_that_failed_is_left_alone(rt: HostRuntime) {
             &mut slots,
             &[
                 (take(0, Mask::all(1), 100), SlotReply::Got(0)),
-                (SlotCall::GiveBad { host: 0, job: 0, until }, SlotReply::Given),
+                (
+                    SlotCall::GiveBad {
+                        host: 0,
+                        job: 0,
+                        until,
+                    },
+                    SlotReply::Given,
+                ),
                 (take(1, Mask::all(1), now), reply),
             ],
         );
@@ -95,7 +102,11 @@ fn an_earlier_moment_does_not_shorten_the_wait(rt: HostRuntime) {
     let mut slots = Slots::new(limits);
     let first = Mask::all(1);
     let both = Mask::all(2);
-    let bad = |job, until| SlotCall::GiveBad { host: 0, job, until };
+    let bad = |job, until| SlotCall::GiveBad {
+        host: 0,
+        job,
+        until,
+    };
     replay(
         &rt,
         &mut slots,
@@ -137,7 +148,11 @@ fn jobs_begin_at_different_entries(rt: HostRuntime) {
     let none = limits_of([1; 16], 0, 1, true);
     assert!(rt; none.are_valid());
     let mut slots = Slots::new(none);
-    replay(&rt, &mut slots, &[(take(0, Mask::all(64), 0), SlotReply::Down)]);
+    replay(
+        &rt,
+        &mut slots,
+        &[(take(0, Mask::all(64), 0), SlotReply::Down)],
+    );
 }
 
 #[test]
@@ -184,7 +199,11 @@ fn local_slots_and_local_entries(rt: HostRuntime) {
             (SlotCall::TakeLocal { job: 2 }, SlotReply::Local(true)),
         ],
     );
-    let leave_alone = SlotCall::GiveBad { host: 0, job: 2, until: 9 };
+    let leave_alone = SlotCall::GiveBad {
+        host: 0,
+        job: 2,
+        until: 9,
+    };
     assert!(rt; !slots.can_step(leave_alone));
     assert!(rt; !slots.can_step(SlotCall::Give { host: 1, job: 2 }));
     assert!(rt; slots.can_step(SlotCall::Give { host: 0, job: 2 }));
@@ -249,7 +268,11 @@ fn one_thread_keeps_its_calls(rt: HostRuntime) -> Result<(), Fail> {
     let mut thread = OneThread::new(rt.alloc(), limits, 5)?;
     assert_eq!(rt; thread.caller(), 0);
     work_once(&rt, &mut thread);
-    let entry = |call, reply| CallEntry { caller: 0, call, reply };
+    let entry = |call, reply| CallEntry {
+        caller: 0,
+        call,
+        reply,
+    };
     let rows = [
         entry(SlotCall::Draw, SlotReply::Drawn(Some(0))),
         entry(take(0, Mask::all(1), 100), SlotReply::Got(0)),
