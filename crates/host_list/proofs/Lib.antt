@@ -1,0 +1,14 @@
+pub mod Cutting
+pub mod Numbers
+pub mod PartLemmas
+pub mod Ranges
+pub mod AnyLemmas
+pub mod NameLemmas
+pub mod Reading
+pub mod PartReading
+pub mod WordReading
+pub mod TextReading
+pub mod Answering
+pub mod Limits
+pub mod PrintedText
+pub mod RoundTrip

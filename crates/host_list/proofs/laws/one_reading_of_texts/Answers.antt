@@ -1,0 +1,11 @@
+use Rattle.host_list.proofs.TextReading.{one_hosts, no_both, one_fault}
+use Rattle.host_list.proofs.laws.one_reading_of_texts.Goals as goal
+
+pub returns-clause-list : goal.returns-clause-list
+returns-clause-list c = one_hosts
+
+pub returns-clause-apart : goal.returns-clause-apart
+returns-clause-apart c = no_both
+
+pub returns-clause-fault : goal.returns-clause-fault
+returns-clause-fault c = one_fault
