@@ -1,0 +1,3 @@
+mod Parts
+mod Passing
+mod Attempting

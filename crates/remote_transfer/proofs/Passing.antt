@@ -1,0 +1,93 @@
+-- From a request that was sent whole over a new link, and what was then given, to the entry of an exchange.
+use Rattle.std.proofs.Common.{◌≡◌, ℕ, ◌<◌, false, List, [], ◌++◌, refl, ◌∙◌, ap, sym, arith}
+use Rattle.std.specs.Prelude.{Result, Ok, Err}
+use Rattle.std.proofs.lemmas.List.{append-nil}
+use Rattle.farm_types.specs.declared.request.Request.{Request}
+use Rattle.farm_types.specs.declared.hosts.Host.{Host}
+use Rattle.farm_types.specs.declared.ran.Outcome.{Outcome}
+use Rattle.edge_traits.specs.declared.cause.Cause.TheVariants.{Dial, Send, Recv, Truncated, BadReply, Stopped}
+use Rattle.edge_traits.specs.Told.{Grew}
+use Rattle.edge_traits.specs.Causes.{Rose}
+use Rattle.edge_traits.specs.Links.{LinkView, IsNew}
+use Rattle.edge_traits.specs.Exchanges.{IsBegun}
+use Rattle.edge_traits.proofs.ToldLemmas.{Grew-join, Grew-still}
+use Rattle.remote_transfer.specs.declared.answers.Attempt.{Attempt}
+use Rattle.remote_transfer.specs.declared.answers.Stop.{Stop}
+use Rattle.remote_transfer.specs.declared.answers.Stop.TheVariants.{Broke, Memory}
+use Rattle.remote_transfer.specs.Answers.{answer_of}
+use Rattle.remote_transfer.specs.Attempts.{ExchangeIs, EndsBy}
+use Rattle.remote_transfer.specs.Links.{ReplyIs, Given, IsFor, entry_of, Passed}
+
+rose_above_none : (before now : ℕ) → Rose before now → 0 < now
+rose_above_none before now rose = omega (arith, rose)
+
+-- what an attempt says of what passed over its link
+abbrev pub Says : Request → Host → Attempt → LinkView → LinkView → Type 0
+Says q h answer old new = Passed old new (λ x. ExchangeIs q h answer x × EndsBy answer x)
+
+module _ (q : Request) (h : Host) (text : List ℕ) (old new : LinkView) (is_for : IsFor q h text old) (fresh : IsNew old) (origin : new.origin ≡ old.origin) where
+  begun : (sent unsent given : List ℕ) → text ≡ sent ++ unsent → IsBegun (entry_of new sent given) q h
+  begun sent unsent given parts = record {
+    host = ap (λ o. o.host) origin ∙ is_for.host;
+    port = ap (λ o. o.port) origin ∙ is_for.port;
+    unsent = unsent;
+    prefix = sym is_for.spelled ∙ parts;
+  }
+
+  -- the whole text was sent, and then these bytes were given
+  module _ (mid : LinkView) (sent : Grew old.sent mid.sent text) (no_more : Grew mid.sent new.sent []) (none : Grew old.given mid.given [])
+      (running : mid.stopped ≡ old.stopped) (stopped : new.stopped ≡ mid.stopped) (open_still : mid.ended ≡ old.ended) where
+    all_sent : Grew old.sent new.sent text
+    all_sent = Grew-still sent no_more
+
+    all_given : (bytes : List ℕ) → Grew mid.given new.given bytes → Grew old.given new.given bytes
+    all_given bytes grew = Grew-join none grew refl
+
+    whole_begun : (bytes : List ℕ) → IsBegun (entry_of new text bytes) q h
+    whole_begun bytes = begun text [] bytes (sym (append-nil text))
+
+    never_stopped : new.stopped ≡ false
+    never_stopped = stopped ∙ running ∙ fresh.stopped
+
+    never_ended : new.ended ≡ mid.ended → new.ended ≡ false
+    never_ended same = same ∙ open_still ∙ fresh.ended
+
+    pub replied : (result : Result Outcome Stop) → Given (ReplyIs result mid new) mid.given new.given → Says q h (answer_of result) old new
+    replied (Ok outcome) given = record {
+      sent = text;
+      given = given.bytes;
+      grew_sent = all_sent;
+      grew_given = all_given given.bytes given.grew;
+      is = (record { begun = whole_begun given.bytes; dialed = refl; sent = is_for.spelled; used = given.is.0.0; spelled = given.is.0.1 }, record { ended = never_ended given.is.1; stopped = never_stopped });
+    }
+    replied (Err (Broke Dial)) given = absurd given.is
+    replied (Err (Broke Send)) given = absurd given.is
+    replied (Err (Broke Recv)) given = record {
+      sent = text;
+      given = given.bytes;
+      grew_sent = all_sent;
+      grew_given = all_given given.bytes given.grew;
+      is = (record { begun = whole_begun given.bytes; shown = (record { sent = is_for.spelled; short = given.is.0 }, rose_above_none _ _ given.is.1) }, record { ended = never_ended given.is.2; stopped = never_stopped });
+    }
+    replied (Err (Broke (Truncated have))) given = record {
+      sent = text;
+      given = given.bytes;
+      grew_sent = all_sent;
+      grew_given = all_given given.bytes given.grew;
+      is = (record { begun = whole_begun given.bytes; shown = (record { sent = is_for.spelled; short = given.is.0 }, given.is.1, given.is.2) }, record { ended = given.is.2; stopped = never_stopped });
+    }
+    replied (Err (Broke (BadReply at fault))) given = record {
+      sent = text;
+      given = given.bytes;
+      grew_sent = all_sent;
+      grew_given = all_given given.bytes given.grew;
+      is = (record { begun = whole_begun given.bytes; shown = (is_for.spelled, given.is.0) }, record { ended = never_ended given.is.1; stopped = never_stopped });
+    }
+    replied (Err (Broke Stopped)) given = absurd given.is
+    replied (Err Memory) given = record {
+      sent = text;
+      given = given.bytes;
+      grew_sent = all_sent;
+      grew_given = all_given given.bytes given.grew;
+      is = ((whole_begun given.bytes, refl), record { ended = never_ended given.is; stopped = never_stopped });
+    }

@@ -1,0 +1,23 @@
+use Rattle.std.proofs.Common.{◌≡◌, ◌<◌, ◌≤◌, ◌-◌, [], length}
+use Rattle.edge_traits.specs.Told.{Grew}
+use Rattle.wire_tokens.specs.Reply.{IsShortReply}
+use Rattle.remote_transfer.proofs.receiving.receive_reply.Given as goal
+
+abbrev pub invariant-receiving : goal.invariant-receiving
+invariant-receiving g l =
+    let old = g.L.Link.shows l.fn.link in
+    let now = g.L.Link.shows l.link in
+    record {
+      room : 0 < length l.room;
+      short : IsShortReply l.given;
+      grew : Grew old.given now.given l.given;
+      sent : Grew old.sent now.sent [];
+      ended : now.ended ≡ old.ended;
+      stopped : now.stopped ≡ old.stopped;
+      follows : g.L.Link.follows l.fn.link l.link;
+      later : old.faults ≤ now.faults;
+    }
+
+-- A short reply has at most 35,651,643 bytes, and each turn receives once and adds at least one byte: so many receives are left.
+abbrev pub decreases-receiving : goal.decreases-receiving
+decreases-receiving g l = 35651644 - length l.given

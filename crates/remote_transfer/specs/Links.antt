@@ -1,0 +1,77 @@
+-- What was sent and given over a link. The contracts of the parts of an attempt cite this.
+use Rattle.std.specs.Prelude.{◌≡◌, ◌≢◌, ℕ, ◌<◌, true, List, [], ◌++◌, length, Result, Ok, Err}
+use Rattle.farm_types.specs.declared.request.Request.{Request}
+use Rattle.farm_types.specs.declared.ran.Outcome.{Outcome}
+use Rattle.farm_types.specs.declared.hosts.Host.{Host}
+use Rattle.wire_tokens.specs.Request.{request_text}
+use Rattle.wire_tokens.specs.Reply.{BeginsReply, IsShortReply, ReplyFaultStands}
+use Rattle.edge_traits.specs.declared.entries.Exchange.{Exchange}
+use Rattle.edge_traits.specs.declared.cause.Cause.TheVariants.{Send, Recv, Truncated, BadReply, Stopped}
+use Rattle.edge_traits.specs.Told.{Told, Grew}
+use Rattle.edge_traits.specs.Causes.{Rose}
+use Rattle.edge_traits.specs.Links.{LinkView}
+use Rattle.remote_transfer.specs.declared.answers.Stop.{Stop}
+use Rattle.remote_transfer.specs.declared.answers.Stop.TheVariants.{Broke, Memory}
+
+-- a front of these bytes was sent, and not all of them
+pub record SentPart (bytes : List ℕ) (old new : Told (List ℕ)) : Type 0 where
+  pub sent : List ℕ
+  pub unsent : List ℕ
+  pub parts : bytes ≡ sent ++ unsent
+  pub proper : unsent ≢ []
+  pub grew : Grew old new sent
+
+-- why not all was sent
+abbrev pub SendStops : LinkView → LinkView → Stop → Type 0
+SendStops old new (Broke Send) = Rose old.faults new.faults × (new.stopped ≡ old.stopped)
+SendStops old new (Broke Stopped) = new.stopped ≡ true
+SendStops old new (Broke other) = ⊥
+SendStops old new Memory = new.stopped ≡ old.stopped
+
+-- a piece of at least one byte was given
+pub record GivenPiece (before after : List ℕ) (old new : LinkView) : Type 0 where
+  pub piece : List ℕ
+  pub added : after ≡ before ++ piece
+  pub some : 0 < length piece
+  pub grew : Grew old.given new.given piece
+  pub ended : new.ended ≡ old.ended
+
+-- why no piece was kept, after these bytes
+abbrev pub PieceStops : List ℕ → LinkView → LinkView → Stop → Type 0
+PieceStops before old new (Broke Recv) = Grew old.given new.given [] × Rose old.faults new.faults × (new.ended ≡ old.ended)
+PieceStops before old new (Broke (Truncated have)) = Grew old.given new.given [] × (length before ≡ have) × (new.ended ≡ true)
+PieceStops before old new (Broke other) = ⊥
+PieceStops before old new Memory = ((piece : List ℕ) × Grew old.given new.given piece) × (new.ended ≡ old.ended)
+
+-- what the bytes that were given are to the result, and whether the link gave its end
+abbrev pub ReplyIs : Result Outcome Stop → LinkView → LinkView → List ℕ → Type 0
+ReplyIs (Ok outcome) old new given = ((used : ℕ) × BeginsReply given used outcome) × (new.ended ≡ old.ended)
+ReplyIs (Err (Broke Recv)) old new given = IsShortReply given × Rose old.faults new.faults × (new.ended ≡ old.ended)
+ReplyIs (Err (Broke (Truncated have))) old new given = IsShortReply given × (length given ≡ have) × (new.ended ≡ true)
+ReplyIs (Err (Broke (BadReply at fault))) old new given = ReplyFaultStands given at fault × (new.ended ≡ old.ended)
+ReplyIs (Err (Broke other)) old new given = ⊥
+ReplyIs (Err Memory) old new given = new.ended ≡ old.ended
+
+-- bytes were given of which this holds
+pub record Given (holds : List ℕ → Type 0) (old new : Told (List ℕ)) : Type 0 where
+  pub bytes : List ℕ
+  pub grew : Grew old new bytes
+  pub is : holds bytes
+
+-- the text is the request's, and the link is to the host
+pub record IsFor (q : Request) (h : Host) (text : List ℕ) (link : LinkView) : Type 0 where
+  pub spelled : text ≡ request_text q
+  pub host : link.origin.host ≡ h.name
+  pub port : link.origin.port ≡ h.port
+
+-- the entry of a link over which this was sent and given
+abbrev pub entry_of : LinkView → List ℕ → List ℕ → Exchange
+entry_of link sent given = record { host = link.origin.host; port = link.origin.port; dialed = true; sent = sent; given = given; ended = link.ended; stopped = link.stopped; faults = link.faults }
+
+-- What passed over a link, as an entry of which this holds. The link tells it, where it tells anything.
+pub record Passed (old new : LinkView) (holds : Exchange → Type 0) : Type 0 where
+  pub sent : List ℕ
+  pub given : List ℕ
+  pub grew_sent : Grew old.sent new.sent sent
+  pub grew_given : Grew old.given new.given given
+  pub is : holds (entry_of new sent given)

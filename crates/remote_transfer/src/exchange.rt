@@ -1,0 +1,89 @@
+ghost use Rattle.std.specs.Prelude.{◌≡◌, ◌<◌, ◌≤◌, length, false, IfOk};
+ghost use Rattle.farm_types.specs.declared.request.Request.{Request};
+ghost use Rattle.farm_types.specs.declared.hosts.Host.{Host};
+ghost use Rattle.farm_types.specs.Fits.{RequestFits};
+ghost use Rattle.wire_tokens.specs.Request.{request_text};
+ghost use Rattle.edge_traits.specs.Told.{SameRelation};
+ghost use Rattle.edge_traits.specs.Links.{IsNew};
+ghost use Rattle.remote_transfer.specs.Answers;
+ghost use Rattle.remote_transfer.specs.Attempts.{ExchangeIs, EndsBy, AttemptAdds, DialCause};
+ghost use Rattle.remote_transfer.specs.Links.{IsFor, Passed};
+
+use crate::Attempt;
+use crate::answers::Stop;
+use crate::receiving::receive_reply;
+use crate::sending::send_all;
+use compile_request::encode;
+use edge_traits::{Cause, Dialer, EdgeFault, Link};
+use farm_types::{Bytes, Host, Outcome, Request};
+use std::alloc::{AllocError, Global};
+
+/// The bytes that one receive has room for.
+const ROOM: usize = 65_536;
+
+// Sends the text of a request and receives the reply, over a link on which nothing has happened yet.
+fn converse<L: Link>(
+    alloc: Global,
+    text: &[u8],
+    link: &mut L,
+    room: &mut [u8],
+) -> Result<Outcome, Stop>
+    requires new { IsNew (L.shows link.old) }
+    requires room { 0 < length room.old }
+    ensures passed { (q : Request) (h : Host) → IsFor q h text.now (L.shows link.old)
+        → Passed (L.shows link.old) (L.shows link.new) (λ x. ExchangeIs q h (Answers.answer_of result) x × EndsBy (Answers.answer_of result) x) }
+    ensures follows { L.follows link.old link.new }
+{
+    send_all(link, text)?;
+    receive_reply(alloc, link, room)
+}
+
+fn answer_of(talked: Result<Outcome, Stop>) -> Attempt
+    ensures { result ≡ Answers.answer_of talked }
+{
+    match talked {
+        Ok(outcome) => Attempt::Whole(outcome),
+        Err(Stop::Broke(cause)) => Attempt::Broke(cause),
+        Err(Stop::Memory) => Attempt::Memory { dialed: true },
+    }
+}
+
+// The text of a request, and room for the pieces of its reply.
+fn prepare(alloc: Global, request: &Request) -> Result<(Bytes, Vec<u8>), AllocError>
+    requires { RequestFits request.now.words request.now.source }
+    ensures text { IfOk result (λ made. made.0 ≡ request_text request.now) }
+    ensures room { IfOk result (λ made. length made.1.items ≡ 65536) }
+{
+    Ok((encode(alloc, request)?, vec![in alloc; 0; ROOM]?))
+}
+
+/// Makes one exchange with a host: dials, sends the text of the request, receives until what was given is no longer
+/// short, and hangs up.
+///
+/// The write side is never shut before the reply was read, since distccd stops the job of a client that shuts it.
+/// There are at most 35,651,644 receives, through a buffer of 64 KiB that is made before the dial. Bytes behind a whole
+/// reply are ignored.
+///
+/// `Whole` and `Broke` add one exchange to what the dialer tells. `Memory` adds one exactly where `dialed` is true,
+/// which is where the dial had succeeded.
+pub fn attempt<D: Dialer>(alloc: Global, request: &Request, host: &Host, dialer: &mut D) -> Attempt
+    requires fits { RequestFits request.now.words request.now.source }
+    requires remote { host.now.local ≡ false }
+    ensures adds { AttemptAdds (D.may_give dialer.new) request.now host.now result (D.shows dialer.old).exchanges (D.shows dialer.new).exchanges }
+    ensures may_give { SameRelation (D.may_give dialer.old) (D.may_give dialer.new) }
+    ensures later { (D.shows dialer.old).faults ≤ (D.shows dialer.new).faults }
+    ensures cause { DialCause result (D.shows dialer.old).faults (D.shows dialer.new).faults }
+{
+    let Ok((text, mut room)) = prepare(alloc, request) else {
+        return Attempt::Memory { dialed: false };
+    };
+    match dialer.dial(alloc, &host.name, host.port) {
+        Ok(mut link) => {
+            let talked = converse(alloc, text.as_slice(), &mut link, &mut room);
+            dialer.hang_up(link);
+            answer_of(talked)
+        }
+        Err(EdgeFault::Failed) => Attempt::Broke(Cause::Dial),
+        Err(EdgeFault::Memory) => Attempt::Memory { dialed: false },
+    }
+}
