@@ -36,12 +36,13 @@ impl<const N: usize> Model for OptionTable<N> {
 }
 
 impl<const N: usize> OptionTable<N> {
-    ghost use Rattle.option_table.specs.Rows.{found, FitsAt};
+    ghost use Rattle.option_table.specs.Rows.{found, row_at, FitsAt};
 
     /// A copy of the row at a place.
     pub fn row(&self, at: u32) -> OptionRow
         requires { at < N }
-        ensures { slice_get self.now at ≡ Some result }
+        ensures there { slice_get self.now at ≡ Some result }
+        ensures value { result ≡ row_at self.now at }
     {
         self.rows[at as usize].copy()
     }
@@ -49,6 +50,7 @@ impl<const N: usize> OptionTable<N> {
     /// The row that fits a word, or None where no row does.
     pub fn find(&self, word: &Bytes) -> Option<Found>
         ensures value { result ≡ found self.now word.now }
+        ensures within { IfSome result (λ f. f.row < N) }
         ensures none { IsNone result ↔ IsTrue (list_all (fits_not word.now) self.now) }
         ensures only { (at : ℕ) → FitsAt self.now word.now at → IsSomeAnd result (λ f. f.row ≡ at) }
     {

@@ -1,0 +1,6 @@
+use Rattle.std.proofs.Common.{sym}
+use Rattle.arg_scan.proofs.Firsts.{past_end}
+use Rattle.arg_scan.proofs.command.word_at.Goals as goal
+
+pub returns-in-None : goal.returns-in-None
+returns-in-None c = past_end c.args.words.now c.args.at c.in-None.ensures

@@ -1,0 +1,5 @@
+pub mod Names
+pub mod Roles
+pub mod Forces
+pub mod Class
+pub mod Seen

@@ -1,0 +1,17 @@
+//! The class of a compiler's command: it stays on this machine, and why, or it may be sent, and how.
+#![tactic(auto)]
+
+mod class;
+mod command;
+mod names;
+mod part;
+mod seen;
+mod verdict;
+mod why;
+
+pub use class::Scan;
+pub use command::{output_name, scan};
+pub use names::Ending;
+pub use part::{Operand, Part, Role};
+pub use verdict::{Action, OutputPlace, Plan, Verdict, classify};
+pub use why::Why;
