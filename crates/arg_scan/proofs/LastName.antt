@@ -1,7 +1,6 @@
 -- The part of a path after its last `/`.
-use Rattle.std.proofs.Common.{◌≡◌, ℕ, zero, suc, ◌+◌, ◌<◌, ◌≤◌, Bool, true, false, nat_eq, List, [], ◌∷◌, length, take, drop, ◌-◌, get_or, Option, Some, None, refl, sym, ◌∙◌, ap, cond, arith}
+use Rattle.std.proofs.Common.{◌≡◌, ℕ, zero, suc, ◌+◌, ◌<◌, Bool, true, false, nat_eq, List, [], ◌∷◌, length, take, drop, ◌-◌, get_or, refl, sym, ◌∙◌, ap, cond, arith}
 use Rattle.std.specs.List.{list_any}
-use Rattle.std.proofs.lemmas.Bool.{false≢true}
 use Rattle.std.proofs.lemmas.Grind.{common_steps}
 use Rattle.std.proofs.lemmas.Bool.Decides.{Decides-eqb, eqb_tells}
 use Rattle.std.proofs.lemmas.List.Folds.{list_any_at, list_any_none}
@@ -27,10 +26,10 @@ pub last_name-at : (path : List ℕ) (at : ℕ) → at < length path → nat_eq 
 last_name-at [] at within slash after = absurd (omega arith)
 last_name-at (b ∷ bs) zero within slash after =
     ap (λ t. cond t (last_name bs) (b ∷ bs)) (list_any_at (nat_eq 47) (b ∷ bs) 0 0 within (swapped 47 0 b ((Decides-eqb b 47).0 slash)))
-      ∙ last_name-none bs (λ k l. after (suc k) (omega arith) (omega arith))
+    ∙ last_name-none bs (λ k l. after (suc k) (omega arith) (omega arith))
 last_name-at (b ∷ bs) (suc at) within slash after =
     ap (λ t. cond t (last_name bs) (b ∷ bs)) (list_any_at (nat_eq 47) (b ∷ bs) (suc at) 0 within (swapped 47 0 (get_or bs at 0) ((Decides-eqb (get_or bs at 0) 47).0 slash)))
-      ∙ last_name-at bs at (omega arith) slash (λ k l m. after (suc k) (omega arith) (omega arith))
+    ∙ last_name-at bs at (omega arith) slash (λ k l m. after (suc k) (omega arith) (omega arith))
 
 -- a test that can't pass fails
 pub fails_by : (a : Bool) → (a ≡ true → ⊥) → a ≡ false

@@ -1,5 +1,5 @@
 -- The least places below a bound, one place on.
-use Rattle.std.proofs.Common.{◌≡◌, ℕ, zero, suc, ◌+◌, ◌<◌, ◌≤◌, ◌==◌, Bool, true, false, not, ◌||◌, ◌&&◌, List, [], ◌∷◌, ◌++◌, length, Option, Some, None, is_some, unwrap_or, if◌then◌else◌, refl, sym, ◌∙◌, ap, ◌⊎◌, inl, inr, arith}
+use Rattle.std.proofs.Common.{◌≡◌, ℕ, zero, suc, ◌+◌, ◌<◌, ◌==◌, Bool, true, false, not, ◌||◌, ◌&&◌, List, [], ◌∷◌, ◌++◌, length, Option, Some, None, is_some, unwrap_or, if◌then◌else◌, refl, sym, ◌∙◌, ap, arith}
 use Rattle.std.proofs.Common.{◌-◌}
 use Rattle.std.proofs.lemmas.Bool.Decides.{nat_tests}
 use Rattle.std.specs.List.{slice_get}
@@ -12,13 +12,11 @@ use Rattle.arg_scan.specs.declared.names.Ending.{Ending}
 use Rattle.arg_scan.specs.declared.names.Ending.TheVariants.{C}
 use Rattle.arg_scan.specs.declared.verdict.Action.TheVariants.{Compile, Assemble}
 use Rattle.arg_scan.specs.declared.verdict.OutputPlace.{OutputPlace}
-use Rattle.arg_scan.specs.declared.verdict.Plan.{Plan}
-use Rattle.arg_scan.specs.declared.verdict.Verdict.{Verdict}
 use Rattle.arg_scan.specs.declared.verdict.Verdict.TheVariants as verdict
 use Rattle.arg_scan.specs.declared.seen.Input.{Input}
 use Rattle.arg_scan.specs.declared.seen.Seen.{Seen}
 use Rattle.arg_scan.specs.Roles.{owed, part_of, owner_at, part_at, word_at}
-use Rattle.arg_scan.specs.Forces.{first_below, any_below, when, source_of, is_source, names_output, is_output, action_of, asks_compile, asks_assemble, compiles, assembles, part_reasons, end_reasons}
+use Rattle.arg_scan.specs.Forces.{first_below, any_below, when, source_of, is_source, is_output, compiles, assembles, part_reasons, end_reasons}
 use Rattle.arg_scan.specs.Class.{reason_at, first_forced, output_place, by_place, by_end, plan_of, verdict_of}
 use Rattle.arg_scan.specs.Seen.{noted, seen_below, final_verdict}
 
@@ -58,18 +56,18 @@ output_or h n b None = output_here h n b
 same_seen : (a b : Seen) → a.compile ≡ b.compile → a.assemble ≡ b.assemble → a.source ≡ b.source → a.output ≡ b.output → a ≡ b
 same_seen a b e f g h =
     ap (λ x. record a { compile = x }) e
-      ∙ ap (λ x. record a { compile = b.compile; assemble = x }) f
-      ∙ ap (λ x. record a { compile = b.compile; assemble = b.assemble; source = x }) g
-      ∙ ap (λ x. record b { output = x }) h
+    ∙ ap (λ x. record a { compile = b.compile; assemble = x }) f
+    ∙ ap (λ x. record a { compile = b.compile; assemble = b.assemble; source = x }) g
+    ∙ ap (λ x. record b { output = x }) h
 
 -- what one more word adds to what was seen
 pub seen-next : (words : List (List ℕ)) (n : ℕ) → noted (part_at words n) n (word_at words n) (seen_below words n) ≡ seen_below words (n + 1)
 seen-next words n =
     same_seen _ _ (any-next (compiles words) n) (any-next (assembles words) n)
-      (input_or (λ at. source_of (part_at words at)) n (first_below (is_source words) n)
-        ∙ ap (λ m. option_map (input_at (λ at. source_of (part_at words at))) (first_below (is_source words) m)) (sym (one n)))
-      (output_or (λ at. output_place (part_at words at) at) n (is_output words n) (first_below (is_output words) n)
-        ∙ ap (λ m. option_map (λ at. output_place (part_at words at) at) (first_below (is_output words) m)) (sym (one n)))
+    (input_or (λ at. source_of (part_at words at)) n (first_below (is_source words) n)
+    ∙ ap (λ m. option_map (input_at (λ at. source_of (part_at words at))) (first_below (is_source words) m)) (sym (one n)))
+    (output_or (λ at. output_place (part_at words at) at) n (is_output words n) (first_below (is_output words) n)
+    ∙ ap (λ m. option_map (λ at. output_place (part_at words at) at) (first_below (is_output words) m)) (sym (one n)))
 
 some_map : {A B : Type 0} (f : A → B) (o : Option A) → is_some (option_map f o) ≡ is_some o
 some_map f None = refl
@@ -85,13 +83,13 @@ output_seen words n = some_map _ (first_below (is_output words) n)
 pub forced-none : (words : List (List ℕ)) (n : ℕ) → first_forced words n ≡ None → reason_at words n ≡ None → first_forced words (n + 1) ≡ None
 forced-none words n before here =
     ap (first_forced words) (one n)
-      ∙ ap (λ o. option_or o (option_map (λ why. (why, n)) (reason_at words n))) before
-      ∙ ap (option_map (λ why. (why, n))) here
+    ∙ ap (λ o. option_or o (option_map (λ why. (why, n)) (reason_at words n))) before
+    ∙ ap (option_map (λ why. (why, n))) here
 
 forced-here : (words : List (List ℕ)) (n : ℕ) (why : Why) → first_forced words n ≡ None → reason_at words n ≡ Some why → first_forced words (suc n) ≡ Some (why, n)
 forced-here words n why before here =
     ap (λ o. option_or o (option_map (λ why. (why, n)) (reason_at words n))) before
-      ∙ ap (option_map (λ why. (why, n))) here
+    ∙ ap (option_map (λ why. (why, n))) here
 
 forced_later : (words : List (List ℕ)) (n m : ℕ) (f : Why × ℕ) → first_forced words n ≡ Some f → first_forced words (m + n) ≡ Some f
 forced_later words n zero f h = ap (first_forced words) (none_more n) ∙ h
@@ -100,7 +98,7 @@ forced_later words n zero f h = ap (first_forced words) (none_more n) ∙ h
     none_more n = omega arith
 forced_later words n (suc m) f h =
     ap (first_forced words) (one_more m n)
-      ∙ ap (λ o. option_or o (option_map (λ why. (why, m + n)) (reason_at words (m + n)))) (forced_later words n m f h)
+    ∙ ap (λ o. option_or o (option_map (λ why. (why, m + n)) (reason_at words (m + n)))) (forced_later words n m f h)
   where
     one_more : (m n : ℕ) → suc m + n ≡ suc (m + n)
     one_more m n = omega arith
@@ -110,27 +108,27 @@ pub reason_is : (words : List (List ℕ)) (n : ℕ) (owner : Option Effect) (wor
 reason_is words n owner word seen part p e f g =
     let last = n + 1 == length words in
     ap (λ q. slice_get (part_reasons q word last (is_some seen.source) (is_some seen.output)) 0) p
-      ∙ ap (λ o. slice_get (part_reasons (part_of o n word) word last (is_some seen.source) (is_some seen.output)) 0) e
-      ∙ ap (λ w. slice_get (part_reasons (part_of (owner_at words n) n w) w last (is_some seen.source) (is_some seen.output)) 0) f
-      ∙ ap (λ (s : Seen). slice_get (part_reasons (part_at words n) (word_at words n) last (is_some s.source) (is_some s.output)) 0) g
-      ∙ ap (λ b. slice_get (part_reasons (part_at words n) (word_at words n) last b (is_some (seen_below words n).output)) 0) (source_seen words n)
-      ∙ ap (λ b. slice_get (part_reasons (part_at words n) (word_at words n) last (any_below (is_source words) n) b) 0) (output_seen words n)
+    ∙ ap (λ o. slice_get (part_reasons (part_of o n word) word last (is_some seen.source) (is_some seen.output)) 0) e
+    ∙ ap (λ w. slice_get (part_reasons (part_of (owner_at words n) n w) w last (is_some seen.source) (is_some seen.output)) 0) f
+    ∙ ap (λ (s : Seen). slice_get (part_reasons (part_at words n) (word_at words n) last (is_some s.source) (is_some s.output)) 0) g
+    ∙ ap (λ b. slice_get (part_reasons (part_at words n) (word_at words n) last b (is_some (seen_below words n).output)) 0) (source_seen words n)
+    ∙ ap (λ b. slice_get (part_reasons (part_at words n) (word_at words n) last (any_below (is_source words) n) b) 0) (output_seen words n)
 
 -- what the loop knows after a word
 pub noted_is : (words : List (List ℕ)) (n : ℕ) (owner : Option Effect) (word : List ℕ) (seen : Seen) (part : Part) → part ≡ part_of owner n word → owner ≡ owner_at words n → word ≡ word_at words n → seen ≡ seen_below words n → noted part n word seen ≡ seen_below words (n + 1)
 noted_is words n owner word seen part p e f g =
     ap (λ q. noted q n word seen) p
-      ∙ ap (λ o. noted (part_of o n word) n word seen) e
-      ∙ ap (λ w. noted (part_of (owner_at words n) n w) n w seen) f
-      ∙ ap (noted (part_at words n) n (word_at words n)) g
-      ∙ seen-next words n
+    ∙ ap (λ o. noted (part_of o n word) n word seen) e
+    ∙ ap (λ w. noted (part_of (owner_at words n) n w) n w seen) f
+    ∙ ap (noted (part_at words n) n (word_at words n)) g
+    ∙ seen-next words n
 
 pub owed_is : (words : List (List ℕ)) (n : ℕ) (owner : Option Effect) (word : List ℕ) (part : Part) → part ≡ part_of owner n word → owner ≡ owner_at words n → word ≡ word_at words n → owed part ≡ owner_at words (n + 1)
 owed_is words n owner word part p e f =
     ap owed p
-      ∙ ap (λ o. owed (part_of o n word)) e
-      ∙ ap (λ w. owed (part_of (owner_at words n) n w)) f
-      ∙ sym (owner-next words n)
+    ∙ ap (λ o. owed (part_of o n word)) e
+    ∙ ap (λ w. owed (part_of (owner_at words n) n w)) f
+    ∙ sym (owner-next words n)
 
 -- the first place that gives a reason is the class
 pub local_is : (words : List (List ℕ)) (n : ℕ) (why : Why) → n < length words → first_forced words n ≡ None → reason_at words n ≡ Some why → verdict.Local why n ≡ verdict_of words
@@ -138,15 +136,15 @@ local_is [] n why within before here = absurd (omega arith)
 local_is (word ∷ more) n why within before here =
     let words = word ∷ more in
     sym (ap (λ f. by_place f (by_end (slice_get (end_reasons words) 0) (length words) (verdict.Remote (plan_of words))))
-      (ap (first_forced words) (behind (length words) n within) ∙ forced_later words (suc n) (length words - suc n) (why, n) (forced-here words n why before here)))
+    (ap (first_forced words) (behind (length words) n within) ∙ forced_later words (suc n) (length words - suc n) (why, n) (forced-here words n why before here)))
   where
     behind : (len n : ℕ) → n < len → len ≡ len - suc n + suc n
     behind len n h = omega arith
 
 final_by : (compile assemble : Bool) (g : ℕ → Option Ending) (first : Option ℕ) (output : Option OutputPlace) (len : ℕ) →
-  final_verdict (record { compile = compile; assemble = assemble; source = option_map (input_at g) first; output = output }) len
-  ≡ by_end (slice_get (when (not (compile || assemble)) why.NoAction ++ when (compile && assemble) why.BothActions ++ when (not (is_some first)) why.NoInput) 0) len
-      (verdict.Remote (record { action = if assemble then Assemble else Compile; input = unwrap_or first 0; ending = unwrap_or (g (unwrap_or first 0)) C; output = output }))
+    final_verdict (record { compile = compile; assemble = assemble; source = option_map (input_at g) first; output = output }) len
+    ≡ by_end (slice_get (when (not (compile || assemble)) why.NoAction ++ when (compile && assemble) why.BothActions ++ when (not (is_some first)) why.NoInput) 0) len
+    (verdict.Remote (record { action = if assemble then Assemble else Compile; input = unwrap_or first 0; ending = unwrap_or (g (unwrap_or first 0)) C; output = output }))
 final_by compile assemble g (Some k) output len = refl
 final_by true true g None output len = refl
 final_by true false g None output len = refl
@@ -160,9 +158,9 @@ final_is (word ∷ more) n seen some all none is =
     let words = word ∷ more in
     let len = length words in
     ap (λ s. final_verdict s len) is
-      ∙ ap (λ m. final_verdict (seen_below words m) len) all
-      ∙ final_by (any_below (compiles words) len) (any_below (assembles words) len) (λ at. source_of (part_at words at)) (first_below (is_source words) len) _ len
-      ∙ sym (ap (λ f. by_place f (by_end (slice_get (end_reasons words) 0) len (verdict.Remote (plan_of words)))) (ap (first_forced words) (sym all) ∙ none))
+    ∙ ap (λ m. final_verdict (seen_below words m) len) all
+    ∙ final_by (any_below (compiles words) len) (any_below (assembles words) len) (λ at. source_of (part_at words at)) (first_below (is_source words) len) _ len
+    ∙ sym (ap (λ f. by_place f (by_end (slice_get (end_reasons words) 0) len (verdict.Remote (plan_of words)))) (ap (first_forced words) (sym all) ∙ none))
 
 pub some_words : (n : ℕ) (r : Bool) → r ≡ (n == 0) → r ≡ false → 0 < n
 some_words n r e f = grind (arith, nat_tests)

@@ -9,7 +9,6 @@ use Rattle.arg_scan.specs.declared.why.Why.TheVariants as why
 use Rattle.arg_scan.specs.declared.names.Ending.{Ending}
 use Rattle.arg_scan.specs.declared.part.Operand.{Operand}
 use Rattle.arg_scan.specs.declared.part.Operand.TheVariants as operand
-use Rattle.arg_scan.specs.declared.part.Role.{Role}
 use Rattle.arg_scan.specs.declared.part.Role.TheVariants as role
 use Rattle.arg_scan.specs.declared.part.Part.{Part}
 use Rattle.arg_scan.specs.declared.part.Part.TheVariants as part

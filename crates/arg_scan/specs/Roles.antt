@@ -1,11 +1,10 @@
 -- What each word of a command is used as.
-use Rattle.std.specs.Prelude.{ℕ, zero, suc, Bool, true, false, ◌==◌, nat_eq, List, [], length, codes, Option, None, Some, bytes_eq, if◌then◌else◌}
+use Rattle.std.specs.Prelude.{ℕ, zero, suc, ◌==◌, nat_eq, List, [], length, codes, Option, None, Some, bytes_eq, if◌then◌else◌}
 use Rattle.std.specs.List.{slice_index_or, starts_with}
 use Rattle.option_table.specs.declared.row.Form.{Form}
 use Rattle.option_table.specs.declared.row.Form.TheVariants as form
 use Rattle.option_table.specs.declared.row.Effect.{Effect}
 use Rattle.option_table.specs.declared.row.Effect.TheVariants as effect
-use Rattle.option_table.specs.declared.row.OptionRow.{OptionRow}
 use Rattle.option_table.specs.declared.table.Found.{Found}
 use Rattle.option_table.specs.Rows.{found, row_at}
 use Rattle.option_table.specs.Gcc.{gcc_rows}

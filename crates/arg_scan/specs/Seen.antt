@@ -1,8 +1,7 @@
 -- What was seen of a command's words, and how one more word adds to it.
-use Rattle.std.specs.Prelude.{ℕ, Bool, not, ◌||◌, ◌&&◌, List, ◌++◌, Option, None, Some, is_some, unwrap_or, if◌then◌else◌}
+use Rattle.std.specs.Prelude.{ℕ, not, ◌||◌, ◌&&◌, List, ◌++◌, Option, None, Some, is_some, unwrap_or, if◌then◌else◌}
 use Rattle.std.specs.List.{slice_get}
 use Rattle.std.specs.Option.{option_map, option_or}
-use Rattle.arg_scan.specs.declared.names.Ending.{Ending}
 use Rattle.arg_scan.specs.declared.names.Ending.TheVariants.{C}
 use Rattle.arg_scan.specs.declared.part.Part.{Part}
 use Rattle.arg_scan.specs.declared.why.Why.{Why}

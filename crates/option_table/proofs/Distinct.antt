@@ -1,9 +1,9 @@
 -- Rows with one spelling are one row, so that at most one row fits a word.
-use Rattle.std.proofs.Common.{◌≡◌, ℕ, zero, suc, ◌<◌, ◌≤◌, Bool, true, false, ◌&&◌, ◌||◌, not, leb, nat_eq, List, [], ◌∷◌, ◌++◌, length, take, drop, get_or, Option, Some, None, refl, sym, ◌∙◌, ap, ◌⊎◌, inl, inr, arith}
+use Rattle.std.proofs.Common.{◌≡◌, ℕ, zero, suc, ◌<◌, ◌≤◌, Bool, true, false, ◌&&◌, ◌||◌, not, leb, List, [], ◌∷◌, ◌++◌, length, take, drop, get_or, Option, Some, None, refl, sym, ◌∙◌, ap, ◌⊎◌, inl, inr, arith}
 use Rattle.std.specs.Option.{option_or}
 use Rattle.std.proofs.lemmas.Grind.{common_steps}
-use Rattle.std.specs.Prelude.{bytes_eq, IsNone, IsTrue}
-use Rattle.std.specs.List.{list_all, list_any, position, starts_with}
+use Rattle.std.specs.Prelude.{bytes_eq, IsNone}
+use Rattle.std.specs.List.{list_all, list_any, position}
 use Rattle.std.proofs.lemmas.Bool.{false≢true}
 use Rattle.std.proofs.lemmas.Bool.Decides.{Decides-eqb, leb_tells}
 use Rattle.std.proofs.lemmas.List.Folds.{list_any_at, list_any_none, list_all_at}
@@ -14,7 +14,7 @@ use Rattle.option_table.specs.declared.row.Form.TheVariants as form
 use Rattle.option_table.specs.declared.row.Effect.TheVariants as effect
 use Rattle.option_table.specs.declared.row.OptionRow.{OptionRow}
 use Rattle.option_table.specs.Rows.{row, row_at, is_used, fits_equal, fits_begin, fits_longest, fits_not, place_of, are_distinct, FitsAt}
-use Rattle.option_table.proofs.Positions.{and_parts, fails_by, position_passes, position_fails}
+use Rattle.option_table.proofs.Positions.{and_parts, position_passes, position_fails}
 
 abbrev nowhere : OptionRow
 nowhere = row [] form.None effect.Keep

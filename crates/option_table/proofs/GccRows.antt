@@ -1,6 +1,6 @@
 -- The rows of gcc's options, computed.
 use Rattle.std.proofs.Common.{◌≡◌, refl, ◌∙◌, ap}
-use Rattle.std.specs.Prelude.{List, [], ◌∷◌, IsTrue}
+use Rattle.std.specs.Prelude.{List, ◌∷◌, IsTrue}
 use Rattle.option_table.specs.declared.row.OptionRow.{OptionRow}
 use Rattle.option_table.specs.Rows.{are_distinct}
 use Rattle.option_table.specs.Gcc.{gcc_rows}

@@ -1,6 +1,6 @@
 -- The longest spelling that a word begins with.
-use Rattle.std.proofs.Common.{◌≡◌, ℕ, ◌<◌, ◌≤◌, Bool, true, false, ◌&&◌, ◌||◌, not, leb, List, [], length, get_or, Option, Some, None, IsNone, MatchOption, refl, sym, ◌∙◌, ap, arith}
-use Rattle.std.specs.List.{list_all, position, AllPass}
+use Rattle.std.proofs.Common.{◌≡◌, ℕ, ◌<◌, ◌≤◌, Bool, true, false, ◌&&◌, ◌||◌, not, leb, List, [], length, Option, Some, None, IsNone, MatchOption, refl, sym, ◌∙◌, ap, arith}
+use Rattle.std.specs.List.{list_all, position}
 use Rattle.std.proofs.lemmas.List.Sums.{list_all-from_AllPass}
 use Rattle.std.proofs.lemmas.List.Folds.{list_all_at}
 use Rattle.std.proofs.lemmas.List.Elements.{All-from_get_or}

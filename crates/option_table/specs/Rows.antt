@@ -1,6 +1,6 @@
 -- Which row of a table of options fits a word.
-use Rattle.std.specs.Prelude.{ℕ, ◌≡◌, ◌<◌, Bool, true, false, ◌&&◌, ◌||◌, not, nat_le, nat_lt, nat_eq, List, [], ◌∷◌, length, Option, Some, None, bytes_eq, IsTrue}
-use Rattle.std.specs.List.{list_all, list_any, starts_with, position, slice_get, slice_index_or}
+use Rattle.std.specs.Prelude.{ℕ, ◌<◌, Bool, true, false, ◌&&◌, ◌||◌, not, nat_le, nat_lt, nat_eq, List, [], ◌∷◌, length, Option, bytes_eq, IsTrue}
+use Rattle.std.specs.List.{list_all, list_any, starts_with, position, slice_index_or}
 use Rattle.std.specs.Option.{option_map, option_or}
 use Rattle.option_table.specs.declared.row.Form.{Form}
 use Rattle.option_table.specs.declared.row.Form.TheVariants as form

@@ -1,4 +1,3 @@
-use Rattle.std.proofs.Common.{sym}
 use Rattle.arg_scan.proofs.Firsts.{past_end}
 use Rattle.arg_scan.proofs.command.word_at.Goals as goal
 

@@ -1,6 +1,6 @@
 -- The array holds the rows of the table one by one; the table's rows were computed to be distinct.
-use Rattle.std.proofs.Common.{◌≡◌, refl, sym, ap, subst, lit<}
-use Rattle.std.specs.Prelude.{List, [], ◌∷◌, IsTrue}
+use Rattle.std.proofs.Common.{refl, sym, subst, lit<}
+use Rattle.std.specs.Prelude.{List, IsTrue}
 use Rattle.option_table.specs.declared.row.OptionRow.{OptionRow}
 use Rattle.option_table.specs.Rows.{are_distinct}
 use Rattle.option_table.specs.Gcc.{gcc_rows}

@@ -1,4 +1,4 @@
-use Rattle.std.proofs.Common.{sym, arith, subst}
+use Rattle.std.proofs.Common.{sym, arith}
 use Rattle.option_table.proofs.Longest.{longest_is, all_begin_not}
 use Rattle.option_table.proofs.table.longest_row.Goals as goal
 
