@@ -12,6 +12,7 @@ use Rattle.arg_scan.specs.declared.names.Ending.{Ending}
 use Rattle.arg_scan.specs.declared.names.Ending.TheVariants.{C}
 use Rattle.arg_scan.specs.declared.verdict.Action.TheVariants.{Compile, Assemble}
 use Rattle.arg_scan.specs.declared.verdict.OutputPlace.{OutputPlace}
+use Rattle.arg_scan.specs.declared.verdict.Plan.{Plan}
 use Rattle.arg_scan.specs.declared.verdict.Verdict.TheVariants as verdict
 use Rattle.arg_scan.specs.declared.seen.Input.{Input}
 use Rattle.arg_scan.specs.declared.seen.Seen.{Seen}
@@ -164,3 +165,15 @@ final_is (word ∷ more) n seen some all none is =
 
 pub some_words : (n : ℕ) (r : Bool) → r ≡ (n == 0) → r ≡ false → 0 < n
 some_words n r e f = grind (arith, nat_tests)
+
+remote_by : (f : Option (Why × ℕ)) (e : Option Why) (len : ℕ) (plan p : Plan) → by_place f (by_end e len (verdict.Remote p)) ≡ verdict.Remote plan → plan ≡ p
+remote_by (Some f) e len plan p h = cc
+remote_by None (Some why) len plan p h = cc
+remote_by None None len plan p h = cc
+
+-- a command that may be sent is sent by its plan
+pub remote_plan_is : (words : List (List ℕ)) (plan : Plan) → verdict_of words ≡ verdict.Remote plan → plan ≡ plan_of words
+remote_plan_is [] plan h = cc
+remote_plan_is (word ∷ more) plan h =
+    let words = word ∷ more in
+    remote_by (first_forced words (length words)) (slice_get (end_reasons words) 0) (length words) plan (plan_of words) h

@@ -3,7 +3,7 @@
 ghost use Rattle.std.specs.Prelude.{◌≡◌, ◌≢◌, IfOk};
 ghost use Rattle.arg_scan.specs.Roles.{word_at};
 ghost use Rattle.arg_scan.specs.Names.{derived_output};
-ghost use Rattle.arg_scan.specs.Class.{ClassOf, output_text};
+ghost use Rattle.arg_scan.specs.Class.{ClassOf, IsRemote, output_text};
 
 use crate::class::Scan;
 use crate::names::{Ending, last_name, name_from};
@@ -15,7 +15,8 @@ use std::alloc::{AllocError, Global};
 ///
 /// The rules are those of docs/command-words.md. `Memory` may stand in place of `Remote` alone.
 pub fn scan(alloc: Global, words: &Words) -> Scan
-    ensures { result ≢ Scan.Memory → ClassOf words.now result }
+    ensures class { result ≢ Scan.Memory → ClassOf words.now result }
+    ensures memory { result ≡ Scan.Memory → IsRemote words.now }
 {
     match classify(words) {
         Verdict::Empty => Scan::Empty,

@@ -12,6 +12,6 @@ mod why;
 pub use class::Scan;
 pub use command::{output_name, scan};
 pub use names::Ending;
-pub use part::{Operand, Part, Role};
-pub use verdict::{Action, OutputPlace, Plan, Verdict, classify};
+pub use part::{Operand, Part, Role, part_of};
+pub use verdict::{Action, OutputPlace, Plan, Verdict, classify, remote_plan};
 pub use why::Why;

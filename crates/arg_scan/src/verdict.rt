@@ -1,7 +1,7 @@
 //! The class of a command by places.
 
 ghost use Rattle.std.specs.Prelude.{◌≡◌};
-ghost use Rattle.arg_scan.specs.Class.{verdict_of};
+ghost use Rattle.arg_scan.specs.Class.{plan_of, verdict_of, IsRemote};
 
 use crate::names::Ending;
 use crate::part::part_of;
@@ -74,4 +74,16 @@ pub fn classify(words: &Words) -> Verdict
         owner = part.owed();
     }
     seen.verdict(words.len())
+}
+
+/// How a command that may be sent may be sent. It takes no memory.
+pub fn remote_plan(words: &Words) -> Plan
+    requires { IsRemote words.now }
+    ensures class { verdict_of words.now ≡ Verdict.Remote result }
+    ensures value { result ≡ plan_of words.now }
+{
+    match classify(words) {
+        Verdict::Remote(plan) => plan,
+        _ => unreachable!(),
+    }
 }
