@@ -6,6 +6,8 @@ mod listing;
 mod row;
 mod spelling;
 mod table;
+#[cfg(test)]
+mod tests;
 
 pub use gcc::gcc_table;
 pub use listing::is_listing;
