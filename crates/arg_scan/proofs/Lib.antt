@@ -1,3 +1,4 @@
+pub mod Causes
 pub mod Firsts
 pub mod LastName
 pub mod Places

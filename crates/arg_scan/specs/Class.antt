@@ -1,5 +1,5 @@
 -- The class of a command: it stays on this machine, and why, or it may be sent, and how.
-use Rattle.std.specs.Prelude.{ℕ, zero, suc, ◌≡◌, Bool, true, false, IsTrue, List, [], ◌∷◌, length, drop, Option, None, Some, unwrap_or, if◌then◌else◌}
+use Rattle.std.specs.Prelude.{ℕ, zero, suc, ◌≡◌, ◌<◌, ◌⊎◌, Bool, true, false, IsTrue, List, [], ◌∷◌, length, drop, Option, None, Some, unwrap_or, if◌then◌else◌}
 use Rattle.std.specs.List.{slice_get}
 use Rattle.std.specs.Option.{option_map, option_or}
 use Rattle.arg_scan.specs.declared.why.Why.{Why}
@@ -18,7 +18,7 @@ use Rattle.arg_scan.specs.declared.class.Scan.{Scan}
 use Rattle.arg_scan.specs.declared.class.Scan.TheVariants as scan
 use Rattle.arg_scan.specs.Names.{derived_output, ext_of, is_preprocessed}
 use Rattle.arg_scan.specs.Roles.{word_at, part_at}
-use Rattle.arg_scan.specs.Forces.{first_below, any_below, source_of, is_source, is_output, assembles, reasons_at, end_reasons}
+use Rattle.arg_scan.specs.Forces.{Forces, NothingForces, first_below, any_below, source_of, is_source, is_output, assembles, reasons_at, end_reasons}
 
 -- the first reason of the word at a place
 abbrev pub reason_at : List (List ℕ) → ℕ → Option Why
@@ -68,6 +68,29 @@ verdict_of (word ∷ more) =
     let words = word ∷ more in
     by_place (first_forced words (length words))
     (by_end (slice_get (end_reasons words) 0) (length words) (verdict.Remote (plan_of words)))
+
+-- this place is the least that gives a reason, and this is the first reason that it gives
+pub record IsFirstReason (words : List (List ℕ)) (at : ℕ) (why : Why) : Type 0 where
+  pub within : at < length words
+  pub first : reason_at words at ≡ Some why
+  pub before : (k : ℕ) → k < at → (other : Why) → ¬ Forces words k other
+
+-- no place gives a reason, and this is the first that the whole command gives, behind the last word
+pub record IsEndReason (words : List (List ℕ)) (at : ℕ) (why : Why) : Type 0 where
+  pub behind : at ≡ length words
+  pub places : NothingForces words
+  pub first : slice_get (end_reasons words) 0 ≡ Some why
+
+-- neither a place nor the whole command gives a reason
+pub record IsUnforced (words : List (List ℕ)) : Type 0 where
+  pub places : NothingForces words
+  pub whole : end_reasons words ≡ []
+
+-- the cause of each class
+abbrev pub HasCause : List (List ℕ) → Verdict → Type 0
+HasCause words verdict.Empty = words ≡ []
+HasCause words (verdict.Local why at) = IsFirstReason words at why ⊎ IsEndReason words at why
+HasCause words (verdict.Remote plan) = IsUnforced words
 
 -- the name of the output
 abbrev pub output_text : List (List ℕ) → Plan → Option OutputPlace → List ℕ

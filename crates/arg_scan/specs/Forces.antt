@@ -1,5 +1,5 @@
 -- What makes a command stay on this machine: each place by itself.
-use Rattle.std.specs.Prelude.{ℕ, zero, suc, ◌+◌, Bool, true, false, not, ◌&&◌, ◌||◌, ◌==◌, List, [], ◌∷◌, ◌++◌, length, drop, codes, Option, None, Some, is_some, bytes_eq, if◌then◌else◌, Contains}
+use Rattle.std.specs.Prelude.{ℕ, zero, suc, ◌+◌, ◌<◌, Bool, true, false, not, ◌&&◌, ◌||◌, ◌==◌, List, [], ◌∷◌, ◌++◌, length, drop, codes, Option, None, Some, is_some, bytes_eq, if◌then◌else◌, Contains}
 use Rattle.std.specs.Option.{option_or, option_to_list}
 use Rattle.option_table.specs.declared.row.Effect.{Effect}
 use Rattle.option_table.specs.declared.row.Effect.TheVariants as effect
@@ -137,6 +137,10 @@ reasons_at words at =
 -- the word at a place gives this reason
 abbrev pub Forces : List (List ℕ) → ℕ → Why → Type 0
 Forces words at why = Contains (reasons_at words at) why
+
+-- no word gives a reason
+abbrev pub NothingForces : List (List ℕ) → Type 0
+NothingForces words = (k : ℕ) → k < length words → (why : Why) → ¬ Forces words k why
 
 -- the reasons that the whole command gives, in their order
 abbrev pub end_reasons : List (List ℕ) → List Why

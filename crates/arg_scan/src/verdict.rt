@@ -1,13 +1,13 @@
 //! The class of a command by places.
 
 ghost use Rattle.std.specs.Prelude.{◌≡◌};
-ghost use Rattle.arg_scan.specs.Class.{plan_of, verdict_of, IsRemote};
+ghost use Rattle.arg_scan.specs.Class.{HasCause, IsRemote, plan_of, verdict_of};
 
 use crate::names::Ending;
 use crate::part::part_of;
 use crate::seen::Seen;
 use crate::why::Why;
-use farm_types::Words;
+use farm_types::{Bytes, Words};
 use option_table::gcc_table;
 
 /// What a command asks for.
@@ -56,9 +56,15 @@ pub enum Verdict {
 ///
 /// The rules are those of docs/command-words.md.
 pub fn classify(words: &Words) -> Verdict
+    ensures value { result ≡ verdict_of words.now }
+    ensures cause { HasCause words.now result }
+{
+    verdict_by_places(words.as_slice())
+}
+
+fn verdict_by_places(words: &[Bytes]) -> Verdict
     ensures { result ≡ verdict_of words.now }
 {
-    let words = words.as_slice();
     if words.is_empty() {
         return Verdict::Empty;
     }

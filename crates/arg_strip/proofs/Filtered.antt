@@ -13,7 +13,7 @@ use Rattle.arg_scan.specs.declared.part.Part.{Part}
 use Rattle.arg_scan.specs.declared.part.Part.TheVariants as part
 use Rattle.arg_scan.specs.Forces.{effect_reasons, misses_operand, names_output, output_reasons, part_reasons, source_of, when}
 use Rattle.arg_strip.specs.Words.{effect_is_sent, is_sent}
-use Rattle.arg_strip.proofs.Labels.{Label, picks, any_label, source_label, operand_text, output_label, is_source_part, is_output_part, is_nil, IsFree}
+use Rattle.arg_strip.proofs.Labels.{Label, or_false, picks, any_label, source_label, operand_text, output_label, is_source_part, is_output_part, is_nil, IsFree}
 use Rattle.arg_strip.proofs.Kept.{kept, output_tail}
 
 -- what is never picked of a word that isn't sent
@@ -139,17 +139,13 @@ not_nil (l ∷ ls) name = refl
 free_tail : (name : List ℕ) (source : Bool) → slice_get (output_reasons name) 0 ≡ None → IsFree source false (output_tail name)
 free_tail name source h = (refl, (h, tt))
 
-or_false : (a : Bool) → (a || false) ≡ a
-or_false true = refl
-or_false false = refl
-
 free_step : (l : Label) (k : List Label) (name : List ℕ) (last source output b : Bool) → is_sent l.part ≡ b → slice_get (part_reasons l.part l.word last source output) 0 ≡ None → IsFree (source || is_source_part l.part l.word) false (k ++ output_tail name) → IsFree source false ((if b then l ∷ k else k) ++ output_tail name)
 free_step l k name last source output true sent h rest = (
   ap (λ last. slice_get (part_reasons l.part l.word last source false) 0) (not_nil k name) ∙ calm l.part l.word last source output sent h,
   subst (λ out. IsFree (source || is_source_part l.part l.word) out (k ++ output_tail name)) (sym (output_not_sent l.part sent)) rest,
 )
 free_step l k name last source output false sent h rest =
-    subst (λ src. IsFree src false (k ++ output_tail name)) (ap (λ t. source || t) (source_is_sent l.part l.word sent) ∙ or_false source) rest
+    subst (λ src. IsFree src false (k ++ output_tail name)) (ap (λ t. source || t) (source_is_sent l.part l.word sent) ∙ sym (or_false source)) rest
 
 -- the words that are sent give no reason
 pub free-kept : (ls : List Label) (name : List ℕ) (source output : Bool) → slice_get (output_reasons name) 0 ≡ None → IsFree source output ls → IsFree source false (kept ls ++ output_tail name)

@@ -93,10 +93,10 @@ IsFree source output (l ∷ more) =
 abbrev pub at_place : {A : Type 0} → (Part → List ℕ → A) → List (List ℕ) → ℕ → A
 at_place f words at = f (part_at words at) (word_at words at)
 
-one_on : (n m len : ℕ) → n + suc m ≡ len → suc n + m ≡ len
+pub one_on : (n m len : ℕ) → n + suc m ≡ len → suc n + m ≡ len
 one_on n m len e = omega arith
 
-none_on : (n len : ℕ) → n + 0 ≡ len → len ≡ n
+pub none_on : (n len : ℕ) → n + 0 ≡ len → len ≡ n
 none_on n len e = omega arith
 
 part_of-tail : (owner : Option Effect) (i : ℕ) (word : List ℕ) → part_of owner (suc i) word ≡ tail_part owner word
@@ -129,7 +129,7 @@ gathered_from pick words len (suc m) n e =
     gathered_from pick words len m (suc n) (one_on n m len e)
     ∙ append_assoc (gather (at_place pick words) n) (option_to_list (at_place pick words n)) (picks pick (labels_of words (suc n) m))
 
-zero_on : (len : ℕ) → 0 + len ≡ len
+pub zero_on : (len : ℕ) → 0 + len ≡ len
 zero_on len = omega arith
 
 -- what is gathered of the places is picked of the labels
@@ -137,12 +137,12 @@ pub gathered_labels : {A : Type 0} (pick : Part → List ℕ → Option A) (word
 gathered_labels pick words =
     gathered_from pick words (length words) (length words) 0 (zero_on (length words)) ∙ ap (picks pick) (labels_all words)
 
-some_or : (o : Option ℕ) (b : Bool) (n : ℕ) → is_some (option_or o (if b then Some n else None)) ≡ (is_some o || b)
+pub some_or : (o : Option ℕ) (b : Bool) (n : ℕ) → is_some (option_or o (if b then Some n else None)) ≡ (is_some o || b)
 some_or (Some k) b n = refl
 some_or None true n = refl
 some_or None false n = refl
 
-or_false : (a : Bool) → a ≡ (a || false)
+pub or_false : (a : Bool) → a ≡ (a || false)
 or_false true = refl
 or_false false = refl
 

@@ -23,7 +23,7 @@ use Rattle.arg_scan.specs.Roles.{part_at, word_at}
 use Rattle.arg_scan.specs.Forces.{action_of, any_below, asks_assemble, asks_compile, assembles, compiles, end_reasons, first_below, is_output, is_source, output_reasons, source_of, when}
 use Rattle.arg_scan.specs.Class.{IsRemote, class_of, scan_of, by_end, by_place, first_forced, input_place, is_remote_verdict, output_place, output_text, plan_of, verdict_of}
 use Rattle.arg_strip.specs.Words.{gather, is_sent, output_of, AsksTheSame, SameRemote, placed_text, placed_word, placed_words, sent_word, stripped}
-use Rattle.arg_strip.proofs.Labels.{Label, any_label, any_labels, at_place, gathered_labels, is_source_part, labels, label_at, output_label, picks, source_label, IsFree}
+use Rattle.arg_strip.proofs.Labels.{Label, or_false, any_label, any_labels, at_place, gathered_labels, is_source_part, labels, label_at, output_label, picks, source_label, IsFree}
 use Rattle.arg_strip.proofs.Reading.{free_labels, free_places, output_labels, source_labels, text_at}
 use Rattle.arg_strip.proofs.Kept.{kept, labels_kept, output_tail, sent_labels, words_of}
 use Rattle.arg_strip.proofs.Filtered.{FailsDropped, SkipsDropped, any-append, any-kept, free-kept, kept_again, output-kept, picks-append, picks-kept, source-kept, source_is_sent}
@@ -101,17 +101,13 @@ compile_part p word = asks_compile (action_of p word)
 abbrev assemble_part : Part → List ℕ → Bool
 assemble_part p word = asks_assemble (action_of p word)
 
-or_false : (a : Bool) → (a || false) ≡ a
-or_false true = refl
-or_false false = refl
-
 same_any : (test : Part → List ℕ → Bool) (words : List (List ℕ)) → FailsDropped test → any_label test (output_tail (output_of words)) ≡ false → IsCalm words → any_below (at_place test (stripped words)) (length (stripped words)) ≡ any_below (at_place test words) (length words)
 same_any test words fails tail calm =
     any_labels test (stripped words)
     ∙ ap (any_label test) (labels_stripped words calm)
     ∙ any-append test (kept (labels words)) (output_tail (output_of words))
     ∙ ap (λ b. any_label test (kept (labels words)) || b) tail
-    ∙ or_false _
+    ∙ sym (or_false (any_label test (kept (labels words))))
     ∙ any-kept test fails (labels words)
     ∙ sym (any_labels test words)
 

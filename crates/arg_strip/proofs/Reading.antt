@@ -11,16 +11,8 @@ use Rattle.arg_scan.specs.declared.part.Part.TheVariants as part
 use Rattle.arg_scan.specs.Roles.{part_at, word_at}
 use Rattle.arg_scan.specs.Forces.{first_below, any_below, part_reasons}
 use Rattle.arg_scan.specs.Class.{first_forced, output_place, reason_at}
-use Rattle.arg_strip.proofs.Labels.{Label, label_at, labels, labels_of, labels_all, at_place, is_source_part, is_output_part, source_label, first_word, operand_text, output_label, is_nil, IsFree}
-
-one_on : (n m len : ℕ) → n + suc m ≡ len → suc n + m ≡ len
-one_on n m len e = omega arith
-
-none_on : (n len : ℕ) → n + 0 ≡ len → len ≡ n
-none_on n len e = omega arith
-
-zero_on : (len : ℕ) → 0 + len ≡ len
-zero_on len = omega arith
+use Rattle.arg_scan.proofs.Causes.{all_none, none_below}
+use Rattle.arg_strip.proofs.Labels.{none_on, one_on, some_or, zero_on, Label, label_at, labels, labels_of, labels_all, at_place, is_source_part, is_output_part, source_label, first_word, operand_text, output_label, is_nil, IsFree}
 
 or_none : {X : Type 0} (o : Option X) → o ≡ option_or o None
 or_none (Some x) = refl
@@ -81,35 +73,6 @@ output_from words (suc m) n e =
 -- the output's name by its place is that by its label
 pub output_labels : (words : List (List ℕ)) → option_map (text_at words) (first_below (at_place is_output_part words) (length words)) ≡ output_label (labels words)
 output_labels words = output_from words (length words) 0 (zero_on (length words)) ∙ ap output_label (labels_all words)
-
-or_parts : {X : Type 0} (a b : Option X) → option_or a b ≡ None → (a ≡ None) × (b ≡ None)
-or_parts (Some x) b h = cc
-or_parts None b h = (refl, h)
-
-map_none : {X Y : Type 0} (f : X → Y) (o : Option X) → option_map f o ≡ None → o ≡ None
-map_none f (Some x) h = cc
-map_none f None h = refl
-
--- where no place below n was found to give a reason, none does
-pub none_below : (words : List (List ℕ)) (n k : ℕ) → first_forced words n ≡ None → k < n → reason_at words k ≡ None
-none_below words zero k h l = absurd (omega arith)
-none_below words (suc n) k h l =
-    let parts = or_parts (first_forced words n) (option_map (λ why. (why, n)) (reason_at words n)) h in
-    elim (leb_tells (suc k) n) [
-      | inl below ↦ none_below words n k parts.0 below.1
-      | inr not ↦ (let same : n ≡ k = omega (arith, not.1) in subst (λ j. reason_at words j ≡ None) same (map_none (λ why. (why, n)) (reason_at words n) parts.1))
-    ]
-
-pub all_none : (words : List (List ℕ)) (n : ℕ) → ((k : ℕ) → k < n → reason_at words k ≡ None) → first_forced words n ≡ None
-all_none words zero h = refl
-all_none words (suc n) h =
-    ap (λ o. option_or o (option_map (λ why. (why, n)) (reason_at words n))) (all_none words n (λ k l. h k (omega arith)))
-    ∙ ap (option_map (λ why. (why, n))) (h n (omega arith))
-
-some_or : (o : Option ℕ) (b : Bool) (n : ℕ) → is_some (option_or o (if b then Some n else None)) ≡ (is_some o || b)
-some_or (Some k) b n = refl
-some_or None true n = refl
-some_or None false n = refl
 
 last_is : (words : List (List ℕ)) (n m : ℕ) → n + suc m ≡ length words → is_nil (labels_of words (suc n) m) ≡ (n + 1 == length words)
 last_is words n zero e = elim (eqb_tells (n + 1) (length words)) [ inl h ↦ sym h.0 | inr h ↦ absurd (h.1 (omega arith)) ]
