@@ -1,0 +1,28 @@
+-- What a run of one job asks of a station, and what it leaves.
+use Rattle.std.specs.Prelude.{◌≡◌, ℕ, false, List, map}
+use Rattle.farm_types.specs.declared.placed.Word.{Word}
+use Rattle.farm_types.specs.declared.placed.Word.TheVariants.{Text}
+use Rattle.edge_traits.specs.declared.faults.Bounds.{Bounds}
+use Rattle.arg_scan.specs.declared.class.Scan.{Scan}
+use Rattle.arg_scan.specs.declared.class.Scan.TheVariants.{Remote}
+
+-- each word as it stands
+abbrev pub texts : List (List ℕ) → List Word
+texts words = map Text words
+
+-- a command that may be sent, whose source is still to be preprocessed
+abbrev pub IsUnpreprocessed : Scan → Type 0
+IsUnpreprocessed (Remote action input output preprocessed ext) = preprocessed ≡ false
+IsUnpreprocessed other = ⊥
+
+-- the most bytes of what a preprocessor gives
+abbrev pub preprocessor_bounds : Bounds
+preprocessor_bounds = record { out = 41943040; err = 1048576; object = 0 }
+
+-- the most bytes of what a compile gives
+abbrev pub compile_bounds : Bounds
+compile_bounds = record { out = 1048576; err = 1048576; object = 33554432 }
+
+-- the most bytes of what a command in place gives: its files are its own
+abbrev pub in_place_bounds : Bounds
+in_place_bounds = record { out = 8388608; err = 1048576; object = 0 }
