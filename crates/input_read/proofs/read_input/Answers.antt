@@ -1,0 +1,9 @@
+use Rattle.std.proofs.Common.{◌++◌, refl, take}
+use Rattle.input_read.proofs.ReadLemmas.{TookIn-join}
+use Rattle.input_read.proofs.read_input.Goals as goal
+
+pub returns-in_err-try_extend-in-Ok-clause-some :
+    goal.returns-in_err-try_extend-in-Ok-clause-some
+returns-in_err-try_extend-in-Ok-clause-some g c =
+    let read = c.in-Ok.ensures in
+    record { text = _; took = TookIn-join c.reading.invariant.took read.read read.left read.cause.later refl }

@@ -1,0 +1,41 @@
+//! Reads an input to its end, or to a limit.
+#![tactic(auto)]
+
+ghost use Rattle.std.specs.Prelude.{◌≡◌, ◌<◌, false, IfOk, IsErr};
+ghost use Rattle.input_read.specs.Reads.{HasRead, HasReadSome};
+
+use edge_traits::{EdgeFault, Source};
+use farm_types::Bytes;
+use std::alloc::{AllocError, Global};
+
+/// How the reading of an input ended.
+#[derive(Drop)]
+pub enum Input {
+    Whole(Bytes),
+    TooLong,
+    Unread,
+}
+
+/// Reads the input to its end, until it has given so many bytes, or until its count rose.
+pub fn read_input<R: Source>(
+    alloc: Global,
+    source: &mut R,
+    limit: usize,
+) -> Result<Input, AllocError>
+    requires { (R.shows source.old).ended ≡ false }
+    ensures read { IfOk result (λ input. HasRead limit input (R.shows source.old) (R.shows source.new)) }
+    ensures some { HasReadSome (R.shows source.old) (R.shows source.new) }
+{
+    let mut room = [0; 512];
+    let mut got = Bytes::new(alloc);
+    'reading: while got.len() < limit {
+        let want = (limit - got.len()).min(512);
+        match source.read(&mut room[..want]) {
+            Ok(0) => return Ok(Input::Whole(got)),
+            Ok(count) => got.try_extend(&room[..count])?,
+            Err(EdgeFault::Failed) => return Ok(Input::Unread),
+            Err(EdgeFault::Memory) => return Err(AllocError),
+        }
+    }
+    Ok(Input::TooLong)
+}

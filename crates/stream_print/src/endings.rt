@@ -1,0 +1,65 @@
+//! How a program ends: what it prints last, and the exit status that it answers.
+
+ghost use Rattle.std.specs.Prelude.{[], ◌∷◌};
+ghost use Rattle.stream_print.specs.Prints.{sinks_view};
+ghost use Rattle.stream_print.specs.Ends.{Ends, WantOf, complaint};
+
+use crate::{Piece, PrintStop, print, print_all};
+use edge_traits::Sink;
+
+/// The exit status where a sink failed or took 0 bytes.
+pub const STOPPED: u8 = 100;
+
+/// The exit status for want of memory.
+pub const NO_MEMORY: u8 = 105;
+
+/// Prints the notice that memory is wanting on the sink of errors, and answers the exit status: 105, or 100
+/// where that sink stopped.
+pub fn no_memory<O: Sink, E: Sink>(notice: &[u8], out: &mut O, err: &mut E) -> u8
+    ensures { WantOf notice.now [] (sinks_view O.shows E.shows out.old err.old)
+        (sinks_view O.shows E.shows out.new err.new) result }
+{
+    match print(err, notice) {
+        Ok(()) => NO_MEMORY,
+        Err(PrintStop::Stopped) => STOPPED,
+        Err(PrintStop::Memory) => NO_MEMORY,
+    }
+}
+
+/// Prints these texts, and answers this exit status. Where a sink stopped, the answer is 100; where one wanted
+/// memory, the notice follows, and the answer is that of `no_memory`.
+pub fn finish<O: Sink, E: Sink>(
+    pieces: &[Piece],
+    status: u8,
+    notice: &[u8],
+    out: &mut O,
+    err: &mut E,
+) -> u8
+    ensures { Ends notice.now pieces.now status (sinks_view O.shows E.shows out.old err.old)
+        (sinks_view O.shows E.shows out.new err.new) result }
+{
+    match print_all(pieces, out, err) {
+        Ok(()) => status,
+        Err(PrintStop::Stopped) => STOPPED,
+        Err(PrintStop::Memory) => no_memory(notice, out, err),
+    }
+}
+
+/// Prints a text on the sink of errors, and answers this exit status, as `finish` does.
+pub fn complain<O: Sink, E: Sink>(
+    text: &[u8],
+    status: u8,
+    notice: &[u8],
+    out: &mut O,
+    err: &mut E,
+) -> u8
+    ensures { Ends notice.now (complaint text.now ∷ []) status
+        (sinks_view O.shows E.shows out.old err.old)
+        (sinks_view O.shows E.shows out.new err.new) result }
+{
+    match print(err, text) {
+        Ok(()) => status,
+        Err(PrintStop::Stopped) => STOPPED,
+        Err(PrintStop::Memory) => no_memory(notice, out, err),
+    }
+}
