@@ -1,0 +1,5 @@
+pub mod LastNames
+pub mod LineParts
+pub mod LineLemmas
+pub mod HostLemmas
+pub mod Four
