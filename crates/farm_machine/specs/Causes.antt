@@ -1,0 +1,23 @@
+-- Why a job may fail.
+use Rattle.std.specs.Prelude.{ℕ, ◌≤◌, ◌⊎◌}
+use Rattle.edge_traits.specs.declared.cause.Cause.TheVariants.{Dial}
+use Rattle.edge_traits.specs.Causes.{Rose}
+use Rattle.edge_traits.specs.Kits.{KitView}
+use Rattle.farm_machine.specs.declared.reports.Why5.TheVariants.{Station, Put as NotPut, Broke}
+use Rattle.farm_machine.specs.declared.reports.End.{End}
+use Rattle.farm_machine.specs.declared.reports.End.TheVariants.{Done, Failed}
+
+-- Each failure of a device goes with a rise of its count. What an exchange shows of its cause is a part of the course.
+abbrev pub HasEndCause : End → KitView → KitView → Type 0
+HasEndCause (Failed Station) old new = Rose old.station.faults new.station.faults ⊎ Rose old.station.overruns new.station.overruns
+HasEndCause (Failed NotPut) old new = Rose old.keeper.faults new.keeper.faults
+HasEndCause (Failed (Broke host Dial)) old new = Rose old.dialer.faults new.dialer.faults
+HasEndCause other old new = Unit {0}
+
+-- the counts have not fallen
+pub record KitLater (old new : KitView) : Type 0 where
+  pub station : old.station.faults ≤ new.station.faults
+  pub station_overruns : old.station.overruns ≤ new.station.overruns
+  pub keeper : old.keeper.faults ≤ new.keeper.faults
+  pub keeper_overruns : old.keeper.overruns ≤ new.keeper.overruns
+  pub dialer : old.dialer.faults ≤ new.dialer.faults

@@ -1,0 +1,4 @@
+pub mod Numbered
+pub mod Course
+pub mod Causes
+pub mod Plans
