@@ -1,0 +1,3 @@
+pub mod EndTexts
+pub mod Pieces
+pub mod Numbers

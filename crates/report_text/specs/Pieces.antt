@@ -1,0 +1,42 @@
+-- What is printed of some reports: texts for the two sinks, in order.
+use Rattle.std.specs.Prelude.{ℕ, ◌+◌, ◌==◌, Bool, true, false, List, [], ◌∷◌, ◌++◌, length, count_by, codes}
+use Rattle.std.specs.Fmt.{decimal}
+use Rattle.std.specs.List.{flat_map}
+use Rattle.farm_types.specs.declared.hosts.Host.{Host}
+use Rattle.stream_print.specs.declared.pieces.SinkKind.TheVariants.{Out, Err as ErrSink}
+use Rattle.stream_print.specs.declared.pieces.Piece.{Piece}
+use Rattle.farm_machine.specs.declared.reports.End.{End}
+use Rattle.farm_machine.specs.declared.reports.End.TheVariants.{Done, Failed}
+use Rattle.farm_machine.specs.declared.reports.Report.{Report}
+use Rattle.report_text.specs.EndTexts.{end_text}
+
+-- the messages of a job: for the sink of errors what the preprocessor noted and then the job's standard error, for the other
+-- its standard output; a job that failed has none
+abbrev pub err_messages : End → List ℕ
+err_messages (Done status note err out by) = note ++ err
+err_messages (Failed why) = []
+
+abbrev pub out_messages : End → List ℕ
+out_messages (Done status note err out by) = out
+out_messages (Failed why) = []
+
+-- the line of a job, by its number counted from 1
+abbrev pub line_text : List Host → Report → List ℕ
+line_text hosts report = decimal (report.number + 1) ++ codes " " ++ end_text hosts report.end ++ codes "\n"
+
+-- a job's messages on the sink of errors, and then its messages and its line on that of the output
+abbrev pub job_pieces : List Host → Report → List Piece
+job_pieces hosts report =
+    record { sink = ErrSink; bytes = err_messages report.end } ∷ record { sink = Out; bytes = out_messages report.end ++ line_text hosts report } ∷ []
+
+-- done with status 0
+abbrev pub is_done_well : End → Bool
+is_done_well (Done status note err out by) = status == 0
+is_done_well (Failed why) = false
+
+abbrev pub total_text : List Report → List ℕ
+total_text reports = codes "total " ++ decimal (length reports) ++ codes " ok " ++ decimal (count_by (λ report. is_done_well report.end) reports) ++ codes "\n"
+
+-- the pieces of all jobs in order, and last the total
+abbrev pub pieces : List Host → List Report → List Piece
+pieces hosts reports = flat_map (λ report. job_pieces hosts report) reports ++ record { sink = Out; bytes = total_text reports } ∷ []

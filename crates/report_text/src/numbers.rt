@@ -1,0 +1,55 @@
+//! The exit status of a build.
+
+ghost use Rattle.std.specs.Prelude.{◌≡◌};
+ghost use Rattle.report_text.specs.Numbers as specs;
+
+use crate::pieces::is_done;
+use edge_traits::Cause;
+use farm_machine::{End, ReportList, Why5};
+use farm_types::exit_code;
+
+fn cause_number(cause: Cause) -> u8
+    ensures { result ≡ specs.cause_number cause }
+{
+    match cause {
+        Cause::Dial => 103,
+        Cause::Send | Cause::Recv | Cause::Stopped => 107,
+        Cause::Truncated { .. } => 108,
+        Cause::BadReply { .. } => 109,
+    }
+}
+
+fn why_number(why: Why5) -> u8
+    ensures { result ≡ specs.why_number why }
+{
+    match why {
+        Why5::Station | Why5::Put | Why5::Fetch => 107,
+        Why5::Broke { cause, .. } => cause_number(cause),
+        Why5::NoHost => 116,
+        Why5::Memory => 105,
+    }
+}
+
+fn end_number(end: &End) -> u8
+    ensures { result ≡ specs.end_number end.now }
+{
+    match end {
+        End::Done { status, .. } => exit_code(*status),
+        End::Failed(why) => why_number(*why),
+    }
+}
+
+/// The exit status of a build with these reports: 0 where every job was done with status 0, else the number of the first that
+/// was not. It takes no memory.
+pub fn status(reports: &ReportList) -> u8
+    ensures { result ≡ specs.number reports.now }
+{
+    let mut rest = reports.as_slice();
+    'seeking: while let [first, after @ ..] = rest {
+        if !is_done(&first.end) {
+            return end_number(&first.end);
+        }
+        rest = after;
+    }
+    0
+}

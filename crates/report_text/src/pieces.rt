@@ -1,0 +1,79 @@
+//! The printed text of a build's reports.
+
+ghost use Rattle.std.specs.Prelude.{◌≡◌, ◌++◌, IfOk};
+ghost use Rattle.report_text.specs.Pieces.{err_messages, out_messages, line_text, is_done_well, total_text};
+
+use crate::ends::{add_end, add_number};
+use farm_machine::{End, Report, ReportList};
+use farm_types::{Bytes, Hosts};
+use std::alloc::{AllocError, Global};
+
+/// What is printed of one job: `err` on the sink of errors, and then `out` on that of the output.
+#[derive(Debug, Drop)]
+pub struct Printed {
+    pub out: Bytes,
+    pub err: Bytes,
+}
+
+// The messages of a job for the sink of errors.
+fn err_of(alloc: Global, end: &End) -> Result<Bytes, AllocError>
+    ensures { IfOk result (λ text. text ≡ err_messages end.now) }
+{
+    match end {
+        End::Done { note, err, .. } => {
+            let mut text = note.copy()?;
+            text.try_extend(err.as_slice())?;
+            Ok(text)
+        }
+        End::Failed(_) => Ok(Bytes::new(alloc)),
+    }
+}
+
+// The messages of a job for the sink of the output.
+fn out_of(alloc: Global, end: &End) -> Result<Bytes, AllocError>
+    ensures { IfOk result (λ text. text ≡ out_messages end.now) }
+{
+    match end {
+        End::Done { out, .. } => out.copy(),
+        End::Failed(_) => Ok(Bytes::new(alloc)),
+    }
+}
+
+/// The printed text of one job: its messages, and its line.
+pub fn lines(alloc: Global, hosts: &Hosts, report: &Report) -> Result<Printed, AllocError>
+    ensures err { IfOk result (λ printed. printed.err ≡ err_messages report.now.end) }
+    ensures out { IfOk result (λ printed.
+        printed.out ≡ out_messages report.now.end ++ line_text hosts.now.list report.now) }
+{
+    let err = err_of(alloc, &report.end)?;
+    let mut out = out_of(alloc, &report.end)?;
+    add_number(alloc, &mut out, u64::from(report.number) + 1)?;
+    out.try_extend(b" ")?;
+    add_end(alloc, &mut out, hosts, &report.end)?;
+    out.try_extend(b"\n")?;
+    Ok(Printed { out, err })
+}
+
+/// Whether a job was done with status 0.
+pub fn is_done(end: &End) -> bool
+    ensures { result ≡ is_done_well end.now }
+{
+    match end {
+        End::Done { status, .. } => *status == 0,
+        End::Failed(_) => false,
+    }
+}
+
+/// The line of the total: how many jobs there were, and how many of them were done with status 0.
+pub fn total(alloc: Global, reports: &ReportList) -> Result<Bytes, AllocError>
+    ensures { IfOk result (λ text. text ≡ total_text reports.now) }
+{
+    let reports = reports.as_slice();
+    let done = reports.iter().filter(|report| is_done(&report.end)).count();
+    let mut text = Bytes::from_slice(alloc, b"total ")?;
+    add_number(alloc, &mut text, reports.len() as u64)?;
+    text.try_extend(b" ok ")?;
+    add_number(alloc, &mut text, done as u64)?;
+    text.try_extend(b"\n")?;
+    Ok(text)
+}
