@@ -37,6 +37,13 @@ is_done_well (Failed why) = false
 abbrev pub total_text : List Report → List ℕ
 total_text reports = codes "total " ++ decimal (length reports) ++ codes " ok " ++ decimal (count_by (λ report. is_done_well report.end) reports) ++ codes "\n"
 
--- the pieces of all jobs in order, and last the total
+abbrev pub total_piece : List Report → Piece
+total_piece reports = record { sink = Out; bytes = total_text reports }
+
+-- the pieces of all jobs in order
+abbrev pub jobs_pieces : List Host → List Report → List Piece
+jobs_pieces hosts reports = flat_map (λ report. job_pieces hosts report) reports
+
+-- and last the total
 abbrev pub pieces : List Host → List Report → List Piece
-pieces hosts reports = flat_map (λ report. job_pieces hosts report) reports ++ record { sink = Out; bytes = total_text reports } ∷ []
+pieces hosts reports = jobs_pieces hosts reports ++ total_piece reports ∷ []

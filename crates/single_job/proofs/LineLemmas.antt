@@ -73,3 +73,13 @@ some_left (b ∷ rest) none same = cc
 pub not_both : (b : Bool) → IsTrue b → false ≡ b → ⊥
 not_both true holds same = cc
 not_both false holds same = cc
+
+-- a text is one line at most
+pub one_line : {text : List ℕ} {line other : Line} → IsLine text line → IsLine text other → line ≡ other
+one_line {line = line} {other = other} first second =
+    let compilers : line.compiler ≡ other.compiler = (next_same (lit< tt) refl (compiler_next line first) (compiler_next other second)).0 in
+    let sources : line.source ≡ other.source = source_same other second (compiler_next line first) (source_next line first) in
+    let outputs : line.output ≡ other.output = (next_same (lit< tt) refl (output_next line first) (output_stands other second (compiler_next line first) (source_next line first))).0 in
+    ap (λ c. record { compiler = c; source = line.source; output = line.output }) compilers
+    ∙ ap (λ s. record { compiler = other.compiler; source = s; output = line.output }) sources
+    ∙ ap (λ o. record { compiler = other.compiler; source = other.source; output = o }) outputs

@@ -1,0 +1,10 @@
+//! The program `farm`: what its `main` calls.
+#![tactic(auto)]
+
+mod build;
+mod plan;
+mod refuse;
+mod report;
+mod top;
+
+pub use top::{Ended, farm};

@@ -1,0 +1,147 @@
+//! The reports are printed job by job, each text made when it is needed.
+
+ghost use Rattle.std.specs.Prelude.{[], ◌∷◌, OnOk, IfErr};
+ghost use Rattle.stream_print.specs.Prints.{sinks_view, Printed, Later};
+ghost use Rattle.stream_print.specs.Ends.{Ends, PrintedFront};
+ghost use Rattle.report_text.specs.Pieces.{job_pieces, jobs_pieces, total_piece, pieces};
+ghost use Rattle.report_text.specs.Numbers.{number};
+ghost use Rattle.farm_program.specs.Worlds.{no_memory_text};
+
+use crate::refuse::want_memory;
+use edge_traits::Sink;
+use farm_machine::{Report, ReportList};
+use farm_types::Hosts;
+use report_text::{lines, status, total};
+use std::alloc::Global;
+use stream_print::{Piece, PrintStop, STOPPED, SinkKind, print_all, print_piece};
+
+// Prints the pieces of one job.
+fn print_job<O: Sink, E: Sink>(
+    alloc: Global,
+    hosts: &Hosts,
+    report: &Report,
+    out: &mut O,
+    err: &mut E,
+) -> Result<(), PrintStop>
+    ensures all { OnOk result (Printed (sinks_view O.shows E.shows out.old err.old)
+        (sinks_view O.shows E.shows out.new err.new) (job_pieces hosts.now.list report.now)) }
+    ensures front { IfErr result (λ stop. PrintedFront (job_pieces hosts.now.list report.now) stop
+        (sinks_view O.shows E.shows out.old err.old)
+        (sinks_view O.shows E.shows out.new err.new)) }
+    ensures later { Later (sinks_view O.shows E.shows out.old err.old)
+        (sinks_view O.shows E.shows out.new err.new) }
+{
+    let printed = match lines(alloc, hosts, report) {
+        Ok(printed) => printed,
+        Err(_) => return Err(PrintStop::Memory),
+    };
+    let pieces = [
+        Piece {
+            sink: SinkKind::Err,
+            bytes: printed.err,
+        },
+        Piece {
+            sink: SinkKind::Out,
+            bytes: printed.out,
+        },
+    ];
+    print_all(&pieces, out, err)
+}
+
+// Prints the line of the total.
+fn print_total<O: Sink, E: Sink>(
+    alloc: Global,
+    reports: &ReportList,
+    out: &mut O,
+    err: &mut E,
+) -> Result<(), PrintStop>
+    ensures all { OnOk result (Printed (sinks_view O.shows E.shows out.old err.old)
+        (sinks_view O.shows E.shows out.new err.new) (total_piece reports.now ∷ [])) }
+    ensures front { IfErr result (λ stop. PrintedFront (total_piece reports.now ∷ []) stop
+        (sinks_view O.shows E.shows out.old err.old)
+        (sinks_view O.shows E.shows out.new err.new)) }
+    ensures later { Later (sinks_view O.shows E.shows out.old err.old)
+        (sinks_view O.shows E.shows out.new err.new) }
+{
+    match total(alloc, reports) {
+        Ok(bytes) => {
+            let piece = Piece {
+                sink: SinkKind::Out,
+                bytes,
+            };
+            print_piece(&piece, out, err)
+        }
+        Err(_) => Err(PrintStop::Memory),
+    }
+}
+
+// Prints the pieces of all jobs.
+fn print_jobs<O: Sink, E: Sink>(
+    alloc: Global,
+    hosts: &Hosts,
+    reports: &[Report],
+    out: &mut O,
+    err: &mut E,
+) -> Result<(), PrintStop>
+    ensures all { OnOk result (Printed (sinks_view O.shows E.shows out.old err.old)
+        (sinks_view O.shows E.shows out.new err.new) (jobs_pieces hosts.now.list reports.now)) }
+    ensures front { IfErr result (λ stop.
+        PrintedFront (jobs_pieces hosts.now.list reports.now) stop
+        (sinks_view O.shows E.shows out.old err.old)
+        (sinks_view O.shows E.shows out.new err.new)) }
+    ensures later { Later (sinks_view O.shows E.shows out.old err.old)
+        (sinks_view O.shows E.shows out.new err.new) }
+{
+    for report in reports {
+        match print_job(alloc, hosts, report, out, err) {
+            Ok(()) => {}
+            Err(stop) => return Err(stop),
+        }
+    }
+    Ok(())
+}
+
+// Prints the pieces of all jobs, and last the total.
+fn print_reports<O: Sink, E: Sink>(
+    alloc: Global,
+    hosts: &Hosts,
+    reports: &ReportList,
+    out: &mut O,
+    err: &mut E,
+) -> Result<(), PrintStop>
+    ensures all { OnOk result (Printed (sinks_view O.shows E.shows out.old err.old)
+        (sinks_view O.shows E.shows out.new err.new) (pieces hosts.now.list reports.now)) }
+    ensures front { IfErr result (λ stop. PrintedFront (pieces hosts.now.list reports.now) stop
+        (sinks_view O.shows E.shows out.old err.old)
+        (sinks_view O.shows E.shows out.new err.new)) }
+    ensures later { Later (sinks_view O.shows E.shows out.old err.old)
+        (sinks_view O.shows E.shows out.new err.new) }
+{
+    match print_jobs(alloc, hosts, reports.as_slice(), out, err) {
+        Ok(()) => {}
+        Err(stop) => return Err(stop),
+    }
+    match print_total(alloc, reports, out, err) {
+        Ok(()) => Ok(()),
+        Err(stop) => Err(stop),
+    }
+}
+
+/// Prints the reports of a build, and answers its exit status.
+pub fn finish_build<O: Sink, E: Sink>(
+    alloc: Global,
+    hosts: &Hosts,
+    reports: &ReportList,
+    out: &mut O,
+    err: &mut E,
+) -> u8
+    ensures { Ends no_memory_text (pieces hosts.now.list reports.now) (number reports.now)
+        (sinks_view O.shows E.shows out.old err.old)
+        (sinks_view O.shows E.shows out.new err.new) result }
+{
+    match print_reports(alloc, hosts, reports, out, err) {
+        Ok(()) => status(reports),
+        Err(PrintStop::Stopped) => STOPPED,
+        Err(PrintStop::Memory) => want_memory(out, err),
+    }
+}
