@@ -5,6 +5,8 @@ mod build;
 mod plan;
 mod refuse;
 mod report;
+#[cfg(test)]
+mod tests;
 mod top;
 
 pub use top::{Ended, farm};

@@ -69,12 +69,7 @@ pub struct Prepared {
 }
 
 /// Prepares the job of a line.
-pub fn prepare(
-    alloc: Global,
-    name: &str,
-    port: u16,
-    line: &Line,
-) -> Result<Prepared, AllocError>
+pub fn prepare(alloc: Global, name: &str, port: u16, line: &Line) -> Result<Prepared, AllocError>
     ensures plan { IfOk result (λ prepared. prepared.plan ≡ specs.plan_of line.now) }
     ensures hosts { IfOk result (λ prepared.
         prepared.hosts.list ≡ specs.host_of name.now port ∷ []) }

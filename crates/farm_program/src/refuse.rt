@@ -31,7 +31,13 @@ pub fn refuse_form<O: Sink, E: Sink>(out: &mut O, err: &mut E) -> u8
         (sinks_view O.shows E.shows out.old err.old)
         (sinks_view O.shows E.shows out.new err.new) result }
 {
-    complain(b"farm: not built yet\n", NOT_BUILT, NO_MEMORY_TEXT, out, err)
+    complain(
+        b"farm: not built yet\n",
+        NOT_BUILT,
+        NO_MEMORY_TEXT,
+        out,
+        err,
+    )
 }
 
 /// Refuses an input that could not be read.
@@ -40,5 +46,11 @@ pub fn refuse_unread<O: Sink, E: Sink>(out: &mut O, err: &mut E) -> u8
         (sinks_view O.shows E.shows out.old err.old)
         (sinks_view O.shows E.shows out.new err.new) result }
 {
-    complain(b"farm: cannot read the job list\n", CANNOT_READ, NO_MEMORY_TEXT, out, err)
+    complain(
+        b"farm: cannot read the job list\n",
+        CANNOT_READ,
+        NO_MEMORY_TEXT,
+        out,
+        err,
+    )
 }

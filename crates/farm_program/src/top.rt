@@ -68,8 +68,7 @@ pub fn farm<D: Dialer, S: Station, K: Keeper, C: Clock, R: Source, O: Sink, E: S
         ((result.status ≡ 102) × (kits.new.items ≡ kits.old.items)) ⊎ (result.status ≡ 105) }
 
     // Other words: nothing is read.
-    ensures other_words {
-        ((name : List ℕ) (port : ℕ) → ¬ (IsBuild (map string_bytes words.now) name port)) →
+    ensures other_words { ((name : List ℕ) (port : ℕ) → ¬ (IsBuild (map string_bytes words.now) name port)) →
         (R.shows input.new ≡ R.shows input.old) × Refused not_built_text 102
         (world R.shows O.shows E.shows input.old kits.old.items out.old err.old)
         (world R.shows O.shows E.shows input.new kits.new.items out.new err.new) result.status }

@@ -54,7 +54,10 @@ fn carry_out<D: Dialer, S: Station, K: Keeper, C: Clock>(
         (kit_view D.shows S.shows K.shows C.shows kit.new) }
     ensures may_give { SameRelation (D.may_give kit.old.dialer) (D.may_give kit.new.dialer) }
 {
-    let ran = match kit.station.run(alloc, plan.preprocess.as_slice(), &[], &BOUNDS) {
+    let ran = match kit
+        .station
+        .run(alloc, plan.preprocess.as_slice(), &[], &BOUNDS)
+    {
         Ok(ran) => ran,
         Err(StationFault::Failed) => return End::Failed(Why5::Station),
         Err(StationFault::TooMuch { .. }) => return End::Failed(Why5::Station),
@@ -94,7 +97,10 @@ fn carry_out<D: Dialer, S: Station, K: Keeper, C: Clock>(
     if outcome.status != 0 {
         return done_by_host(at, ran.err, outcome);
     }
-    match kit.keeper.put(alloc, &plan.output, outcome.object.as_slice()) {
+    match kit
+        .keeper
+        .put(alloc, &plan.output, outcome.object.as_slice())
+    {
         Ok(()) => {
             events.push(Event::Put(0)).unwrap();
             done_by_host(at, ran.err, outcome)

@@ -21,7 +21,7 @@ module _ {text path after rest : List ℕ} (some : 0 < length after) (apart : is
   outside : is_path_byte (get_or text (length path) 0) ≡ false
   outside =
       let at : get_or text (length path) 0 ≡ get_or after 0 0 =
-          ap (λ t. get_or t (length path) 0) spread ∙ ap (λ n. get_or (path ++ (after ++ rest)) n 0) (let e : length path ≡ length path + 0 = omega arith in e) ∙ get_or-append-add path (after ++ rest) 0 0 ∙ get_or-append after rest 0 0 some in
+      ap (λ t. get_or t (length path) 0) spread ∙ ap (λ n. get_or (path ++ (after ++ rest)) n 0) (let e : length path ≡ length path + 0 = omega arith in e) ∙ get_or-append-add path (after ++ rest) 0 0 ∙ get_or-append after rest 0 0 some in
       ap is_path_byte at ∙ apart
 
   -- so the path reaches as far as bytes of paths stand

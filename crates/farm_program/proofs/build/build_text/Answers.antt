@@ -22,7 +22,7 @@ pub returns : goal.returns
 returns g c =
     let is : IsLine c.as_slice.result.now c.in-Ok-Some.line = rw c.in-Ok-Some.field-0-is at c.in-Ok-Some.ensures in
     let host : c.index-as_slice-0.result ≡ host_of c.args.name.now c.args.port =
-        c.index-as_slice-0.is ∙ ap (λ hs. get_or hs 0 c.index-as_slice-0.result) (c.as_slice-2.ensures ∙ c.in-Ok.ensures.hosts) in
+    c.index-as_slice-0.is ∙ ap (λ hs. get_or hs 0 c.index-as_slice-0.result) (c.as_slice-2.ensures ∙ c.in-Ok.ensures.hosts) in
     let reports : c.from_vec.result ≡ c.run_job-report.result ∷ [] = grind (arith, common_steps) in
     text_ran c.in-Ok-Some.line c.run_job-report.result (spells_by c.as_slice.ensures is)
     (first_ran (λ kit. g.D.Dialer.may_give kit.dialer) (kit_view g.D.Dialer.shows g.S.Station.shows g.K.Keeper.shows g.C.Clock.shows)

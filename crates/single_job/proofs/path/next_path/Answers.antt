@@ -19,12 +19,12 @@ pub returns-in-Some : goal.returns-in-Some
 returns-in-Some c =
     let part : take (length c.args.text.now - c.path_len-len.result) (drop c.path_len-len.result c.args.text.now) ≡ drop c.path_len-len.result c.args.text.now = grind (arith, common_steps) in
     let goes : take (length c.args.text.now - c.path_len-len.result) (drop c.path_len-len.result c.args.text.now) ≡ c.args.after.now ++ c.in-Some.rest.now =
-        strip_prefix_is Decides-eqb _ c.args.after.now (Some c.in-Some.rest) c.in-Some.ensures.cases in
+    strip_prefix_is Decides-eqb _ c.args.after.now (Some c.in-Some.rest) c.in-Some.ensures.cases in
     next_is c.path_len-len.result c.path_len-len.ensures.len c.if-len-eq0.false c.if-len-gt-PATH_MAX.false (sym part ∙ goes)
 
 pub returns-in-None : goal.returns-in-None
 returns-in-None c = λ path rest next.
     let part : take (length c.args.text.now - c.path_len-len.result) (drop c.path_len-len.result c.args.text.now) ≡ drop c.path_len-len.result c.args.text.now = grind (arith, common_steps) in
     let goes : drop c.path_len-len.result c.args.text.now ≡ c.args.after.now ++ rest =
-        ap (λ n. drop n c.args.text.now) c.path_len-len.ensures.len ∙ rest_is c.requires.some c.requires.apart next in
+    ap (λ n. drop n c.args.text.now) c.path_len-len.ensures.len ∙ rest_is c.requires.some c.requires.apart next in
     strip_prefix_is Decides-eqb _ c.args.after.now None c.in-None.ensures.cases rest (part ∙ goes)
