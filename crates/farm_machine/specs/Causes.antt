@@ -1,11 +1,11 @@
 -- Why a job may fail.
-use Rattle.std.specs.Prelude.{ℕ, ◌≤◌, ◌⊎◌}
+use Rattle.std.specs.Prelude.{◌≤◌, ◌⊎◌}
 use Rattle.edge_traits.specs.declared.cause.Cause.TheVariants.{Dial}
 use Rattle.edge_traits.specs.Causes.{Rose}
 use Rattle.edge_traits.specs.Kits.{KitView}
 use Rattle.farm_machine.specs.declared.reports.Why5.TheVariants.{Station, Put as NotPut, Broke}
 use Rattle.farm_machine.specs.declared.reports.End.{End}
-use Rattle.farm_machine.specs.declared.reports.End.TheVariants.{Done, Failed}
+use Rattle.farm_machine.specs.declared.reports.End.TheVariants.{Failed}
 
 -- Each failure of a device goes with a rise of its count. What an exchange shows of its cause is a part of the course.
 abbrev pub HasEndCause : End → KitView → KitView → Type 0

@@ -1,5 +1,5 @@
 -- Plans that can be carried out.
-use Rattle.std.specs.Prelude.{ℕ, ◌<◌, [], length}
+use Rattle.std.specs.Prelude.{◌<◌, [], length}
 use Rattle.farm_types.specs.Fits.{RequestFits}
 use Rattle.edge_traits.specs.FileMaps.{IsStaged}
 use Rattle.farm_machine.specs.declared.plans.RemotePlan.{RemotePlan}

@@ -1,6 +1,6 @@
 -- From the parts of a build to the whole.
-use Rattle.std.proofs.Common.{◌≡◌, ◌≤◌, ◌<◌, ◌+◌, ℕ, true, false, List, [], ◌∷◌, ◌++◌, length, length-append, append_assoc, Contains, get_or, take, drop, lit<, lit≤, codes, ◌∙◌, sym, ap, subst, refl, arith}
-use Rattle.std.specs.Prelude.{slice_set, sum_by, All}
+use Rattle.std.proofs.Common.{◌≡◌, ◌≤◌, ◌<◌, ◌+◌, ℕ, true, List, [], ◌∷◌, ◌++◌, length, length-append, append_assoc, Contains, get_or, take, drop, lit<, lit≤, codes, ◌∙◌, sym, ap, subst, refl, arith}
+use Rattle.std.specs.Prelude.{slice_set, All}
 use Rattle.std.proofs.lemmas.Grind.{common_steps}
 use Rattle.std.proofs.lemmas.List.Elements.{All-contains, All-cons, All-nil, Contains-push}
 use Rattle.farm_types.specs.declared.hosts.Host.{Host}
@@ -26,8 +26,8 @@ use Rattle.single_job.specs.BuildWords.{IsBuild, IsHostPort}
 use Rattle.single_job.proofs.HostLemmas.{name_before, digits_after}
 use Rattle.std.specs.Str.Parse.{digits_value}
 use Rattle.farm_program.specs.Plan.{plan_of, host_of}
-use Rattle.farm_program.specs.Worlds.{World, no_memory_text, not_built_text, cannot_read_text, Refused}
-use Rattle.farm_program.specs.Builds.{FirstRan, BuildRan, IsOther, other_text, longer_text, Wanted, Builds, built, other_input, unread, wanted, RunsText, text_ran, text_other, text_wanted}
+use Rattle.farm_program.specs.Worlds.{no_memory_text, not_built_text, cannot_read_text}
+use Rattle.farm_program.specs.Builds.{FirstRan, other_text, longer_text, Builds, built, other_input, unread, wanted, RunsText, text_ran, text_other, text_wanted}
 
 -- how long a line is
 line_length : (text : List ℕ) (line : Line) → IsLine text line → length text ≡ length line.compiler + (length line.source + (length line.output + 9))

@@ -1,5 +1,5 @@
 -- Where source and sinks do nothing wrong, a build is completed or refused by its input, or memory was wanting.
-use Rattle.std.proofs.Common.{◌≡◌, ◌⊎◌, ℕ, IsTrue, List, [], ◌∷◌, ◌++◌, ◌∙◌, sym, ap, subst, refl, inl, inr}
+use Rattle.std.proofs.Common.{◌≡◌, ◌⊎◌, ℕ, IsTrue, List, ◌++◌, ◌∙◌, sym, ap, subst, refl, inl, inr}
 use Rattle.std.proofs.lemmas.List.{append-nil}
 use Rattle.farm_types.specs.declared.hosts.Host.{Host}
 use Rattle.edge_traits.specs.Kits.{KitView}

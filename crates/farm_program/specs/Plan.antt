@@ -1,5 +1,5 @@
 -- What is to be done for the line of a job, and the one host that the words name.
-use Rattle.std.specs.Prelude.{◌≡◌, ℕ, false, List, [], ◌∷◌, codes}
+use Rattle.std.specs.Prelude.{ℕ, false, List, [], ◌∷◌, codes}
 use Rattle.farm_types.specs.declared.placed.Word.TheVariants.{Text}
 use Rattle.farm_types.specs.declared.hosts.Host.{Host}
 use Rattle.single_job.specs.declared.line.Line.{Line}

@@ -1,6 +1,6 @@
 //! What `farm` prints, answers and puts, over devices that follow scripts.
 
-ghost use Rattle.std.specs.Prelude.{◌≡◌, ◌<◌, ◌≤◌, [], false, length, IfOk, vec_len};
+ghost use Rattle.std.specs.Prelude.{◌<◌, [], false};
 ghost use Rattle.edge_traits.specs.Told.{told};
 
 use crate::farm;

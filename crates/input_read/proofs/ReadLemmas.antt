@@ -1,6 +1,5 @@
 -- One piece after another.
-use Rattle.std.proofs.Common.{◌≡◌, ◌≤◌, ℕ, IsTrue, List, [], ◌++◌, ◌∙◌, refl, ap, append_assoc, arith}
-use Rattle.std.proofs.lemmas.List.{append-nil}
+use Rattle.std.proofs.Common.{◌≡◌, ◌≤◌, ℕ, List, ◌++◌, ◌∙◌, ap, append_assoc, arith}
 use Rattle.edge_traits.specs.Told.{Told, Grew}
 use Rattle.edge_traits.specs.Sources.{SourceView, Lost}
 use Rattle.edge_traits.proofs.ToldLemmas.{Grew-join}

@@ -1,7 +1,7 @@
 //! Reads an input to its end, or to a limit.
 #![tactic(auto)]
 
-ghost use Rattle.std.specs.Prelude.{◌≡◌, ◌<◌, false, IfOk, IsErr};
+ghost use Rattle.std.specs.Prelude.{◌≡◌, ◌<◌, false, IfOk};
 ghost use Rattle.input_read.specs.Reads.{HasRead, HasReadSome};
 
 use edge_traits::{EdgeFault, Source};

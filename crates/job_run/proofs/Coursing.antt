@@ -1,6 +1,5 @@
 -- From what each call of a job added to what the job did.
-use Rattle.std.proofs.Common.{◌≡◌, ◌≢◌, ℕ, Bool, true, false, List, [], ◌∷◌, refl, sym, ap, subst, ◌∙◌}
-use Rattle.std.specs.FinMap.{insert}
+use Rattle.std.proofs.Common.{◌≡◌, ◌≢◌, ℕ, Bool, true, false, List, [], ◌∷◌, refl, sym, ap, subst, inl, inr, ◌∙◌}
 use Rattle.farm_types.specs.declared.placed.Word.{Word}
 use Rattle.farm_types.specs.declared.ran.Ran.{Ran}
 use Rattle.farm_types.specs.declared.ran.Outcome.{Outcome}
@@ -10,6 +9,10 @@ use Rattle.edge_traits.specs.declared.entries.Exchange.{Exchange}
 use Rattle.edge_traits.specs.declared.entries.Put.{Put}
 use Rattle.edge_traits.specs.declared.cause.Cause.{Cause}
 use Rattle.edge_traits.specs.declared.cause.Cause.TheVariants.{Dial, Send, Recv, Truncated, BadReply, Stopped}
+use Rattle.edge_traits.specs.declared.faults.Bounds.{Bounds}
+use Rattle.edge_traits.specs.declared.faults.StationFault.{StationFault}
+use Rattle.edge_traits.specs.declared.faults.StationFault.TheVariants.{Failed as RunFailed, TooMuch as RunTooMuch, Memory as RunMemory}
+use Rattle.edge_traits.specs.Stations.{RunFault}
 use Rattle.edge_traits.specs.Told.{Told, Grew, Became}
 use Rattle.edge_traits.specs.Kits.{KitView}
 use Rattle.edge_traits.specs.Keepers.{KeeperView}
@@ -25,9 +28,11 @@ use Rattle.farm_machine.specs.declared.reports.End.{End}
 use Rattle.farm_machine.specs.declared.reports.End.TheVariants.{Done, Failed}
 use Rattle.farm_machine.specs.declared.reports.By.{By}
 use Rattle.farm_machine.specs.declared.reports.By.TheVariants.{Cpp, Remote}
+use Rattle.farm_machine.specs.declared.reports.Why5.{Why5}
 use Rattle.farm_machine.specs.declared.reports.Why5.TheVariants.{Broke as BrokeAt}
-use Rattle.farm_machine.specs.Course.{Course, preprocessed, request_of, delivered, sent_on, not_preprocessed, not_compiled, compiled}
+use Rattle.farm_machine.specs.Course.{Course, preprocessed, request_of, delivered, sent_on, not_run, not_preprocessed, not_compiled, compiled, wanted_at_first}
 use Rattle.farm_machine.specs.Causes.{HasEndCause, KitLater}
+use Rattle.job_run.specs.Failures.{station_failure}
 use Rattle.job_run.specs.JobRuns.{JobRan}
 
 -- the puts, fetches and files of a keeper, by what was put
@@ -105,11 +110,20 @@ module _ (plan : RemotePlan) (words : List (List ℕ)) (same : words ≡ plan.wo
   pub broken_by : (c : Cause) → IsBroken x (record { words = words; source = r.out }) host c → IsBroken x (request_of plan r) host c
   broken_by c is = subst (λ w. IsBroken x (record { words = w; source = r.out }) host c) same is
 
--- a preprocessor that failed has an empty note and no output to tell of
-pub ends_early : (plan : RemotePlan) (host : Host) (at : ℕ) (r : Ran) (note out : List ℕ) → note ≡ [] → out ≡ [] → r.status ≢ 0 → Course plan host at (preprocessed plan r ∷ []) (Done r.status note r.err out Cpp)
-ends_early plan host at r note out no_note no_out failed =
-    subst (λ n. Course plan host at (preprocessed plan r ∷ []) (Done r.status n r.err out Cpp)) (sym no_note)
-    (subst (λ t. Course plan host at (preprocessed plan r ∷ []) (Done r.status [] r.err t Cpp)) (sym no_out) (not_preprocessed r failed))
+-- a preprocessor that failed
+pub ends_early : (plan : RemotePlan) (host : Host) (at : ℕ) (r : Ran) (end : End) → end ≡ Done r.status [] r.err [] Cpp → r.status ≢ 0 → Course plan host at (preprocessed plan r ∷ []) end
+ends_early plan host at r end is failed = subst (λ e. Course plan host at (preprocessed plan r ∷ []) e) (sym is) (not_preprocessed r failed)
+
+-- a preprocessor that could not be run
+pub not_run_course : (plan : RemotePlan) (host : Host) (at : ℕ) (fault : StationFault) (why : Why5) → why ≡ station_failure fault → Course plan host at [] (Failed why)
+not_run_course plan host at RunFailed why is = subst (λ w. Course plan host at [] (Failed w)) (sym is) not_run
+not_run_course plan host at (RunTooMuch stream bytes) why is = subst (λ w. Course plan host at [] (Failed w)) (sym is) not_run
+not_run_course plan host at RunMemory why is = subst (λ w. Course plan host at [] (Failed w)) (sym is) wanted_at_first
+
+pub not_run_cause : (bounds : Bounds) (fault : StationFault) (why : Why5) (old new : KitView) → why ≡ station_failure fault → RunFault bounds old.station new.station fault → HasEndCause (Failed why) old new
+not_run_cause bounds RunFailed why old new is rose = subst (λ w. HasEndCause (Failed w) old new) (sym is) (inl rose)
+not_run_cause bounds (RunTooMuch stream bytes) why old new is rose = subst (λ w. HasEndCause (Failed w) old new) (sym is) (inr rose.0)
+not_run_cause bounds RunMemory why old new is free = subst (λ w. HasEndCause (Failed w) old new) (sym is) tt
 
 -- a whole reply, by its status
 pub answered : (plan : RemotePlan) (host : Host) (at : ℕ) (r : Ran) (x : Exchange) (o : Outcome) (end : End) → end ≡ Done o.status r.err o.err o.out (Remote at) → r.status ≡ 0 → IsWhole x (request_of plan r) host o → o.status ≢ 0 → Course plan host at (sent_on plan r x) end

@@ -3,16 +3,17 @@
 ghost use Rattle.std.specs.Prelude.{◌≡◌, ◌≤◌, [], false, vec_capacity};
 ghost use Rattle.edge_traits.specs.Told.{SameRelation};
 ghost use Rattle.edge_traits.specs.Kits.{kit_view};
-ghost use Rattle.farm_machine.specs.declared.reports.By.TheVariants.{Remote};
+ghost use Rattle.farm_machine.specs.declared.reports.By.TheVariants.{Cpp, Remote};
 ghost use Rattle.farm_machine.specs.declared.reports.End.TheVariants.{Done};
 ghost use Rattle.farm_machine.specs.Plans.{IsReady};
+ghost use Rattle.job_run.specs.Failures.{station_failure};
 ghost use Rattle.job_run.specs.JobRuns.{JobRan};
 
 use crate::EventRoom;
 use edge_traits::{Bounds, Clock, Dialer, EdgeFault, Keeper, Kit, Station, StationFault};
 use farm_machine::{By, End, Event, EventList, RemotePlan, Report, Why5};
 use farm_types::limits::CHILD_ERR_MAX;
-use farm_types::{Bytes, Host, Outcome, Request};
+use farm_types::{Bytes, Host, Outcome, Ran, Request};
 use remote_transfer::{Attempt, attempt};
 use std::alloc::Global;
 
@@ -22,6 +23,29 @@ const BOUNDS: Bounds = Bounds {
     err: CHILD_ERR_MAX,
     object: 33_554_432,
 };
+
+// Why a job failed whose preprocessor could not be run.
+fn why_not_run(fault: StationFault) -> Why5
+    ensures { result ≡ station_failure fault }
+{
+    match fault {
+        StationFault::Failed | StationFault::TooMuch { .. } => Why5::Station,
+        StationFault::Memory => Why5::Memory,
+    }
+}
+
+// The end of a job whose preprocessor failed.
+fn done_by_preprocessor(alloc: Global, ran: Ran) -> End
+    ensures { result ≡ Done ran.status [] ran.err [] Cpp }
+{
+    End::Done {
+        status: ran.status,
+        note: Bytes::new(alloc),
+        err: ran.err,
+        out: Bytes::new(alloc),
+        by: By::Cpp,
+    }
+}
 
 // The end of a job that the host at this place answered.
 fn done_by_host(at: u32, note: Bytes, outcome: Outcome) -> End
@@ -59,19 +83,11 @@ fn carry_out<D: Dialer, S: Station, K: Keeper, C: Clock>(
         .run(alloc, plan.preprocess.as_slice(), &[], &BOUNDS)
     {
         Ok(ran) => ran,
-        Err(StationFault::Failed) => return End::Failed(Why5::Station),
-        Err(StationFault::TooMuch { .. }) => return End::Failed(Why5::Station),
-        Err(StationFault::Memory) => return End::Failed(Why5::Memory),
+        Err(fault) => return End::Failed(why_not_run(fault)),
     };
     events.push(Event::Ran(0)).unwrap();
     if ran.status != 0 {
-        return End::Done {
-            status: ran.status,
-            note: Bytes::new(alloc),
-            err: ran.err,
-            out: Bytes::new(alloc),
-            by: By::Cpp,
-        };
+        return done_by_preprocessor(alloc, ran);
     }
     let words = match plan.words.copy() {
         Ok(words) => words,

@@ -1,5 +1,5 @@
 -- What the line of a job says of its end.
-use Rattle.std.specs.Prelude.{ℕ, ◌+◌, List, [], ◌∷◌, ◌++◌, Option, Some, None, slice_get, codes}
+use Rattle.std.specs.Prelude.{ℕ, ◌+◌, List, [], ◌++◌, Option, Some, None, slice_get, codes}
 use Rattle.std.specs.Fmt.{decimal}
 use Rattle.farm_types.specs.declared.hosts.Host.{Host}
 use Rattle.wire_tokens.specs.Token.{lower_digits}

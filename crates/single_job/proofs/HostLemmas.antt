@@ -1,12 +1,12 @@
 -- A host's name and port in one word, and that word among the words of a build.
-use Rattle.std.proofs.Common.{IsTrue, ◌↔◌, ◌≡◌, ◌<◌, ◌≤◌, ◌+◌, suc, ◌==◌, not, ℕ, Bool, true, false, List, [], ◌∷◌, ◌++◌, length, take, drop, get_or, codes, Option, Some, None, MatchOption, inl, inr, refl, sym, ap, subst, ◌∙◌, append_assoc, length-append, Bor, arith}
+use Rattle.std.proofs.Common.{IsTrue, ◌↔◌, ◌≡◌, ◌<◌, ◌+◌, suc, ◌==◌, not, ℕ, Bool, true, false, List, [], ◌∷◌, ◌++◌, length, take, drop, get_or, codes, Option, Some, None, MatchOption, inl, inr, sym, ap, subst, ◌∙◌, append_assoc, length-append, arith}
 use Rattle.std.proofs.Math.ListN.{get_or-append}
 use Rattle.std.proofs.lemmas.Grind.{common_steps}
 use Rattle.std.proofs.lemmas.Bool.Decides.{eqb_tells}
 use Rattle.std.proofs.lemmas.List.{get_or-append-add}
 use Rattle.std.specs.List.{position_or_len, before_first, after_first}
 use Rattle.std.proofs.lemmas.List.Sums.{prefix_len_is}
-use Rattle.single_job.specs.BuildWords.{is_name_byte, IsHostName, IsPort, IsHostPort, IsBuild}
+use Rattle.single_job.specs.BuildWords.{is_name_byte, IsHostPort, IsBuild}
 
 abbrev is_colon : ℕ → Bool
 is_colon b = b == 58

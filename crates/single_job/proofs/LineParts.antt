@@ -1,11 +1,11 @@
 -- The parts of a line follow one another in one way.
-use Rattle.std.proofs.Common.{◌≡◌, ◌<◌, ◌≤◌, ◌+◌, ◌-◌, ℕ, true, false, List, ◌++◌, length, take, drop, get_or, slice_index, refl, sym, ap, subst, ◌∙◌, append_assoc, length-append, length-take, arith}
+use Rattle.std.proofs.Common.{◌≡◌, ◌<◌, ◌≤◌, ◌+◌, ◌-◌, ℕ, true, false, List, ◌++◌, length, take, drop, get_or, slice_index, sym, ap, ◌∙◌, append_assoc, length-append, length-take, arith}
 use Rattle.std.proofs.Math.ListN.{get_or-append}
 use Rattle.std.proofs.lemmas.Grind.{common_steps}
 use Rattle.std.proofs.lemmas.List.{get_or-append-add, take-append-drop, append_cancel_left}
 use Rattle.std.specs.List.{prefix_len}
 use Rattle.std.proofs.lemmas.List.Sums.{prefix_len_is, prefix_len_passes, prefix_len-le-length}
-use Rattle.single_job.specs.Paths.{is_path_byte, IsPath}
+use Rattle.single_job.specs.Paths.{is_path_byte}
 use Rattle.single_job.specs.Parts.{IsNext}
 
 module _ {text path after rest : List ℕ} (some : 0 < length after) (apart : is_path_byte (slice_index after 0) ≡ false) (next : IsNext text path after rest) where

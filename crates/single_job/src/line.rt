@@ -1,6 +1,6 @@
 //! The line of one job.
 
-ghost use Rattle.std.specs.Prelude.{◌≡◌, IfOk, MatchOption};
+ghost use Rattle.std.specs.Prelude.{IfOk, MatchOption};
 ghost use Rattle.single_job.specs.Lines.{IsLine};
 
 use crate::path::{is_source, next_path};

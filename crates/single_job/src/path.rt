@@ -1,8 +1,8 @@
 //! File names of a job's line.
 
-ghost use Rattle.std.specs.Prelude.{◌≡◌, ℕ, List, ◌<◌, ◌≤◌, ◌++◌, length, IsTrue, ◌↔◌, MatchOption, slice_index, false};
-ghost use Rattle.std.specs.List.{after_last, prefix_len};
-ghost use Rattle.single_job.specs.Paths.{is_path_byte, IsPath, names_source, last_name, is_slash};
+ghost use Rattle.std.specs.Prelude.{◌≡◌, ℕ, List, ◌<◌, ◌≤◌, length, MatchOption, slice_index, false};
+ghost use Rattle.std.specs.List.{prefix_len};
+ghost use Rattle.single_job.specs.Paths.{is_path_byte, names_source, last_name};
 ghost use Rattle.single_job.specs.Parts.{IsNext};
 
 use memchr::memrchr;

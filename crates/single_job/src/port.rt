@@ -1,6 +1,6 @@
 //! The port of a host.
 
-ghost use Rattle.std.specs.Prelude.{◌≡◌, ℕ, MatchOption, string_bytes};
+ghost use Rattle.std.specs.Prelude.{ℕ, MatchOption};
 ghost use Rattle.single_job.specs.BuildWords.{IsPort};
 
 /// The port that a text spells: None exactly where it spells none.

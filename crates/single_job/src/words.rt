@@ -1,7 +1,6 @@
 //! The words of a build on one host.
 
-ghost use Rattle.std.specs.Prelude.{◌≡◌, ◌↔◌, IsTrue, ℕ, List, map, string_bytes, MatchOption, length};
-ghost use Rattle.std.specs.List.{AllPass};
+ghost use Rattle.std.specs.Prelude.{◌≡◌, ◌↔◌, IsTrue, ℕ, List, map, string_bytes, MatchOption};
 ghost use Rattle.single_job.specs.BuildWords.{IsBuild, IsHostName, IsHostPort, is_name_byte};
 
 use crate::port::parse_port;

@@ -1,15 +1,14 @@
 -- From what was printed to how it ended.
-use Rattle.std.proofs.Common.{◌≡◌, ◌<◌, ◌⊎◌, ℕ, List, [], ◌∷◌, ◌++◌, length, take, refl, sym, ap, inl, inr, subst}
-use Rattle.std.proofs.lemmas.List.{append-nil}
+use Rattle.std.proofs.Common.{◌≡◌, ◌<◌, ℕ, List, [], ◌∷◌, ◌++◌, length, take, refl, sym, inl, inr}
 use Rattle.edge_traits.specs.Told.{Grew}
 use Rattle.edge_traits.specs.Sinks.{SinkView}
 use Rattle.stream_print.specs.declared.one.PrintStop.{PrintStop}
 use Rattle.stream_print.specs.declared.one.PrintStop.TheVariants.{Stopped, Memory}
 use Rattle.stream_print.specs.declared.pieces.SinkKind.TheVariants.{Err as ErrSink}
 use Rattle.stream_print.specs.declared.pieces.Piece.{Piece}
-use Rattle.stream_print.specs.Prints.{SinksView, Printed, PrintedPart, IsPart, DidStop, DidStopOn, Later, cut}
+use Rattle.stream_print.specs.Prints.{SinksView, Printed, PrintedPart, DidStop, Later, cut}
 use Rattle.stream_print.proofs.PrintLemmas.{Printed-join, Printed-err, part_of_one, DidStopOn-after}
-use Rattle.stream_print.specs.Ends.{complaint, IsFront, WantTold, told_whole, told_stopped, told_wanted, WantOf, Ends, PrintedFront, all_printed, sink_stopped, memory_wanted}
+use Rattle.stream_print.specs.Ends.{complaint, WantTold, told_whole, told_stopped, told_wanted, WantOf, Ends, PrintedFront, all_printed, memory_wanted}
 
 -- the text for want of memory was printed whole
 pub want_whole : (notice : List ℕ) (out old new : SinkView) → Grew old.written new.written notice → WantOf notice [] (record { out = out; err = old }) (record { out = out; err = new }) 105

@@ -1,4 +1,4 @@
-use Rattle.std.proofs.Common.{◌++◌, refl, take}
+use Rattle.std.proofs.Common.{refl}
 use Rattle.input_read.proofs.ReadLemmas.{TookIn-join}
 use Rattle.input_read.proofs.read_input.Goals as goal
 

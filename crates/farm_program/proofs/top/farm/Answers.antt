@@ -1,7 +1,6 @@
 use Rattle.std.proofs.Common.{◌≡◌, length, arith}
 use Rattle.std.proofs.lemmas.Grind.{common_steps}
 use Rattle.farm_program.specs.Plan.{host_of}
-use Rattle.farm_program.specs.Builds.{Builds}
 use Rattle.farm_program.proofs.Building.{written_over, builds_by, same_host}
 use Rattle.farm_program.proofs.Completing.{completes, refuses}
 use Rattle.farm_program.proofs.top.farm.Goals as goal

@@ -1,40 +1,30 @@
-use Rattle.std.proofs.Common.{◌≡◌, ◌∙◌, [], ◌∷◌, refl, ap, subst, inl, inr, rules, arith}
+use Rattle.std.proofs.Common.{◌≡◌, [], ◌∷◌, ap, subst, rules, arith}
 use Rattle.std.proofs.lemmas.Grind.{common_steps}
 use Rattle.std.specs.FinMap.{insert}
 use Rattle.edge_traits.specs.Told.{Became}
 use Rattle.edge_traits.proofs.ToldLemmas.{Grew-refl, Grew-by}
 use Rattle.farm_machine.specs.declared.reports.Event.TheVariants.{Ran as RanAt, Exchanged as ExchangedAt, Put as PutAt}
-use Rattle.farm_machine.specs.Course.{not_run, not_preprocessed, broken, not_compiled, compiled, not_put, wanted_at_first, wanted_after_run, wanted_after_exchange}
-use Rattle.job_run.proofs.Coursing.{no_run, run_alone, exchange_last, put_last, untouched, begun_by, whole_by, broken_by, ends_early, answered, put_done, undialed, dialed_once, dial_cause, done_cause}
+use Rattle.farm_machine.specs.Course.{broken, not_put, wanted_after_run, wanted_after_exchange}
+use Rattle.job_run.proofs.Coursing.{no_run, run_alone, exchange_last, put_last, untouched, begun_by, whole_by, broken_by, ends_early, not_run_course, not_run_cause, answered, put_done, undialed, dialed_once, dial_cause, done_cause}
 use Rattle.job_run.proofs.job.carry_out.Goals as goal
 
-pub returns-in-Err-Failed-clause-ran : goal.returns-in-Err-Failed-clause-ran
-returns-in-Err-Failed-clause-ran g c =
-    let run = c.in-Err-Failed.ensures in
-    no_run _ _ _ _ _ _ (Grew-refl _) (record { station = run.faults; station_overruns = run.overruns; keeper = omega arith; keeper_overruns = omega arith; dialer = omega arith }) _ _ (search (rules, inl))
-    c.requires.empty not_run run.runs (Grew-refl _) (untouched _)
-
-pub returns-in-Err-TooMuch-clause-ran : goal.returns-in-Err-TooMuch-clause-ran
-returns-in-Err-TooMuch-clause-ran g c =
-    let run = c.in-Err-TooMuch.ensures in
-    no_run _ _ _ _ _ _ (Grew-refl _) (record { station = run.faults; station_overruns = run.overruns; keeper = omega arith; keeper_overruns = omega arith; dialer = omega arith }) _ _ (search (rules, inr))
-    c.requires.empty not_run run.runs (Grew-refl _) (untouched _)
-
-pub returns-in-Err-Memory-clause-ran : goal.returns-in-Err-Memory-clause-ran
-returns-in-Err-Memory-clause-ran g c =
-    let run = c.in-Err-Memory.ensures in
-    no_run _ _ _ _ _ _ (Grew-refl _) (record { station = run.faults; station_overruns = run.overruns; keeper = omega arith; keeper_overruns = omega arith; dialer = omega arith }) _ _ tt
-    c.requires.empty wanted_at_first run.runs (Grew-refl _) (untouched _)
+pub returns-in-Err-clause-ran : goal.returns-in-Err-clause-ran
+returns-in-Err-clause-ran g c =
+    let run = c.in-Err.ensures in
+    no_run _ _ _ _ _ _ (Grew-refl _) (record { station = run.faults; station_overruns = run.overruns; keeper = omega arith; keeper_overruns = omega arith; dialer = omega arith }) _ _
+    (not_run_cause _ c.in-Err.fault _ _ _ c.why_not_run.ensures run.cause)
+    c.requires.empty (not_run_course _ _ _ c.in-Err.fault _ c.why_not_run.ensures) run.runs (Grew-refl _) (untouched _)
 
 pub returns-then-ran-ne0-clause-ran : goal.returns-then-ran-ne0-clause-ran
 returns-then-ran-ne0-clause-ran g c =
     let run = c.in-Ok.ensures in
     let named : c.push.new.self.items ≡ RanAt 0 ∷ [] = grind (arith, common_steps) in
-    run_alone _ _ _ _ _ _ (Grew-refl _) (record { station = run.faults; station_overruns = run.overruns; keeper = omega arith; keeper_overruns = omega arith; dialer = omega arith }) _ _ tt
-    _ c.as_slice.ensures c.in-Ok.ran run.runs named (ends_early _ _ _ c.in-Ok.ran _ _ c.new.ensures c.new-then-ran-ne0.ensures c.if-ran-ne0.true) (Grew-refl _) (untouched _)
+    run_alone _ _ _ _ _ _ (Grew-refl _) (record { station = run.faults; station_overruns = run.overruns; keeper = omega arith; keeper_overruns = omega arith; dialer = omega arith }) _ _
+    (done_cause _ _ _ _ _ _ _ _ c.done_by_preprocessor.ensures)
+    _ c.as_slice.ensures c.in-Ok.ran run.runs named (ends_early _ _ _ c.in-Ok.ran _ c.done_by_preprocessor.ensures c.if-ran-ne0.true) (Grew-refl _) (untouched _)
 
-pub returns-in-Err-clause-ran : goal.returns-in-Err-clause-ran
-returns-in-Err-clause-ran g c =
+pub returns-in-Err-copy-clause-ran : goal.returns-in-Err-copy-clause-ran
+returns-in-Err-copy-clause-ran g c =
     let run = c.in-Ok.ensures in
     let named : c.push.new.self.items ≡ RanAt 0 ∷ [] = grind (arith, common_steps) in
     run_alone _ _ _ _ _ _ (Grew-refl _) (record { station = run.faults; station_overruns = run.overruns; keeper = omega arith; keeper_overruns = omega arith; dialer = omega arith }) _ _ tt
@@ -93,11 +83,11 @@ returns-in-Ok-put-clause-ran g c =
       files = subst (λ bytes. Became (g.K.Keeper.shows c.args.kit.now.keeper).files (g.K.Keeper.shows c.put.new.self).files (insert (g.K.Keeper.shows c.args.kit.now.keeper).files.value c.args.plan.now.output bytes)) c.as_slice-2.ensures put.files;
     })
 
-pub returns-in-Err-Failed-put-clause-ran : goal.returns-in-Err-Failed-put-clause-ran
-returns-in-Err-Failed-put-clause-ran g c =
+pub returns-in-Err-Failed-clause-ran : goal.returns-in-Err-Failed-clause-ran
+returns-in-Err-Failed-clause-ran g c =
     let run = c.in-Ok.ensures in
     let attempt = c.in-Whole.ensures in
-    let put = c.in-Err-Failed-put.ensures in
+    let put = c.in-Err-Failed.ensures in
     let named : c.push-2.new.self.items ≡ RanAt 0 ∷ ExchangedAt 0 ∷ [] = grind (arith, common_steps) in
     exchange_last _ _ _ _ _ _ (Grew-refl _) (record { station = run.faults; station_overruns = run.overruns; keeper = put.cause.later; keeper_overruns = put.overruns; dialer = attempt.later }) _ _ (search rules)
     _ c.as_slice.ensures c.in-Ok.ran run.runs attempt.adds named
@@ -108,7 +98,7 @@ pub returns-clause-ran : goal.returns-clause-ran
 returns-clause-ran g c =
     let run = c.in-Ok.ensures in
     let attempt = c.in-Whole.ensures in
-    let put = c.in-Err-Memory-put.ensures in
+    let put = c.in-Err-Memory.ensures in
     let named : c.push-2.new.self.items ≡ RanAt 0 ∷ ExchangedAt 0 ∷ [] = grind (arith, common_steps) in
     exchange_last _ _ _ _ _ _ (Grew-refl _) (record { station = run.faults; station_overruns = run.overruns; keeper = put.cause.later; keeper_overruns = put.overruns; dialer = attempt.later }) _ _ tt
     _ c.as_slice.ensures c.in-Ok.ran run.runs attempt.adds named

@@ -1,7 +1,5 @@
-use Rattle.std.proofs.Common.{◌≡◌, ◌∙◌, [], IsTrue, sym, ap, subst, length, arith, rules}
-use Rattle.std.proofs.lemmas.Grind.{common_steps}
+use Rattle.std.proofs.Common.{◌≡◌, [], IsTrue, sym, subst, rules}
 use Rattle.single_job.specs.Paths.{names_source}
-use Rattle.single_job.specs.Lines.{IsLine}
 use Rattle.single_job.proofs.LineLemmas.{after_source, source_stands, source_same, output_stands, ends_there, line_is, none_left, some_left, not_both}
 use Rattle.single_job.proofs.line.parse_line.Goals as goal
 use Rattle.single_job.proofs.line.parse_line.Goals.{then-not-is_empty-via-then-not-is_empty, then-not-is_empty-via-else-not-is_empty+then-not-is_source}

@@ -1,6 +1,5 @@
 use Rattle.std.proofs.Common.{◌≡◌, ◌∙◌, Some, None, length, take, drop, ◌-◌, ◌+◌, arith}
 use Rattle.std.proofs.lemmas.Grind.{common_steps}
-use Rattle.memchr.specs.Find.{IsLastByte, is_byte}
 use Rattle.single_job.proofs.LastNames.{after_slash}
 use Rattle.single_job.proofs.path.last_name_of.Goals as goal
 

@@ -1,8 +1,7 @@
-use Rattle.std.proofs.Common.{Some, None, ◌≡◌, ◌<◌, ◌∙◌, ℕ, List, ◌++◌, sym, ap, length, take, drop, ◌-◌, arith}
+use Rattle.std.proofs.Common.{Some, None, ◌≡◌, ◌∙◌, ◌++◌, sym, ap, length, take, drop, ◌-◌, arith}
 use Rattle.std.proofs.lemmas.Grind.{common_steps}
 use Rattle.std.proofs.lemmas.Bool.Decides.{Decides-eqb}
 use Rattle.std.proofs.lemmas.Slice.Eq.{strip_prefix_is}
-use Rattle.single_job.specs.Parts.{IsNext}
 use Rattle.single_job.proofs.LineParts.{path_reaches, rest_is, next_is}
 use Rattle.single_job.proofs.path.next_path.Goals as goal
 use Rattle.single_job.proofs.path.next_path.Goals.{then-len-eq0-via-then-len-eq0, then-len-eq0-via-else-len-eq0+then-len-gt-PATH_MAX}

@@ -1,4 +1,4 @@
-use Rattle.std.proofs.Common.{◌≡◌, ◌∙◌, List, ℕ, Some, None, sym, subst, lit<, arith}
+use Rattle.std.proofs.Common.{◌≡◌, ◌∙◌, Some, None, sym, subst, lit<}
 use Rattle.std.proofs.lemmas.Str.Pattern.{split_once_first}
 use Rattle.single_job.specs.BuildWords.{IsHostName, IsPort}
 use Rattle.single_job.proofs.HostLemmas.{name_before, digits_after, has_colon, not_both}

@@ -1,4 +1,4 @@
-use Rattle.std.proofs.Common.{◌≡◌, ℕ, List, [], ◌∷◌, map, string_bytes, ap, ◌∙◌, codes, Global, rules, sym}
+use Rattle.std.proofs.Common.{◌≡◌, map, string_bytes, ap, ◌∙◌, codes, Global, rules}
 use Rattle.single_job.proofs.Four.{four}
 use Rattle.single_job.proofs.HostLemmas.{on_host}
 use Rattle.single_job.proofs.words.parse_words.Goals as goal

@@ -1,7 +1,7 @@
-use Rattle.std.proofs.Common.{◌∷◌, [], refl, Err, ap, ◌∙◌, sym, arith}
+use Rattle.std.proofs.Common.{◌∷◌, [], refl, Err, ap, arith}
 use Rattle.stream_print.specs.Ends.{complaint, sink_stopped}
 use Rattle.stream_print.proofs.EndLemmas.{want_after, complaint_whole, complaint_part}
-use Rattle.stream_print.specs.declared.one.PrintStop.TheVariants.{Stopped, Memory}
+use Rattle.stream_print.specs.declared.one.PrintStop.TheVariants.{Stopped}
 use Rattle.stream_print.proofs.endings.complain.Goals as goal
 
 pub returns-in-Ok : goal.returns-in-Ok
