@@ -1,0 +1,19 @@
+-- What reading a stream to its end gave.
+use Rattle.std.specs.Prelude.{ℕ, ◌<◌, ◌≤◌, length}
+use Rattle.edge_traits.specs.declared.faults.FetchFault.{FetchFault}
+use Rattle.edge_traits.specs.declared.faults.FetchFault.TheVariants.{Failed as LoadFailed, Absent, TooMuch, Memory}
+use Rattle.edge_real.specs.declared.reading.Reading.{Reading}
+use Rattle.edge_real.specs.declared.reading.Reading.TheVariants.{Whole, Over, Failed}
+
+-- its bytes are within the bound, or their number is above it
+abbrev pub IsReadWithin : ℕ → Reading → Type 0
+IsReadWithin bound (Whole bytes) = length bytes ≤ bound
+IsReadWithin bound (Over bytes) = bound < bytes
+IsReadWithin bound Failed = Unit {0}
+
+-- a load that came to nothing for the file's length names one above the bound
+abbrev pub IsLoadFault : ℕ → FetchFault → Type 0
+IsLoadFault bound (TooMuch bytes) = bound < bytes
+IsLoadFault bound LoadFailed = Unit {0}
+IsLoadFault bound Absent = Unit {0}
+IsLoadFault bound Memory = Unit {0}

@@ -1,0 +1,247 @@
+ghost use Rattle.std.specs.Prelude.{◌<◌, ◌≤◌, [], ⊤, length, IfOk, IfErr};
+ghost use Rattle.edge_traits.specs.Told.{untold};
+ghost use Rattle.edge_traits.specs.Stations.{IsWithin};
+ghost use Rattle.edge_real.specs.Children.{IsRunFault, IsStreamFault};
+
+use crate::counting::raise;
+use crate::disk::load;
+use crate::own_files::{OwnFile, OwnNames};
+use crate::reading::{Reading, read_to_end};
+use edge_traits::{Bounds, FetchFault, Station, StationFault, Stream};
+use farm_types::{Bytes, Ext, Ran, Word};
+use memchr::memchr;
+use std::alloc::Global;
+use std::fs::File;
+use std::io::{Read, Write};
+use std::os::unix::process::ExitStatusExt;
+use std::process::{Command, Processes, Stdio};
+use std::{rt, str};
+
+/// Runs programs as children of this process, and waits for their ends.
+///
+/// The program is sought as the system seeks it, in `PATH` where its name has no slash. It has the environment and the folder of this process, and an
+/// empty standard input. The files that stand for `Input` and `Output`, and the one that takes its standard error, are in the folder that the
+/// station was given, and are gone when the run ends, whatever it answers.
+#[derive(Drop)]
+pub struct ChildStation<R> {
+    rt: R,
+    names: OwnNames,
+    faults: u64,
+    overruns: u64,
+}
+
+impl<R: Processes + rt::Files<File = File>> ChildStation<R> {
+    /// A station whose own files are in `folder`. Stations of one process, and of others, with one folder use names of their own: `process` is the
+    /// number of this process, and a name that is there already is passed over.
+    pub fn new(rt: R, folder: String, process: u32) -> ChildStation<R> {
+        ChildStation {
+            rt,
+            names: OwnNames::new(folder, process),
+            faults: 0,
+            overruns: 0,
+        }
+    }
+}
+
+impl<R: Processes + rt::Files<File = File>> Station for ChildStation<R> {
+    ghost shows = { λ s. record { runs = untold []; faults = s.faults; overruns = s.overruns } };
+
+    ghost ran = { λ s words input ran. ⊤ };
+
+    fn run(
+        &mut self,
+        alloc: Global,
+        words: &[Word],
+        input: &[u8],
+        bounds: &Bounds,
+    ) -> Result<Ran, StationFault> {
+        let ran = run_child(&self.rt, &mut self.names, alloc, words, input, bounds);
+        match ran {
+            Ok(_) => {}
+            Err(StationFault::TooMuch { .. }) => raise(&mut self.overruns),
+            Err(StationFault::Failed | StationFault::Memory) => raise(&mut self.faults),
+        }
+        ran
+    }
+}
+
+fn run_child<R: Processes + rt::Files<File = File>>(
+    rt: &R,
+    names: &mut OwnNames,
+    alloc: Global,
+    words: &[Word],
+    input: &[u8],
+    bounds: &Bounds,
+) -> Result<Ran, StationFault>
+    ensures within { IfOk result (IsWithin bounds.now) }
+    ensures fault { IfErr result (IsRunFault bounds.now) }
+{
+    let source = input_file(rt, names, alloc, words, input)?;
+    let object = output_file(rt, names, alloc, words)?;
+    let (messages, errors) = OwnFile::create(rt, names, alloc, "err")?;
+    let command = command_of(alloc, words, path_of(&source), path_of(&object))?;
+    let (status, out) = run_to_end(rt, command, errors, alloc, bounds.out)?;
+    let err = load_own(rt, alloc, messages.path(), bounds.err, Stream::Err)?;
+    let object = match &object {
+        Some(file) => load_own(rt, alloc, file.path(), bounds.object, Stream::Object)?,
+        None => Bytes::new(alloc),
+    };
+    Ok(Ran {
+        status,
+        out,
+        err,
+        object,
+    })
+}
+
+/// The file that stands for `Input`, where it stands in the words.
+fn input_file<'a, R: rt::Files>(
+    rt: &'a R,
+    names: &mut OwnNames,
+    alloc: Global,
+    words: &[Word],
+    input: &[u8],
+) -> Result<Option<OwnFile<'a, R>>, StationFault> {
+    let Some(ext) = input_ext(words) else {
+        return Ok(None);
+    };
+    let (source, mut file) = OwnFile::create(rt, names, alloc, ending_of(ext))?;
+    match file.write_all(input) {
+        Ok(()) => Ok(Some(source)),
+        Err(_) => Err(StationFault::Failed),
+    }
+}
+
+/// The file that stands for `Output`, where it stands in the words. It is empty until the program writes it.
+fn output_file<'a, R: rt::Files>(
+    rt: &'a R,
+    names: &mut OwnNames,
+    alloc: Global,
+    words: &[Word],
+) -> Result<Option<OwnFile<'a, R>>, StationFault> {
+    if !words.iter().any(|word| matches!(word, Word::Output)) {
+        return Ok(None);
+    }
+    let (object, _file) = OwnFile::create(rt, names, alloc, "o")?;
+    Ok(Some(object))
+}
+
+fn input_ext(words: &[Word]) -> Option<Ext> {
+    for word in words {
+        if let Word::Input(ext) = word {
+            return Some(*ext);
+        }
+    }
+    None
+}
+
+fn ending_of(ext: Ext) -> &'static str {
+    match ext {
+        Ext::I => "i",
+        Ext::Ii => "ii",
+    }
+}
+
+fn path_of<'a, R: rt::Files>(file: &'a Option<OwnFile<'_, R>>) -> &'a str {
+    match file {
+        Some(file) => file.path(),
+        None => "",
+    }
+}
+
+fn command_of(
+    alloc: Global,
+    words: &[Word],
+    source: &str,
+    object: &str,
+) -> Result<Command, StationFault> {
+    let Some((program, arguments)) = words.split_first() else {
+        return Err(StationFault::Failed);
+    };
+    let mut command = Command::new(alloc, text_of(program, source, object)?)?;
+    for word in arguments {
+        command.arg(text_of(word, source, object)?)?;
+    }
+    Ok(command)
+}
+
+/// A word as the program is given it. One that isn't UTF-8 or holds a zero byte can't be given.
+fn text_of<'a>(word: &'a Word, source: &'a str, object: &'a str) -> Result<&'a str, StationFault> {
+    match word {
+        Word::Input(_) => Ok(source),
+        Word::Output => Ok(object),
+        Word::Text(bytes) => {
+            if memchr(0, bytes.as_slice()).is_some() {
+                return Err(StationFault::Failed);
+            }
+            str::from_utf8(bytes.as_slice()).map_err(|_| StationFault::Failed)
+        }
+    }
+}
+
+/// Runs a program to its end. Its standard error goes to a file and its standard output to a pipe that is read here, so neither holds it up.
+fn run_to_end<R: Processes>(
+    rt: &R,
+    command: Command,
+    errors: File,
+    alloc: Global,
+    bound: u32,
+) -> Result<(u32, Bytes), StationFault>
+    ensures within { IfOk result (λ ended. length ended.1 ≤ bound) }
+    ensures fault { IfErr result (IsStreamFault Stream.Out bound) }
+{
+    let mut command = command;
+    command
+        .stdin(Stdio::null())
+        .stdout(Stdio::piped())
+        .stderr(Stdio::from(errors));
+    let Ok(mut child) = command.spawn(rt) else {
+        return Err(StationFault::Failed);
+    };
+    let out = read_pipe(child.stdout.take(), alloc, bound);
+    let Ok(status) = child.wait() else {
+        return Err(StationFault::Failed);
+    };
+    Ok((status.into_raw().cast_unsigned(), out?))
+}
+
+fn read_pipe<S: Read + Drop>(
+    pipe: Option<S>,
+    alloc: Global,
+    bound: u32,
+) -> Result<Bytes, StationFault>
+    ensures within { IfOk result (λ bytes. length bytes ≤ bound) }
+    ensures fault { IfErr result (IsStreamFault Stream.Out bound) }
+{
+    let Some(mut pipe) = pipe else {
+        return Err(StationFault::Failed);
+    };
+    match read_to_end(&mut pipe, alloc, bound)? {
+        Reading::Whole(bytes) => Ok(bytes),
+        Reading::Over(bytes) => Err(StationFault::TooMuch {
+            stream: Stream::Out,
+            bytes,
+        }),
+        Reading::Failed => Err(StationFault::Failed),
+    }
+}
+
+/// What a file of the station's own holds. One that the program took away holds nothing.
+fn load_own<R: rt::Files>(
+    rt: &R,
+    alloc: Global,
+    path: &str,
+    bound: u32,
+    stream: Stream,
+) -> Result<Bytes, StationFault>
+    ensures within { IfOk result (λ bytes. length bytes ≤ bound) }
+    ensures fault { IfErr result (IsStreamFault stream bound) }
+{
+    match load(rt, alloc, path, bound) {
+        Ok(bytes) => Ok(bytes),
+        Err(FetchFault::Absent) => Ok(Bytes::new(alloc)),
+        Err(FetchFault::TooMuch { bytes }) => Err(StationFault::TooMuch { stream, bytes }),
+        Err(FetchFault::Failed) => Err(StationFault::Failed),
+        Err(FetchFault::Memory) => Err(StationFault::Memory),
+    }
+}

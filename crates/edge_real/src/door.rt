@@ -1,0 +1,111 @@
+ghost use Rattle.std.specs.Prelude.{[], ⊤};
+ghost use Rattle.edge_traits.specs.Told.{untold};
+
+use crate::counting::raise;
+use crate::retrying::read_once;
+use crate::tcp::TcpLink;
+use edge_traits::{Door, EdgeFault};
+use farm_types::{Bytes, HostName};
+use std::alloc::Global;
+use std::io;
+use std::io::{ErrorKind, Read, Write};
+use std::net::{Ipv4Addr, Net, OpenListener, OpenStream, Shutdown, SocketAddr, TcpListener};
+use std::time::Duration;
+
+/// Takes connections in over TCP. Without a listener, each `accept` counts as a fault.
+#[derive(Drop)]
+pub struct TcpDoor<L> {
+    listener: Option<L>,
+    faults: u64,
+}
+
+impl<L: OpenListener> TcpDoor<L> {
+    /// A door on this IPv4 address and port. Port 0 is one that the system picks.
+    pub fn open<R: Net<Listener = L>>(rt: &R, address: u32, port: u16) -> TcpDoor<L> {
+        let place = (Ipv4Addr::from_bits(address), port);
+        TcpDoor {
+            listener: TcpListener::bind(rt, place).ok(),
+            faults: 0,
+        }
+    }
+
+    /// Another door on the same listener.
+    pub fn share(&self) -> TcpDoor<L> {
+        TcpDoor {
+            listener: match &self.listener {
+                Some(listener) => listener.try_clone().ok(),
+                None => None,
+            },
+            faults: 0,
+        }
+    }
+
+    /// Whether there is a listener.
+    pub fn is_open(&self) -> bool {
+        self.listener.is_some()
+    }
+
+    /// The port of the listener, where the system tells it.
+    pub fn port(&self) -> Option<u16> {
+        let place = self.listener.as_ref()?.local_addr().ok()?;
+        Some(place.port())
+    }
+
+    /// One connection, with the peer's address. An accept that a signal interrupted, or whose peer has gone by then, is made again.
+    fn accept_one(&self) -> io::Result<(L::Stream, SocketAddr)> {
+        let Some(listener) = &self.listener else {
+            return Err(io::Error::from(ErrorKind::NotConnected));
+        };
+        for _ in 0..u64::MAX {
+            match listener.accept() {
+                Ok(accepted) => return Ok(accepted),
+                Err(error) => {
+                    if !matches!(error.kind(), ErrorKind::Interrupted | ErrorKind::ConnectionAborted) {
+                        return Err(error);
+                    }
+                }
+            }
+        }
+        Err(io::Error::from(ErrorKind::Interrupted))
+    }
+}
+
+impl<L: OpenListener> Door for TcpDoor<L>
+where
+    L::Stream: Read + Write + OpenStream,
+{
+    type Link = TcpLink<L::Stream>;
+
+    ghost shows = { λ d. record { visits = untold []; peers = untold []; faults = d.faults } };
+
+    ghost came = { λ d l. ⊤ };
+
+    ghost came_stays = { λ d a b came f. came };
+
+    fn accept(&mut self, alloc: Global) -> Result<(TcpLink<L::Stream>, u32), EdgeFault> {
+        match self.accept_one() {
+            Ok((stream, peer)) => {
+                let nobody = HostName {
+                    text: Bytes::new(alloc),
+                };
+                Ok((TcpLink::new(stream, nobody, 0), ipv4_of(peer)))
+            }
+            Err(_) => {
+                raise(&mut self.faults);
+                Err(EdgeFault::Failed)
+            }
+        }
+    }
+
+    fn leave(&mut self, link: TcpLink<L::Stream>) {
+        link.linger();
+    }
+}
+
+/// The IPv4 address as a number. A listener on an IPv4 address has no other peers.
+fn ipv4_of(peer: SocketAddr) -> u32 {
+    match peer {
+        SocketAddr::V4(peer) => peer.ip().to_bits(),
+        SocketAddr::V6(_) => 0,
+    }
+}

@@ -1,0 +1,21 @@
+//! The devices of a real system: sockets, programs, files, the clock and the standard streams.
+//! Each counts the calls that came to nothing, and tells no content.
+#![tactic(auto)]
+
+mod child;
+mod clock;
+mod counting;
+mod disk;
+mod door;
+mod own_files;
+mod reading;
+mod retrying;
+mod stream;
+mod tcp;
+
+pub use child::ChildStation;
+pub use clock::WallClock;
+pub use disk::DiskFiles;
+pub use door::TcpDoor;
+pub use stream::{StdSink, StdSource};
+pub use tcp::{TcpDialer, TcpLink};

@@ -1,0 +1,4 @@
+mod FileMapLemmas
+mod StagedNames
+mod Filling
+mod Delivering

@@ -1,0 +1,3 @@
+pub mod FileViews
+pub mod Staging
+pub mod ScriptedFiles
