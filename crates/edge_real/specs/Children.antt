@@ -17,3 +17,9 @@ abbrev pub IsStreamFault : Stream → ℕ → StationFault → Type 0
 IsStreamFault one bound Failed = Unit {0}
 IsStreamFault one bound (TooMuch stream bytes) = (stream ≡ one) × (bound < bytes)
 IsStreamFault one bound Memory = Unit {0}
+
+-- no stream is named
+abbrev pub NamesNoStream : StationFault → Type 0
+NamesNoStream Failed = Unit {0}
+NamesNoStream (TooMuch stream bytes) = ⊥
+NamesNoStream Memory = Unit {0}

@@ -1,7 +1,7 @@
 ghost use Rattle.std.specs.Prelude.{◌<◌, ◌≤◌, [], ⊤, length, IfOk, IfErr};
 ghost use Rattle.edge_traits.specs.Told.{untold};
 ghost use Rattle.edge_traits.specs.Stations.{IsWithin};
-ghost use Rattle.edge_real.specs.Children.{IsRunFault, IsStreamFault};
+ghost use Rattle.edge_real.specs.Children.{IsRunFault, IsStreamFault, NamesNoStream};
 
 use crate::counting::raise;
 use crate::disk::load;
@@ -65,6 +65,7 @@ impl<R: Processes + rt::Files<File = File>> Station for ChildStation<R> {
     }
 }
 
+#[tactic(auto, using(crate::proofs::ChildLemmas::unnamed))]
 fn run_child<R: Processes + rt::Files<File = File>>(
     rt: &R,
     names: &mut OwnNames,
@@ -101,7 +102,9 @@ fn input_file<'a, R: rt::Files>(
     alloc: Global,
     words: &[Word],
     input: &[u8],
-) -> Result<Option<OwnFile<'a, R>>, StationFault> {
+) -> Result<Option<OwnFile<'a, R>>, StationFault>
+    ensures { IfErr result NamesNoStream }
+{
     let Some(ext) = input_ext(words) else {
         return Ok(None);
     };
@@ -118,7 +121,9 @@ fn output_file<'a, R: rt::Files>(
     names: &mut OwnNames,
     alloc: Global,
     words: &[Word],
-) -> Result<Option<OwnFile<'a, R>>, StationFault> {
+) -> Result<Option<OwnFile<'a, R>>, StationFault>
+    ensures { IfErr result NamesNoStream }
+{
     if !words.iter().any(|word| matches!(word, Word::Output)) {
         return Ok(None);
     }
@@ -154,7 +159,9 @@ fn command_of(
     words: &[Word],
     source: &str,
     object: &str,
-) -> Result<Command, StationFault> {
+) -> Result<Command, StationFault>
+    ensures { IfErr result NamesNoStream }
+{
     let Some((program, arguments)) = words.split_first() else {
         return Err(StationFault::Failed);
     };
@@ -166,7 +173,9 @@ fn command_of(
 }
 
 /// A word as the program is given it. One that isn't UTF-8 or holds a zero byte can't be given.
-fn text_of<'a>(word: &'a Word, source: &'a str, object: &'a str) -> Result<&'a str, StationFault> {
+fn text_of<'a>(word: &'a Word, source: &'a str, object: &'a str) -> Result<&'a str, StationFault>
+    ensures { IfErr result NamesNoStream }
+{
     match word {
         Word::Input(_) => Ok(source),
         Word::Output => Ok(object),
@@ -174,7 +183,10 @@ fn text_of<'a>(word: &'a Word, source: &'a str, object: &'a str) -> Result<&'a s
             if memchr(0, bytes.as_slice()).is_some() {
                 return Err(StationFault::Failed);
             }
-            str::from_utf8(bytes.as_slice()).map_err(|_| StationFault::Failed)
+            match str::from_utf8(bytes.as_slice()) {
+                Ok(text) => Ok(text),
+                Err(_) => Err(StationFault::Failed),
+            }
         }
     }
 }

@@ -2,9 +2,8 @@ ghost use Rattle.std.specs.Prelude.{[]};
 ghost use Rattle.edge_traits.specs.Told.{untold};
 
 use edge_traits::Clock;
-use std::rt;
-use std::thread;
 use std::time::{Duration, SystemTime, UNIX_EPOCH};
+use std::{rt, thread};
 
 /// The system's clock, in seconds since 1970. Where it can't be read, or stands before 1970, it gives 0.
 #[derive(Drop)]

@@ -60,7 +60,10 @@ impl<L: OpenListener> TcpDoor<L> {
             match listener.accept() {
                 Ok(accepted) => return Ok(accepted),
                 Err(error) => {
-                    if !matches!(error.kind(), ErrorKind::Interrupted | ErrorKind::ConnectionAborted) {
+                    if !matches!(
+                        error.kind(),
+                        ErrorKind::Interrupted | ErrorKind::ConnectionAborted
+                    ) {
                         return Err(error);
                     }
                 }

@@ -19,3 +19,6 @@ pub use disk::DiskFiles;
 pub use door::TcpDoor;
 pub use stream::{StdSink, StdSource};
 pub use tcp::{TcpDialer, TcpLink};
+
+#[cfg(test)]
+mod tests;

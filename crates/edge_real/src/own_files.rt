@@ -1,3 +1,6 @@
+ghost use Rattle.std.specs.Prelude.{IfErr};
+ghost use Rattle.edge_real.specs.Children.{NamesNoStream};
+
 use edge_traits::StationFault;
 use std::alloc::{AllocError, Global};
 use std::fs::OpenOptions;
@@ -44,7 +47,9 @@ impl<'a, R: rt::Files> OwnFile<'a, R> {
         names: &mut OwnNames,
         alloc: Global,
         ending: &str,
-    ) -> Result<(OwnFile<'a, R>, R::File), StationFault> {
+    ) -> Result<(OwnFile<'a, R>, R::File), StationFault>
+        ensures { IfErr result NamesNoStream }
+    {
         for _ in 0..NAMES_TRIED {
             let path = names.next(alloc, ending)?;
             let opened = OpenOptions::new()

@@ -19,7 +19,11 @@ pub enum Reading {
 }
 
 /// Reads a stream to its end. Past the bound it counts the bytes and keeps none.
-pub fn read_to_end<S: Read>(stream: &mut S, alloc: Global, bound: u32) -> Result<Reading, AllocError>
+pub fn read_to_end<S: Read>(
+    stream: &mut S,
+    alloc: Global,
+    bound: u32,
+) -> Result<Reading, AllocError>
     ensures { IfOk result (IsReadWithin bound) }
 {
     let mut bytes = Bytes::new(alloc);

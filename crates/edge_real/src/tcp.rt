@@ -1,6 +1,8 @@
-ghost use Rattle.std.specs.Prelude.{[], ◌≡◌, ⊤, refl};
+ghost use Rattle.std.specs.Prelude.{[], ◌≡◌, ⊤, refl, IfOk};
 ghost use Rattle.std.proofs.Common.{◌∙◌, sym};
 ghost use Rattle.edge_traits.specs.Told.{untold};
+ghost use Rattle.edge_traits.specs.Links.{IsFresh};
+ghost use Rattle.edge_real.specs.TcpLinks.{link_view};
 
 use crate::counting::raise;
 use crate::retrying::{read_once, write_once};
@@ -25,7 +27,9 @@ pub struct TcpLink<S> {
 
 impl<S: OpenStream> TcpLink<S> {
     /// A link on which nothing has happened yet. Small pieces are sent at once, where the system allows it.
-    pub(crate) fn new(stream: S, host: HostName, port: u16) -> TcpLink<S> {
+    pub(crate) fn new(stream: S, host: HostName, port: u16) -> TcpLink<S>
+        ensures { IsFresh host port (link_view result) }
+    {
         let _ = stream.set_nodelay(true);
         TcpLink {
             stream,
@@ -68,14 +72,7 @@ const LINGER_READS: u32 = 1024;
 const LINGER_ROOM: usize = 16_384;
 
 impl<S: Read + Write> Link for TcpLink<S> {
-    ghost shows = { λ l. record {
-      origin = record { host = l.host; port = l.port };
-      sent = untold [];
-      given = untold [];
-      ended = l.ended;
-      stopped = l.stopped;
-      faults = l.faults;
-    } };
+    ghost shows = { link_view };
 
     ghost follows = { λ a b. (a.host ≡ b.host) × (a.port ≡ b.port) };
 
@@ -129,6 +126,7 @@ impl<R: Net> TcpDialer<R> {
     }
 
     fn connect(&self, host: &HostName, port: u16) -> Result<TcpLink<R::Stream>, EdgeFault>
+        ensures { IfOk result (λ link. IsFresh host.now port (link_view link)) }
     {
         let name = host.copy()?;
         let text = str::from_utf8(host.text.as_slice()).map_err(|_| EdgeFault::Failed)?;
@@ -148,7 +146,12 @@ impl<R: Net> Dialer for TcpDialer<R> {
 
     ghost came_stays = { λ d a b came f. came };
 
-    fn dial(&mut self, _alloc: Global, host: &HostName, port: u16) -> Result<TcpLink<R::Stream>, EdgeFault> {
+    fn dial(
+        &mut self,
+        _alloc: Global,
+        host: &HostName,
+        port: u16,
+    ) -> Result<TcpLink<R::Stream>, EdgeFault> {
         let link = self.connect(host, port);
         if link.is_err() {
             raise(&mut self.faults);

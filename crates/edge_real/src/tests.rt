@@ -1,0 +1,186 @@
+// Each device against a peer, a file or a child of its own.
+use super::{ChildStation, DiskFiles, StdSink, StdSource, TcpDialer, TcpDoor, WallClock};
+use edge_traits::{
+    Bounds, Clock, Dialer, Door, EdgeFault, FetchFault, Keeper, Link, Sink, Source, Station,
+    StationFault, Stream,
+};
+use farm_types::{Bytes, Ext, HostName, Word};
+use object_delivery::{FileKeeper, Files};
+use std::alloc::{AllocError, Global};
+use std::io::pipe;
+use std::test::Fail;
+use std::thread;
+
+const BOUNDS: Bounds = Bounds {
+    out: 100_000,
+    err: 100_000,
+    object: 100_000,
+};
+
+const LOCALHOST: u32 = 0x7f00_0001;
+
+fn text(alloc: Global, word: &[u8]) -> Result<Word, AllocError> {
+    Ok(Word::Text(Bytes::from_slice(alloc, word)?))
+}
+
+fn host(alloc: Global, name: &[u8]) -> Result<HostName, AllocError> {
+    Ok(HostName {
+        text: Bytes::from_slice(alloc, name)?,
+    })
+}
+
+fn shell(alloc: Global, script: &[u8]) -> Result<Vec<Word>, AllocError> {
+    let mut words = Vec::new(alloc);
+    words.push(text(alloc, b"/bin/sh")?)?;
+    words.push(text(alloc, b"-c")?)?;
+    words.push(text(alloc, script)?)?;
+    words.push(Word::Input(Ext::Ii))?;
+    words.push(Word::Output)?;
+    Ok(words)
+}
+
+#[test]
+fn a_dialer_and_a_door_carry_bytes_both_ways(rt: HostRuntime) -> Result<(), Fail> {
+    let alloc = rt.alloc();
+    let mut door = TcpDoor::open(&rt, LOCALHOST, 0);
+    let port = door.port().ok_or("port")?;
+    let mut dialer = TcpDialer::new(rt);
+    let name = host(alloc, b"localhost")?;
+    let (near, far) = thread::join(
+        &rt,
+        move || {
+            let Ok(mut link) = dialer.dial(alloc, &name, port) else {
+                return (0u8, false);
+            };
+            let _ = link.send(b"a");
+            let mut room = [0u8; 4];
+            let _ = link.recv(&mut room);
+            let ended = matches!(link.recv(&mut [0u8; 4]), Ok(0));
+            dialer.hang_up(link);
+            (room[0], ended)
+        },
+        || {
+            let Ok((mut link, peer)) = door.accept(alloc) else {
+                return (0u8, 0u32);
+            };
+            let mut room = [0u8; 4];
+            let _ = link.recv(&mut room);
+            let _ = link.send(b"b");
+            door.leave(link);
+            (room[0], peer)
+        },
+    );
+    assert_eq!(rt; near, (b'b', true));
+    assert_eq!(rt; far, (b'a', LOCALHOST));
+    Ok(())
+}
+
+#[test]
+fn a_host_that_is_not_there_is_a_fault(rt: HostRuntime) -> Result<(), Fail> {
+    let alloc = rt.alloc();
+    let mut dialer = TcpDialer::new(rt);
+    for name in [b"127.0.0.1".as_slice(), b"red.invalid", b"\xff"] {
+        let name = host(alloc, name)?;
+        assert!(rt; matches!(dialer.dial(alloc, &name, 1), Err(EdgeFault::Failed)));
+    }
+    let mut closed = TcpDoor::open(&rt, 0x0102_0304, 1);
+    assert!(rt; !closed.is_open());
+    assert!(rt; matches!(closed.accept(alloc), Err(EdgeFault::Failed)));
+    Ok(())
+}
+
+#[test]
+fn a_child_gives_its_status_outputs_and_object(rt: HostRuntime) -> Result<(), Fail> {
+    let alloc = rt.alloc();
+    let mut station = ChildStation::new(rt, String::from_str(alloc, ".")?, 7);
+    let script = b"cat $0 > $1; cat; echo $0; echo no >&2; exit 3";
+    let words = shell(alloc, script)?;
+    let ran = station
+        .run(alloc, words.as_slice(), b"int a;\n", &BOUNDS)
+        .map_err(|_| "run")?;
+    assert_eq!(rt; ran.status, 768);
+    assert_eq!(rt; ran.out.as_slice(), b"./farm-7-1.ii\n".as_slice());
+    assert_eq!(rt; ran.err.as_slice(), b"no\n".as_slice());
+    assert_eq!(rt; ran.object.as_slice(), b"int a;\n".as_slice());
+    let mut files = DiskFiles::new(rt);
+    for name in [b"farm-7-1.ii".as_slice(), b"farm-7-2.o", b"farm-7-3.err"] {
+        let name = Bytes::from_slice(alloc, name)?;
+        assert!(rt; matches!(files.load(alloc, &name, 9), Err(FetchFault::Absent)));
+    }
+    Ok(())
+}
+
+#[test]
+fn a_child_that_fails_is_told_from_one_that_ends(rt: HostRuntime) -> Result<(), Fail> {
+    let alloc = rt.alloc();
+    let mut station = ChildStation::new(rt, String::from_str(alloc, ".")?, 8);
+    let loud = shell(
+        alloc,
+        b"head -c 300000 /dev/zero; head -c 300000 /dev/zero >&2",
+    )?;
+    let over = StationFault::TooMuch {
+        stream: Stream::Out,
+        bytes: 300_000,
+    };
+    assert!(rt; station.run(alloc, loud.as_slice(), b"", &BOUNDS).err() == Some(over));
+    let killed = shell(alloc, b"kill -KILL $$")?;
+    let ran = station
+        .run(alloc, killed.as_slice(), b"", &BOUNDS)
+        .map_err(|_| "run")?;
+    assert_eq!(rt; ran.status, 9);
+    assert!(rt; ran.object.is_empty());
+    for word in [b"no/such/program".as_slice(), b"\xff", b"sh\0"] {
+        let words = [text(alloc, word)?];
+        let ended = station.run(alloc, &words, b"", &BOUNDS);
+        assert!(rt; ended.err() == Some(StationFault::Failed));
+    }
+    Ok(())
+}
+
+#[test]
+fn a_file_is_put_and_fetched(rt: HostRuntime) -> Result<(), Fail> {
+    let alloc = rt.alloc();
+    let path = Bytes::from_slice(alloc, b"x.o")?;
+    let mut keeper = FileKeeper::new(DiskFiles::new(rt));
+    assert!(rt; matches!(keeper.fetch(alloc, &path, 3), Err(FetchFault::Absent)));
+    keeper.put(alloc, &path, b"old")?;
+    keeper.put(alloc, &path, b"newer")?;
+    assert!(rt;
+        matches!(
+            keeper.fetch(alloc, &path, 4),
+            Err(FetchFault::TooMuch { bytes: 5 })
+        )
+    );
+    let fetched = keeper.fetch(alloc, &path, 5)?;
+    assert_eq!(rt; fetched.as_slice(), b"newer".as_slice());
+    let nowhere = Bytes::from_slice(alloc, b"no/such/folder/x.o")?;
+    assert_eq!(rt; keeper.put(alloc, &nowhere, b"new"), Err(EdgeFault::Failed));
+    let mut files = keeper.into_files();
+    files.remove(&path)?;
+    assert_eq!(rt; files.remove(&path), Err(EdgeFault::Failed));
+    Ok(())
+}
+
+#[test]
+fn the_clock_goes_on(rt: HostRuntime) {
+    let mut clock = WallClock::new(rt);
+    let first = clock.now();
+    clock.pause();
+    assert!(rt; 1_577_836_800 < first && first <= clock.now());
+}
+
+#[test]
+fn streams_end_and_break(rt: HostRuntime) -> Result<(), Fail> {
+    let (reader, writer) = pipe(&rt)?;
+    let mut sink = StdSink::new(writer);
+    let mut source = StdSource::new(reader);
+    let mut room = [0u8; 4];
+    assert_eq!(rt; sink.write(b"ab"), Ok(2));
+    assert_eq!(rt; source.read(&mut room), Ok(2));
+    drop(source);
+    assert_eq!(rt; sink.write(b"ab"), Err(EdgeFault::Failed));
+    let (reader, writer) = pipe(&rt)?;
+    drop(writer);
+    assert_eq!(rt; StdSource::new(reader).read(&mut room), Ok(0));
+    Ok(())
+}
