@@ -1,3 +1,3 @@
 pub mod Reading
 pub mod Children
-pub mod TcpLinks
+pub mod Views

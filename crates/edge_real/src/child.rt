@@ -1,6 +1,6 @@
-ghost use Rattle.std.specs.Prelude.{◌<◌, ◌≤◌, [], ⊤, length, IfOk, IfErr};
-ghost use Rattle.edge_traits.specs.Told.{untold};
+ghost use Rattle.std.specs.Prelude.{◌≡◌, ◌≤◌, ⊤, length, IfOk, IfErr};
 ghost use Rattle.edge_traits.specs.Stations.{IsWithin};
+ghost use Rattle.edge_real.specs.Views.{station_view, counted_station};
 ghost use Rattle.edge_real.specs.Children.{IsRunFault, IsStreamFault, NamesNoStream};
 
 use crate::counting::raise;
@@ -33,7 +33,9 @@ pub struct ChildStation<R> {
 impl<R: Processes + rt::Files<File = File>> ChildStation<R> {
     /// A station whose own files are in `folder`. Stations of one process, and of others, with one folder use names of their own: `process` is the
     /// number of this process, and a name that is there already is passed over.
-    pub fn new(rt: R, folder: String, process: u32) -> ChildStation<R> {
+    pub fn new(rt: R, folder: String, process: u32) -> ChildStation<R>
+        ensures { station_view result ≡ counted_station 0 0 }
+    {
         ChildStation {
             rt,
             names: OwnNames::new(folder, process),
@@ -44,7 +46,7 @@ impl<R: Processes + rt::Files<File = File>> ChildStation<R> {
 }
 
 impl<R: Processes + rt::Files<File = File>> Station for ChildStation<R> {
-    ghost shows = { λ s. record { runs = untold []; faults = s.faults; overruns = s.overruns } };
+    ghost shows = { station_view };
 
     ghost ran = { λ s words input ran. ⊤ };
 

@@ -1,7 +1,6 @@
-ghost use Rattle.std.specs.Prelude.{◌≤◌, length, IfOk, IfErr};
-ghost use Rattle.std.specs.FinMap.{empty};
-ghost use Rattle.edge_traits.specs.Told.{untold};
+ghost use Rattle.std.specs.Prelude.{◌≡◌, ◌≤◌, length, IfOk, IfErr};
 ghost use Rattle.edge_real.specs.Reading.{IsLoadFault};
+ghost use Rattle.edge_real.specs.Views.{files_view, counted_files};
 
 use crate::counting::raise;
 use crate::reading::{Reading, read_to_end};
@@ -23,7 +22,10 @@ pub struct DiskFiles<R> {
 }
 
 impl<R: rt::Files> DiskFiles<R> {
-    pub fn new(rt: R) -> DiskFiles<R> {
+    /// The files, without faults and overruns so far.
+    pub fn new(rt: R) -> DiskFiles<R>
+        ensures { files_view result ≡ counted_files 0 0 }
+    {
         DiskFiles {
             rt,
             faults: 0,
@@ -33,7 +35,7 @@ impl<R: rt::Files> DiskFiles<R> {
 }
 
 impl<R: rt::Files> Files for DiskFiles<R> {
-    ghost shows = { λ f. record { files = untold empty; faults = f.faults; overruns = f.overruns } };
+    ghost shows = { files_view };
 
     fn create(&mut self, _alloc: Global, name: &Bytes) -> Result<(), EdgeFault> {
         let created = create_file(&self.rt, name);

@@ -1,5 +1,5 @@
-ghost use Rattle.std.specs.Prelude.{[], ⊤};
-ghost use Rattle.edge_traits.specs.Told.{untold};
+ghost use Rattle.std.specs.Prelude.{◌≡◌, ◌↔◌, ⊤, IsTrue, IsSome};
+ghost use Rattle.edge_real.specs.Views.{door_view, counted_door};
 
 use crate::counting::raise;
 use crate::retrying::read_once;
@@ -21,7 +21,9 @@ pub struct TcpDoor<L> {
 
 impl<L: OpenListener> TcpDoor<L> {
     /// A door on this IPv4 address and port. Port 0 is one that the system picks.
-    pub fn open<R: Net<Listener = L>>(rt: &R, address: u32, port: u16) -> TcpDoor<L> {
+    pub fn open<R: Net<Listener = L>>(rt: &R, address: u32, port: u16) -> TcpDoor<L>
+        ensures { door_view result ≡ counted_door 0 }
+    {
         let place = (Ipv4Addr::from_bits(address), port);
         TcpDoor {
             listener: TcpListener::bind(rt, place).ok(),
@@ -30,7 +32,9 @@ impl<L: OpenListener> TcpDoor<L> {
     }
 
     /// Another door on the same listener.
-    pub fn share(&self) -> TcpDoor<L> {
+    pub fn share(&self) -> TcpDoor<L>
+        ensures { door_view result ≡ counted_door 0 }
+    {
         TcpDoor {
             listener: match &self.listener {
                 Some(listener) => listener.try_clone().ok(),
@@ -79,7 +83,7 @@ where
 {
     type Link = TcpLink<L::Stream>;
 
-    ghost shows = { λ d. record { visits = untold []; peers = untold []; faults = d.faults } };
+    ghost shows = { door_view };
 
     ghost came = { λ d l. ⊤ };
 

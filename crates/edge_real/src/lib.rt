@@ -7,6 +7,7 @@ mod clock;
 mod counting;
 mod disk;
 mod door;
+mod kits;
 mod own_files;
 mod reading;
 mod retrying;
@@ -17,6 +18,7 @@ pub use child::ChildStation;
 pub use clock::WallClock;
 pub use disk::DiskFiles;
 pub use door::TcpDoor;
+pub use kits::{SystemKit, system_kit};
 pub use stream::{StdSink, StdSource};
 pub use tcp::{TcpDialer, TcpLink};
 

@@ -1,5 +1,5 @@
-ghost use Rattle.std.specs.Prelude.{[]};
-ghost use Rattle.edge_traits.specs.Told.{untold};
+ghost use Rattle.std.specs.Prelude.{◌≡◌, false};
+ghost use Rattle.edge_real.specs.Views.{source_view, counted_source, sink_view, counted_sink};
 
 use crate::counting::raise;
 use crate::retrying::{read_once, write_once};
@@ -15,7 +15,10 @@ pub struct StdSource<R> {
 }
 
 impl<R: Read> StdSource<R> {
-    pub fn new(reader: R) -> StdSource<R> {
+    /// A source that hasn't ended, without faults so far.
+    pub fn new(reader: R) -> StdSource<R>
+        ensures { source_view result ≡ counted_source false 0 }
+    {
         StdSource {
             reader,
             ended: false,
@@ -25,7 +28,7 @@ impl<R: Read> StdSource<R> {
 }
 
 impl<R: Read> Source for StdSource<R> {
-    ghost shows = { λ s. record { read = untold []; left = untold []; ended = s.ended; faults = s.faults } };
+    ghost shows = { source_view };
 
     fn read(&mut self, room: &mut [u8]) -> Result<usize, EdgeFault> {
         match read_once(&mut self.reader, room) {
@@ -50,7 +53,10 @@ pub struct StdSink<W> {
 }
 
 impl<W: Write> StdSink<W> {
-    pub fn new(writer: W) -> StdSink<W> {
+    /// A sink that hasn't stopped, without faults so far.
+    pub fn new(writer: W) -> StdSink<W>
+        ensures { sink_view result ≡ counted_sink false 0 }
+    {
         StdSink {
             writer,
             stopped: false,
@@ -60,7 +66,7 @@ impl<W: Write> StdSink<W> {
 }
 
 impl<W: Write> Sink for StdSink<W> {
-    ghost shows = { λ s. record { written = untold []; stopped = s.stopped; faults = s.faults } };
+    ghost shows = { sink_view };
 
     fn write(&mut self, piece: &[u8]) -> Result<usize, EdgeFault> {
         match write_once(&mut self.writer, piece) {

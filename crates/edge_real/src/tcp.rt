@@ -1,8 +1,7 @@
-ghost use Rattle.std.specs.Prelude.{[], ◌≡◌, ⊤, refl, IfOk};
+ghost use Rattle.std.specs.Prelude.{◌≡◌, ⊤, refl, IfOk};
 ghost use Rattle.std.proofs.Common.{◌∙◌, sym};
-ghost use Rattle.edge_traits.specs.Told.{untold};
 ghost use Rattle.edge_traits.specs.Links.{IsFresh};
-ghost use Rattle.edge_real.specs.TcpLinks.{link_view};
+ghost use Rattle.edge_real.specs.Views.{link_view, dialer_view, counted_dialer};
 
 use crate::counting::raise;
 use crate::retrying::{read_once, write_once};
@@ -121,7 +120,10 @@ pub struct TcpDialer<R> {
 }
 
 impl<R: Net> TcpDialer<R> {
-    pub fn new(rt: R) -> TcpDialer<R> {
+    /// A dialer without faults so far.
+    pub fn new(rt: R) -> TcpDialer<R>
+        ensures { dialer_view result ≡ counted_dialer 0 }
+    {
         TcpDialer { rt, faults: 0 }
     }
 
@@ -138,7 +140,7 @@ impl<R: Net> TcpDialer<R> {
 impl<R: Net> Dialer for TcpDialer<R> {
     type Link = TcpLink<R::Stream>;
 
-    ghost shows = { λ d. record { exchanges = untold []; faults = d.faults } };
+    ghost shows = { dialer_view };
 
     ghost came = { λ d l. ⊤ };
 

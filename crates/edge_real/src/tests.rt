@@ -1,11 +1,13 @@
 // Each device against a peer, a file or a child of its own.
-use super::{ChildStation, DiskFiles, StdSink, StdSource, TcpDialer, TcpDoor, WallClock};
+use super::{
+    ChildStation, DiskFiles, StdSink, StdSource, TcpDialer, TcpDoor, WallClock, system_kit,
+};
 use edge_traits::{
     Bounds, Clock, Dialer, Door, EdgeFault, FetchFault, Keeper, Link, Sink, Source, Station,
     StationFault, Stream,
 };
 use farm_types::{Bytes, Ext, HostName, Word};
-use object_delivery::{FileKeeper, Files};
+use object_delivery::Files;
 use std::alloc::{AllocError, Global};
 use std::io::pipe;
 use std::test::Fail;
@@ -141,7 +143,7 @@ fn a_child_that_fails_is_told_from_one_that_ends(rt: HostRuntime) -> Result<(), 
 fn a_file_is_put_and_fetched(rt: HostRuntime) -> Result<(), Fail> {
     let alloc = rt.alloc();
     let path = Bytes::from_slice(alloc, b"x.o")?;
-    let mut keeper = FileKeeper::new(DiskFiles::new(rt));
+    let mut keeper = system_kit(rt, String::from_str(alloc, ".")?, 9).keeper;
     assert!(rt; matches!(keeper.fetch(alloc, &path, 3), Err(FetchFault::Absent)));
     keeper.put(alloc, &path, b"old")?;
     keeper.put(alloc, &path, b"newer")?;
