@@ -1,6 +1,9 @@
+ghost use Rattle.std.specs.Prelude.{◌≡◌, IfOk, vec_len};
+
 use crate::{ChildStation, DiskFiles, TcpDialer, WallClock};
 use edge_traits::Kit;
 use object_delivery::FileKeeper;
+use std::alloc::{AllocError, Global};
 use std::fs::File;
 use std::net::Net;
 use std::process::Processes;
@@ -21,4 +24,21 @@ pub fn system_kit<R: Net + Processes + rt::Files<File = File> + rt::Clock + Copy
         keeper: FileKeeper::new(DiskFiles::new(rt)),
         clock: WallClock::new(rt),
     }
+}
+
+/// So many kits.
+pub fn system_kits<R: Net + Processes + rt::Files<File = File> + rt::Clock + Copy>(
+    rt: R,
+    alloc: Global,
+    folder: &str,
+    process: u32,
+    count: usize,
+) -> Result<Vec<SystemKit<R>>, AllocError>
+    ensures { IfOk result (λ kits. vec_len kits ≡ count) }
+{
+    let mut kits = Vec::with_capacity(alloc, count)?;
+    for _ in 0..count {
+        kits.push(system_kit(rt, String::from_str(alloc, folder)?, process))?;
+    }
+    Ok(kits)
 }

@@ -18,7 +18,7 @@ pub use child::ChildStation;
 pub use clock::WallClock;
 pub use disk::DiskFiles;
 pub use door::TcpDoor;
-pub use kits::{SystemKit, system_kit};
+pub use kits::{SystemKit, system_kits};
 pub use stream::{StdSink, StdSource};
 pub use tcp::{TcpDialer, TcpLink};
 

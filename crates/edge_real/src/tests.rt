@@ -143,7 +143,9 @@ fn a_child_that_fails_is_told_from_one_that_ends(rt: HostRuntime) -> Result<(), 
 fn a_file_is_put_and_fetched(rt: HostRuntime) -> Result<(), Fail> {
     let alloc = rt.alloc();
     let path = Bytes::from_slice(alloc, b"x.o")?;
-    let mut keeper = system_kit(rt, String::from_str(alloc, ".")?, 9).keeper;
+    let mut kits = system_kits(rt, alloc, ".", 9, 2)?;
+    assert_eq!(rt; kits.len(), 2);
+    let keeper = &mut kits[1].keeper;
     assert!(rt; matches!(keeper.fetch(alloc, &path, 3), Err(FetchFault::Absent)));
     keeper.put(alloc, &path, b"old")?;
     keeper.put(alloc, &path, b"newer")?;
@@ -157,7 +159,7 @@ fn a_file_is_put_and_fetched(rt: HostRuntime) -> Result<(), Fail> {
     assert_eq!(rt; fetched.as_slice(), b"newer".as_slice());
     let nowhere = Bytes::from_slice(alloc, b"no/such/folder/x.o")?;
     assert_eq!(rt; keeper.put(alloc, &nowhere, b"new"), Err(EdgeFault::Failed));
-    let mut files = keeper.into_files();
+    let mut files = DiskFiles::new(rt);
     files.remove(&path)?;
     assert_eq!(rt; files.remove(&path), Err(EdgeFault::Failed));
     Ok(())
