@@ -15,6 +15,7 @@ mod laws;
 mod link;
 mod sink;
 mod source;
+mod staged;
 mod station;
 
 pub use calls::{CallNumbers, Calls, none_of, raised};
@@ -31,4 +32,5 @@ pub use laws::one_reading_of_exchanges;
 pub use link::Link;
 pub use sink::Sink;
 pub use source::Source;
+pub use staged::is_staged;
 pub use station::Station;
