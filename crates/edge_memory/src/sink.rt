@@ -30,6 +30,13 @@ impl MemSink {
             stopped: false,
         }
     }
+
+    /// What was written so far.
+    pub fn written(&self) -> &[u8]
+        ensures { result.now ≡ (sink_state self.now).written }
+    {
+        self.written.as_slice()
+    }
 }
 
 impl Sink for MemSink {

@@ -31,6 +31,13 @@ impl MemNeverSink {
             inner: MemSink::new(alloc, moves),
         }
     }
+
+    /// What was written so far.
+    pub fn written(&self) -> &[u8]
+        ensures { result.now ≡ (never_sink_state self.now).written }
+    {
+        self.inner.written()
+    }
 }
 
 impl Sink for MemNeverSink {
