@@ -1,4 +1,4 @@
-//! The devices that the program runs on until it has real ones: in memory, by a script.
+//! The devices of the scripted run.
 
 use edge_memory::{
     LinkScript, LinkScripts, MemClock, MemDialer, MemKeeper, MemStation, Moments, Moves, RanList,
