@@ -1,6 +1,6 @@
 // Each device against a peer, a file or a child of its own.
 use super::{
-    ChildStation, DiskFiles, StdSink, StdSource, TcpDialer, TcpDoor, WallClock, system_kit,
+    ChildStation, DiskFiles, StdSink, StdSource, TcpDialer, TcpDoor, WallClock, system_kits,
 };
 use edge_traits::{
     Bounds, Clock, Dialer, Door, EdgeFault, FetchFault, Keeper, Link, Sink, Source, Station,
