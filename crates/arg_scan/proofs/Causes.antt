@@ -1,12 +1,12 @@
 -- The cause of each class: the least place that gives a reason, or the whole command.
-use Rattle.std.proofs.Common.{◌≡◌, ℕ, zero, suc, ◌<◌, ◌≤◌, List, [], ◌∷◌, length, Option, Some, None, unwrap_or, refl, sym, ◌∙◌, ap, subst, ◌⊎◌, inl, inr, arith}
+use Rattle.std.proofs.Common.{◌≡◌, ℕ, zero, suc, ◌<◌, List, [], ◌∷◌, length, Option, Some, None, unwrap_or, refl, ◌∙◌, ap, subst, inl, inr, arith}
 use Rattle.std.specs.Prelude.{Contains}
 use Rattle.std.specs.List.{slice_get}
 use Rattle.std.specs.Option.{option_map, option_or}
 use Rattle.std.proofs.lemmas.Bool.Decides.{leb_tells}
 use Rattle.arg_scan.specs.declared.why.Why.{Why}
 use Rattle.arg_scan.specs.declared.verdict.Verdict.TheVariants as verdict
-use Rattle.arg_scan.specs.Forces.{Forces, NothingForces, end_reasons, reasons_at}
+use Rattle.arg_scan.specs.Forces.{NothingForces, end_reasons, reasons_at}
 use Rattle.arg_scan.specs.Class.{HasCause, by_end, by_place, first_forced, plan_of, reason_at, verdict_of}
 
 or_parts : {X : Type 0} (a b : Option X) → option_or a b ≡ None → (a ≡ None) × (b ≡ None)

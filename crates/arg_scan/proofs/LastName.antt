@@ -1,5 +1,5 @@
 -- The part of a path after its last `/`.
-use Rattle.std.proofs.Common.{◌≡◌, ℕ, zero, suc, ◌+◌, ◌<◌, Bool, true, false, nat_eq, List, [], ◌∷◌, length, take, drop, ◌-◌, get_or, refl, sym, ◌∙◌, ap, cond, arith}
+use Rattle.std.proofs.Common.{◌≡◌, ℕ, zero, suc, ◌+◌, ◌<◌, true, false, nat_eq, List, [], ◌∷◌, length, take, drop, ◌-◌, get_or, refl, sym, ◌∙◌, ap, cond, arith}
 use Rattle.std.specs.List.{list_any}
 use Rattle.std.proofs.lemmas.Grind.{common_steps}
 use Rattle.std.proofs.lemmas.Bool.Decides.{Decides-eqb, eqb_tells}
@@ -30,11 +30,6 @@ last_name-at (b ∷ bs) zero within slash after =
 last_name-at (b ∷ bs) (suc at) within slash after =
     ap (λ t. cond t (last_name bs) (b ∷ bs)) (list_any_at (nat_eq 47) (b ∷ bs) (suc at) 0 within (swapped 47 0 (get_or bs at 0) ((Decides-eqb (get_or bs at 0) 47).0 slash)))
     ∙ last_name-at bs at (omega arith) slash (λ k l m. after (suc k) (omega arith) (omega arith))
-
--- a test that can't pass fails
-pub fails_by : (a : Bool) → (a ≡ true → ⊥) → a ≡ false
-fails_by true h = absurd (h refl)
-fails_by false h = refl
 
 -- the bytes behind a place, as they are read
 pub whole_rest : (path : List ℕ) (at : ℕ) → take (length path - (at + 1)) (drop (at + 1) path) ≡ drop (suc at) path

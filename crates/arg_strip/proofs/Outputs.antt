@@ -14,6 +14,7 @@ use Rattle.option_table.specs.declared.row.OptionRow.{OptionRow}
 use Rattle.option_table.specs.declared.table.Found.{Found}
 use Rattle.option_table.specs.Rows.{found, row_at}
 use Rattle.option_table.specs.Gcc.{gcc_rows}
+use Rattle.option_table.proofs.Positions.{and_parts, fails_by}
 use Rattle.arg_scan.specs.declared.names.Ending.{Ending}
 use Rattle.arg_scan.specs.declared.why.Why.{Why}
 use Rattle.arg_scan.specs.declared.why.Why.TheVariants as why
@@ -52,10 +53,6 @@ takes_name row = not (is_output_effect row.effect && is_none_form row.form)
 rows_take_names : list_all takes_name gcc_rows ≡ true
 unfolding gcc_rows
 rows_take_names = refl
-
-and_parts : (a b : Bool) → (a && b) ≡ true → (a ≡ true) × (b ≡ true)
-and_parts true b h = (refl, h)
-and_parts false b h = cc
 
 row_takes_name : (rows : List OptionRow) (at : ℕ) → list_all takes_name rows ≡ true → takes_name (row_at rows at) ≡ true
 row_takes_name [] at h = refl
@@ -148,11 +145,6 @@ calm_by : (a b : Bool) → a ≡ false → b ≡ false → slice_get (when a why
 calm_by true b h k = absurd (false≢true (sym h))
 calm_by false true h k = absurd (false≢true (sym k))
 calm_by false false h k = refl
-
--- a test that can't pass fails
-fails_by : (a : Bool) → (a ≡ true → ⊥) → a ≡ false
-fails_by true h = absurd (h refl)
-fails_by false h = refl
 
 -- a name that ends in two bytes, the last of them no `~`
 two_calm : (front : List ℕ) (a b : ℕ) → (b ≡ 126 → ⊥) → IsCalm (front ++ a ∷ b ∷ [])

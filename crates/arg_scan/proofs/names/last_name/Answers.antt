@@ -1,5 +1,6 @@
 use Rattle.std.proofs.Common.{sym, ◌∙◌, arith}
-use Rattle.arg_scan.proofs.LastName.{last_name-none, last_name-at, fails_by, whole_rest}
+use Rattle.option_table.proofs.Positions.{fails_by}
+use Rattle.arg_scan.proofs.LastName.{last_name-none, last_name-at, whole_rest}
 use Rattle.arg_scan.proofs.names.last_name.Goals as goal
 
 pub returns-in-Some : goal.returns-in-Some

@@ -1,4 +1,4 @@
-use Rattle.std.proofs.Common.{sym, ◌∙◌}
+use Rattle.std.proofs.Common.{sym}
 use Rattle.arg_scan.proofs.Places.{remote_plan_is}
 use Rattle.arg_scan.proofs.verdict.remote_plan.Goals as goal
 

@@ -1,6 +1,5 @@
-use Rattle.std.proofs.Common.{[], sym, ◌∙◌, ap, arith}
+use Rattle.std.proofs.Common.{[], sym, ◌∙◌, arith}
 use Rattle.std.proofs.lemmas.List.{get_or_read}
-use Rattle.arg_scan.specs.Class.{verdict_of}
 use Rattle.arg_scan.proofs.Places.{reason_is, noted_is, owed_is, forced-none, local_is, final_is, some_words}
 use Rattle.arg_scan.proofs.verdict.verdict_by_places.Goals as goal
 
