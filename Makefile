@@ -1,6 +1,6 @@
 # Everything that a machine with the toolchain needs: `make demo` runs the main job, `make test` passes the tests.
 
-.PHONY: bench demo test
+.PHONY: bench bench-wire demo test
 
 # One job end to end: farm, with a real distccd on loopback where one is installed.
 demo:
@@ -15,3 +15,7 @@ test:
 # What farm and distcc add to gcc -E and gcc -c, per job.
 bench:
 	bench/run
+
+# How many times as long writing and reading 32 MiB takes as a plain copy of as many bytes.
+bench-wire:
+	cd crates/wire_bench && rt run -- measure
