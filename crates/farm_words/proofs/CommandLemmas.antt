@@ -1,0 +1,40 @@
+-- The words of a command line, by the first and the others.
+use Rattle.std.proofs.Common.{◌≡◌, ℕ, suc, List, [], ◌∷◌, length, map, Bool, true, false, MatchResult, Result, Ok, Err, refl, ap, sym, ◌∙◌, subst}
+use Rattle.std.proofs.lemmas.List.{length-map}
+use Rattle.farm_words.specs.declared.name.CommandName.{CommandName}
+use Rattle.farm_words.specs.declared.command.Command.{Command}
+use Rattle.farm_words.specs.Numbers.{number_of}
+use Rattle.farm_words.specs.Names.{first_word}
+use Rattle.farm_words.specs.Commands.{meaning, command_meant, counted, rehearse_words, is_help_first, asks_help, by_first_word, read_words, IsCommand, BadAt}
+
+-- what an answer means is its place in the contract
+pub answers : (result : Result Command ℕ) (words : List (List ℕ)) → command_meant result ≡ read_words words → MatchResult result (λ command. IsCommand words (meaning command)) (BadAt words)
+answers (Ok command) words is = sym is
+answers (Err place) words is = sym is
+
+module _ {X : Type 0} (f : X → List ℕ) where
+  pub nothing_first : (words : List X) → length words ≡ 0 → Err 0 ≡ read_words (map f words)
+  nothing_first [] none = refl
+  nothing_first (word ∷ words) none = absurd (let e : suc (length words) ≡ 0 = none in cc)
+
+  pub nothing_counted : (words : List X) → length words ≡ 0 → Err 1 ≡ rehearse_words (map f words)
+  nothing_counted [] none = refl
+  nothing_counted (word ∷ words) none = absurd (let e : suc (length words) ≡ 0 = none in cc)
+
+  pub nothing_asked : (name : CommandName) (words : List X) → length words ≡ 0 → false ≡ asks_help name (map f words)
+  nothing_asked name [] none = refl
+  nothing_asked name (word ∷ words) none = absurd (let e : suc (length words) ≡ 0 = none in cc)
+
+  module _ (words : List X) (word : X) (more : List X) (text : List ℕ) (are : words ≡ word ∷ more) (spelled : text ≡ f word) where
+    pub first_read : by_first_word (first_word text) (map f more) ≡ read_words (map f words)
+    first_read = ap (λ t. by_first_word (first_word t) (map f more)) spelled ∙ ap (λ ws. read_words (map f ws)) (sym are)
+
+    pub first_counted : counted (number_of 512 text) (map f words) ≡ rehearse_words (map f words)
+    first_counted =
+        ap (λ t. counted (number_of 512 t) (map f words)) spelled
+        ∙ subst (λ (ws : List X). counted (number_of 512 (f word)) (map f ws) ≡ rehearse_words (map f ws)) (sym are) refl
+
+    pub first_asked : (name : CommandName) → is_help_first name text (length more) ≡ asks_help name (map f words)
+    first_asked name =
+        ap (λ t. is_help_first name t (length more)) spelled ∙ ap (λ n. is_help_first name (f word) n) (sym (length-map more f))
+        ∙ ap (λ ws. asks_help name (map f ws)) (sym are)

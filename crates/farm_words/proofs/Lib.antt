@@ -1,0 +1,5 @@
+mod Cutting
+mod NumberLemmas
+mod OptionLemmas
+mod CommandLemmas
+mod VariableLemmas

@@ -1,0 +1,5 @@
+pub mod Numbers
+pub mod Names
+pub mod Options
+pub mod Commands
+pub mod Environment

@@ -1,0 +1,41 @@
+-- The names of commands and of options.
+use Rattle.std.specs.Prelude.{ℕ, Bool, true, false, List, codes, bytes_eq, Option, Some, None, if◌then◌else◌}
+use Rattle.farm_words.specs.declared.name.CommandName.{CommandName}
+use Rattle.farm_words.specs.declared.name.CommandName.TheVariants as command
+use Rattle.farm_words.specs.declared.name.FirstWord.{FirstWord}
+use Rattle.farm_words.specs.declared.name.FirstWord.TheVariants as first
+use Rattle.farm_words.specs.declared.name.OptionName.{OptionName}
+use Rattle.farm_words.specs.declared.name.OptionName.TheVariants as option
+
+-- what the first word asks for
+abbrev pub first_word : List ℕ → Option FirstWord
+first_word word =
+    if bytes_eq word (codes "build") then Some (first.Name command.Build)
+    else (if bytes_eq word (codes "cc") then Some (first.Name command.Cc)
+    else (if bytes_eq word (codes "hosts") then Some (first.Name command.Hosts)
+    else (if bytes_eq word (codes "scan") then Some (first.Name command.Scan)
+    else (if bytes_eq word (codes "rehearse") then Some (first.Name command.Rehearse)
+    else (if bytes_eq word (codes "--help") then Some first.Help
+    else (if bytes_eq word (codes "--version") then Some first.Version
+    else None))))))
+
+-- the option that a word names
+abbrev pub option_named : List ℕ → Option OptionName
+option_named word =
+    if bytes_eq word (codes "--hosts") then Some option.Hosts
+    else (if bytes_eq word (codes "--workers") then Some option.Workers
+    else (if bytes_eq word (codes "--no-fallback") then Some option.NoFallback
+    else (if bytes_eq word (codes "--no-retry") then Some option.NoRetry
+    else None)))
+
+-- `build` has all options, and `hosts` has `--hosts`
+abbrev pub has_option : CommandName → OptionName → Bool
+has_option command.Build name = true
+has_option command.Hosts option.Hosts = true
+has_option _ _ = false
+
+-- the words of these commands are those of a compile command, which may be any
+abbrev pub takes_any_words : CommandName → Bool
+takes_any_words command.Cc = true
+takes_any_words command.Scan = true
+takes_any_words _ = false
