@@ -2,4 +2,3 @@ mod Cutting
 mod NumberLemmas
 mod OptionLemmas
 mod CommandLemmas
-mod VariableLemmas
