@@ -2,3 +2,4 @@ mod Cutting
 mod NumberLemmas
 mod OptionLemmas
 mod CommandLemmas
+mod Reading

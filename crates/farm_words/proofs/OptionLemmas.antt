@@ -1,9 +1,9 @@
 -- The options of a command, one word on.
-use Rattle.std.proofs.Common.{◌≡◌, ◌<◌, ℕ, suc, ◌+◌, List, [], ◌∷◌, length, map, get_or, drop, Option, Some, None, Result, Ok, Err, refl, ap, sym, ◌∙◌, add-one, arith, drop-cons}
+use Rattle.std.proofs.Common.{◌≡◌, ◌<◌, ℕ, ◌+◌, List, [], ◌∷◌, length, map, get_or, drop, Some, None, Err, refl, ap, ◌∙◌, arith}
 use Rattle.std.proofs.lemmas.Grind.{common_steps}
 use Rattle.farm_words.proofs.Cutting.{cut}
 use Rattle.farm_words.specs.declared.name.CommandName.{CommandName}
-use Rattle.farm_words.specs.Options.{Given, State, after_word, at_end, options_from}
+use Rattle.farm_words.specs.Options.{State, after_word, at_end, options_from}
 
 next_state : (command : CommandName) (place : ℕ) (reached next : State) (word : List ℕ) (words : List (List ℕ)) → Some next ≡ after_word command reached.given reached.expected word
     → options_from command place reached (word ∷ words) ≡ options_from command (place + 1) next words

@@ -1,6 +1,5 @@
 -- What the environment says.
 use Rattle.std.specs.Prelude.{ℕ, Bool, false, ◌&&◌, not, List, [], ◌∷◌, codes, bytes_eq, Option, Some, None, unwrap_or, if◌then◌else◌}
-use Rattle.farm_words.specs.Options.{Given}
 
 -- the value of a variable, each of which is a name and a value: of a name that stands twice the first holds
 abbrev pub value_of : List (List ℕ × List ℕ) → List ℕ → Option (List ℕ)

@@ -29,7 +29,11 @@ pub enum Command<'a> {
 }
 
 // A command with at most so many words behind the first of the command line.
-fn with_at_most<'a>(command: Command<'a>, words: &[String], most: usize) -> Result<Command<'a>, usize>
+fn with_at_most<'a>(
+    command: Command<'a>,
+    words: &[String],
+    most: usize,
+) -> Result<Command<'a>, usize>
     requires { most ≤ 1 }
     ensures { command_meant result ≡ at_most most (meaning command.entry) (map string_bytes words.now) }
 {
@@ -80,7 +84,9 @@ fn parse_hosts(words: &[String]) -> Result<Command<'_>, usize>
     ensures { command_meant result ≡ hosts_words (map string_bytes words.now) }
 {
     match parse_options(CommandName::Hosts, words) {
-        Ok(options) => Ok(Command::Hosts { hosts: options.hosts }),
+        Ok(options) => Ok(Command::Hosts {
+            hosts: options.hosts,
+        }),
         Err(place) => Err(place),
     }
 }

@@ -3,11 +3,18 @@
 
 mod command;
 mod environment;
+mod help;
+mod laws;
 mod name;
 mod number;
 mod options;
 
 pub use command::{Command, parse_command};
 pub use environment::{host_text, is_fallback_on, lookup};
+pub use help::{help_text, version_text};
+pub use laws::one_reading;
 pub use name::CommandName;
 pub use options::Options;
+
+#[cfg(test)]
+mod tests;

@@ -1,0 +1,89 @@
+//! What `--help` and `--version` print (docs/usage.md says the same).
+
+ghost use Rattle.std.specs.Prelude.{◌≡◌};
+ghost use Rattle.farm_words.specs.Help.{help_of};
+
+use crate::name::CommandName;
+
+/// What `farm --version` prints.
+pub const VERSION: &[u8] = b"farm 0.1, distcc protocol 1\n";
+
+/// What `farm --help` prints.
+pub const PROGRAM_HELP: &[u8] = b"Usage: farm COMMAND [WORD]...
+Compiles on other machines, by distcc's protocol.
+
+Commands:
+  build     do the job on standard input
+  cc        do one compile command (not built yet)
+  hosts     print the host list
+  scan      say whether a compile command may be sent
+  rehearse  do made-up jobs in memory (not built yet)
+
+farm COMMAND --help says more of a command; farm --version prints the version.
+
+Environment:
+  DISTCC_HOSTS     the host list, where --hosts gives none
+  DISTCC_FALLBACK  if it is 0, as --no-fallback
+";
+
+/// What `farm build --help` prints.
+pub const BUILD_HELP: &[u8] = b"Usage: farm build [OPTION]...
+Does the compile command on standard input: one line, words apart by one space.
+
+Options, in any order, each at most once:
+  --hosts LIST   the host list, in place of DISTCC_HOSTS
+  --workers N    do at most N jobs at once, 1 to 16
+  --no-fallback  don't compile here what no host compiled
+  --no-retry     don't compile here what failed on a host
+
+Not built yet: more jobs than one, more hosts than one, and compiling here.
+";
+
+/// What `farm cc --help` prints.
+pub const CC_HELP: &[u8] = b"Usage: farm cc WORD...
+Does the compile command that the words are, with the hosts of DISTCC_HOSTS.
+
+Not built yet.
+";
+
+/// What `farm hosts --help` prints.
+pub const HOSTS_HELP: &[u8] = b"Usage: farm hosts [--hosts LIST]
+Prints the host list as farm reads it, one host a line.
+
+  --hosts LIST   the host list, in place of DISTCC_HOSTS
+";
+
+/// What `farm scan --help` prints.
+pub const SCAN_HELP: &[u8] = b"Usage: farm scan WORD...
+Prints the class of the compile command that the words are: remote, with its
+action, source and output, where it may be sent; or local, with the number and
+the place of the reason, where it has to be done here.
+";
+
+/// What `farm rehearse --help` prints.
+pub const REHEARSE_HELP: &[u8] = b"Usage: farm rehearse N
+Does N made-up jobs, 1 to 512, in memory.
+
+Not built yet.
+";
+
+/// The help of a command, or of the program where no command is named.
+pub fn help_text(name: Option<CommandName>) -> &'static [u8]
+    ensures { result.now ≡ help_of name }
+{
+    match name {
+        None => PROGRAM_HELP,
+        Some(CommandName::Build) => BUILD_HELP,
+        Some(CommandName::Cc) => CC_HELP,
+        Some(CommandName::Hosts) => HOSTS_HELP,
+        Some(CommandName::Scan) => SCAN_HELP,
+        Some(CommandName::Rehearse) => REHEARSE_HELP,
+    }
+}
+
+/// The program's version.
+pub fn version_text() -> &'static [u8]
+    ensures { result.now ≡ VERSION.now }
+{
+    VERSION
+}

@@ -1,0 +1,14 @@
+//! Laws of the grammar.
+
+ghost use Rattle.std.specs.Prelude.{ℕ, ◌≡◌, List};
+ghost use Rattle.farm_words.specs.Commands.{BadAt, IsCommand, Meaning};
+
+/// Words are one command at most, or bad at one place, and not both.
+pub fn one_reading()
+    ensures meaning { (words : List (List ℕ)) (one other : Meaning)
+        → IsCommand words one → IsCommand words other → one ≡ other }
+    ensures apart { (words : List (List ℕ)) (meant : Meaning) (place : ℕ)
+        → IsCommand words meant → BadAt words place → ⊥ }
+    ensures place { (words : List (List ℕ)) (place there : ℕ)
+        → BadAt words place → BadAt words there → place ≡ there }
+{}
