@@ -40,7 +40,8 @@ calm_by (Some f) e len plan h = absurd (false≢true h)
 calm_by None (Some e) len plan h = absurd (false≢true h)
 calm_by None None len plan h = (refl, refl)
 
-calm_is : (words : List (List ℕ)) → IsRemote words → IsCalm words
+-- a command that may be sent is one
+pub calm_is : (words : List (List ℕ)) → IsRemote words → IsCalm words
 calm_is [] h = absurd (false≢true h)
 calm_is (word ∷ more) h =
     let words = word ∷ more in
@@ -76,7 +77,8 @@ output_calm_by : (words : List (List ℕ)) (o : Option (List ℕ)) (action : Act
 output_calm_by words (Some text) action source ending free h = given_calm words text free h
 output_calm_by words None action source ending free h = derived_calm (take (length (last_name source) - length (ending_text ending)) (last_name source)) action
 
-output_calm : (words : List (List ℕ)) → IsCalm words → slice_get (output_reasons (output_of words)) 0 ≡ None
+-- and the name of its output gives no reason
+pub output_calm : (words : List (List ℕ)) → IsCalm words → slice_get (output_reasons (output_of words)) 0 ≡ None
 output_calm words calm =
     ap (λ name. slice_get (output_reasons name) 0) (output_is words)
     ∙ output_calm_by words (output_label (labels words)) (plan_of words).action (word_at words (plan_of words).input) (plan_of words).ending (free_labels words calm.places) refl
