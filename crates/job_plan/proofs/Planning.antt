@@ -1,7 +1,7 @@
 -- The plan of a command: there is one at most, and it can be carried out.
-use Rattle.std.proofs.Common.{◌≡◌, ℕ, zero, suc, ◌+◌, ◌<◌, Bool, true, false, nat_eq, List, [], ◌∷◌, ◌++◌, length, map, length-append, codes, Option, None, Some, Result, Ok, Err, refl, sym, ◌∙◌, ap, subst, arith}
+use Rattle.std.proofs.Common.{◌≡◌, ℕ, zero, suc, ◌<◌, Bool, true, false, List, [], ◌∷◌, ◌++◌, length, length-append, Option, None, Some, Result, Ok, Err, refl, sym, ◌∙◌, ap, subst, arith}
 use Rattle.std.specs.Prelude.{IfOk, IfNone, IfSome, MatchOption}
-use Rattle.std.specs.List.{ends_with, slice_get}
+use Rattle.std.specs.List.{slice_get}
 use Rattle.std.specs.Option.{option_to_list}
 use Rattle.std.proofs.lemmas.Bool.{false≢true}
 use Rattle.std.proofs.lemmas.List.{length-map}
@@ -10,11 +10,10 @@ use Rattle.edge_traits.specs.FileMaps.{IsStaged}
 use Rattle.edge_traits.proofs.StagedPaths.{staged_to}
 use Rattle.farm_machine.specs.declared.plans.RemotePlan.{RemotePlan}
 use Rattle.farm_machine.specs.Plans.{IsReady}
-use Rattle.arg_scan.specs.declared.why.Why.{Why}
 use Rattle.arg_scan.specs.declared.why.Why.TheVariants as why
 use Rattle.arg_scan.specs.Names.{is_reserved}
 use Rattle.arg_scan.specs.Roles.{part_at, word_at}
-use Rattle.arg_scan.specs.Forces.{output_reasons, when}
+use Rattle.arg_scan.specs.Forces.{when}
 use Rattle.arg_scan.specs.Class.{IsRemote}
 use Rattle.arg_strip.specs.Words.{gather, output_of, preprocessing_word, preprocessing_words}
 use Rattle.arg_strip.proofs.Laws.{calm_is, output_calm}

@@ -1,4 +1,3 @@
-use Rattle.std.proofs.Common.{◌≡◌}
 use Rattle.job_plan.proofs.Planning.{other_by, ready_by}
 use Rattle.job_plan.proofs.plan.read_plan.Goals as goal
 
