@@ -1,0 +1,19 @@
+//! The answers of `farm` that take no job: its refusals, its help, the host list, and the class of a command.
+#![tactic(auto)]
+
+mod hosts;
+mod number;
+mod refuse;
+mod scan;
+mod tell;
+
+pub use hosts::{answer_hosts, refuse_cc};
+pub use number::number_of;
+pub use refuse::{
+    NO_MEMORY_TEXT, refuse_form, refuse_host_list, refuse_unread, refuse_words, want_memory,
+};
+pub use scan::answer_scan;
+pub use tell::{answer_help, answer_version};
+
+#[cfg(test)]
+mod tests;
