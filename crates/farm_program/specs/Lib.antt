@@ -1,4 +1,4 @@
-pub mod Plan
 pub mod Worlds
 pub mod Builds
 pub mod Smooth
+pub mod Commands

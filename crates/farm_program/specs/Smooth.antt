@@ -4,9 +4,9 @@ use Rattle.farm_types.specs.declared.hosts.Host.{Host}
 use Rattle.edge_traits.specs.Causes.{Rose}
 use Rattle.edge_traits.specs.Kits.{KitView}
 use Rattle.stream_print.specs.Prints.{DidStop}
+use Rattle.farm_machine.specs.declared.plans.RemotePlan.{RemotePlan}
 use Rattle.farm_machine.specs.declared.reports.Report.{Report}
 use Rattle.report_text.specs.Numbers.{number}
-use Rattle.single_job.specs.declared.line.Line.{Line}
 use Rattle.farm_program.specs.Worlds.{World}
 use Rattle.farm_program.specs.Builds.{FirstRan}
 
@@ -17,8 +17,8 @@ pub record IsSmooth {K : Type 0} (old new : World K) : Type 0 where
   pub err : ¬ (DidStop old.sinks.err new.sinks.err)
 
 -- Nothing is left unread, the job was run, and the answer is the number of its report.
-pub record Completed {K : Type 0} (may_give : K → List ℕ → List ℕ → Type 0) (shows : K → KitView) (host : Host) (line : Line) (old new : World K) (answer : ℕ) : Type 0 where
+pub record Completed {K : Type 0} (may_give : K → List ℕ → List ℕ → Type 0) (shows : K → KitView) (host : Host) (plan : RemotePlan) (old new : World K) (answer : ℕ) : Type 0 where
   pub nothing_left : new.source.left.value ≡ []
   pub report : Report
-  pub run : FirstRan may_give shows host line report old.kits new.kits
+  pub run : FirstRan may_give shows host plan report old.kits new.kits
   pub status : answer ≡ number (report ∷ [])

@@ -1,9 +1,11 @@
--- What the devices of the whole program show, and the texts of its refusals.
-use Rattle.std.specs.Prelude.{◌≡◌, ℕ, List, [], ◌∷◌, codes}
+-- What the devices of the whole program show, and how a call ends that does no job.
+use Rattle.std.specs.Prelude.{◌≡◌, ℕ, List, [], ◌∷◌}
 use Rattle.edge_traits.specs.Sources.{SourceView}
 use Rattle.edge_traits.specs.Sinks.{SinkView}
+use Rattle.stream_print.specs.declared.pieces.Piece.{Piece}
 use Rattle.stream_print.specs.Prints.{SinksView, sinks_view}
 use Rattle.stream_print.specs.Ends.{complaint, Ends}
+use Rattle.farm_answers.specs.Texts.{no_memory_text}
 
 -- the input, a kit for each worker, and the two sinks
 pub record World (K : Type 0) : Type 0 where
@@ -14,14 +16,15 @@ pub record World (K : Type 0) : Type 0 where
 abbrev pub world : {R K O E : Type 0} → (R → SourceView) → (O → SinkView) → (E → SinkView) → R → List K → O → E → World K
 world source out_shows err_shows input kits out err = record { source = source input; kits = kits; sinks = sinks_view out_shows err_shows out err }
 
-abbrev pub no_memory_text : List ℕ
-no_memory_text = codes "farm: no memory\n"
+-- Nothing was read, and nothing was done.
+pub record Untouched {K : Type 0} (old new : World K) : Type 0 where
+  pub unread : new.source ≡ old.source
+  pub undone : new.kits ≡ old.kits
 
-abbrev pub not_built_text : List ℕ
-not_built_text = codes "farm: not built yet\n"
-
-abbrev pub cannot_read_text : List ℕ
-cannot_read_text = codes "farm: cannot read the job list\n"
+-- Nothing was read and nothing done, this text was to be printed on its sink, and this status to be answered.
+pub record Answered {K : Type 0} (piece : Piece) (status : ℕ) (old new : World K) (answer : ℕ) : Type 0 where
+  pub untouched : Untouched old new
+  pub ends : Ends no_memory_text (piece ∷ []) status old.sinks new.sinks answer
 
 -- Nothing was done, this text was to be printed on the sink of errors, and this status to be answered.
 pub record Refused {K : Type 0} (text : List ℕ) (status : ℕ) (old new : World K) (answer : ℕ) : Type 0 where

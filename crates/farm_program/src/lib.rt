@@ -2,11 +2,8 @@
 #![tactic(auto)]
 
 mod build;
-mod plan;
-mod refuse;
+mod hosts;
 mod report;
-#[cfg(test)]
-mod tests;
 mod top;
 
 pub use top::{Ended, farm};

@@ -5,9 +5,9 @@ ghost use Rattle.stream_print.specs.Prints.{sinks_view, Printed, Later};
 ghost use Rattle.stream_print.specs.Ends.{Ends, PrintedFront};
 ghost use Rattle.report_text.specs.Pieces.{job_pieces, jobs_pieces, total_piece, pieces};
 ghost use Rattle.report_text.specs.Numbers.{number};
-ghost use Rattle.farm_program.specs.Worlds.{no_memory_text};
+ghost use Rattle.farm_answers.specs.Texts.{no_memory_text};
 
-use crate::refuse::want_memory;
+use farm_answers::want_memory;
 use edge_traits::Sink;
 use farm_machine::{Report, ReportList};
 use farm_types::Hosts;

@@ -1,18 +1,29 @@
 //! The public call of the program.
 
-ghost use Rattle.std.specs.Prelude.{◌≡◌, ◌<◌, ◌⊎◌, IsTrue, false, ℕ, List, map, string_bytes, vec_len};
+ghost use Rattle.std.specs.Prelude.{◌≡◌, ◌<◌, ◌⊎◌, IsTrue, false, ℕ, List, [], ◌∷◌, map, string_bytes, length, vec_len, Option, None};
+ghost use Rattle.farm_types.specs.declared.hosts.Host.{Host};
 ghost use Rattle.edge_traits.specs.Kits.{kit_view};
-ghost use Rattle.single_job.specs.BuildWords.{IsBuild};
-ghost use Rattle.single_job.specs.Lines.{IsLine};
-ghost use Rattle.farm_program.specs.Plan.{host_of};
-ghost use Rattle.farm_program.specs.Worlds.{world, Refused, not_built_text};
-ghost use Rattle.farm_program.specs.Builds.{Builds};
+ghost use Rattle.stream_print.specs.Ends.{complaint};
+ghost use Rattle.farm_machine.specs.declared.plans.RemotePlan.{RemotePlan};
+ghost use Rattle.job_plan.specs.Plans.{AsksFor};
+ghost use Rattle.farm_words.specs.declared.name.CommandName.{CommandName};
+ghost use Rattle.farm_words.specs.Options.{Given};
+ghost use Rattle.farm_words.specs.Environment as environment;
+ghost use Rattle.farm_words.specs.Help.{help_of};
+ghost use Rattle.farm_words.specs.Commands as commands;
+ghost use Rattle.farm_words.specs.Commands.{BadAt, IsCommand, meaning};
+ghost use Rattle.farm_answers.specs.Lines.{class_line};
+ghost use Rattle.farm_answers.specs.Texts.{bad_words_text, not_built_text, version_text, output};
+ghost use Rattle.farm_program.specs.Worlds.{world, Answered};
 ghost use Rattle.farm_program.specs.Smooth.{IsSmooth, Completed};
+ghost use Rattle.farm_program.specs.Commands.{Answers, BuildsBy, IsBuildOn, ListsHosts, RefusesCommand};
 
-use crate::build::build;
-use crate::refuse::refuse_form;
+use crate::hosts::build_by;
 use edge_traits::{Clock, Dialer, Keeper, Kit, Sink, Source, Station};
-use single_job::parse_words;
+use farm_answers::{
+    answer_help, answer_hosts, answer_scan, answer_version, refuse_cc, refuse_form, refuse_words,
+};
+use farm_words::{Command, host_text, is_fallback_on, parse_command};
 use std::alloc::Global;
 
 /// How `farm` ended: its exit status.
@@ -21,12 +32,49 @@ pub struct Ended {
     pub status: u8,
 }
 
-/// The program `farm`. `words` are its arguments without its own name, and `env` is its environment, which no command reads
-/// so far. The input may not have ended, neither sink may be stopped, and there is a kit at least.
+// Does a command, and answers its exit status.
+fn answer<D: Dialer, S: Station, K: Keeper, C: Clock, R: Source, O: Sink, E: Sink>(
+    alloc: Global,
+    command: Command<'_>,
+    env: &[(String, String)],
+    input: &mut R,
+    kits: &mut [Kit<D, S, K, C>],
+    out: &mut O,
+    err: &mut E,
+) -> u8
+    requires input { (R.shows input.old).ended ≡ false }
+    requires kits { 0 < length kits.old }
+    ensures { Answers (λ kit. D.may_give kit.dialer) (kit_view D.shows S.shows K.shows C.shows)
+        (map (λ v. (string_bytes v.0, string_bytes v.1)) env.now)
+        (world R.shows O.shows E.shows input.old kits.old out.old err.old)
+        (world R.shows O.shows E.shows input.new kits.new out.new err.new) result
+        (meaning command.entry) }
+{
+    match command {
+        Command::Build(options) => {
+            let text = host_text(options.hosts, env).as_bytes();
+            let fallback = is_fallback_on(&options, env);
+            build_by(alloc, text, fallback, input, kits, out, err)
+        }
+        Command::Cc { .. } => refuse_cc(alloc, host_text(None, env).as_bytes(), out, err),
+        Command::Hosts { hosts } => {
+            answer_hosts(alloc, host_text(hosts, env).as_bytes(), out, err)
+        }
+        Command::Scan { words } => answer_scan(alloc, words, out, err),
+        Command::Rehearse { .. } => refuse_form(out, err),
+        Command::Help(name) => answer_help(name, out, err),
+        Command::Version => answer_version(out, err),
+    }
+}
+
+/// The program `farm`. `words` are its arguments without its own name, and `env` is its environment, of which `DISTCC_HOSTS`
+/// and `DISTCC_FALLBACK` are read. The input may not have ended, neither sink may be stopped, and there is a kit at least.
+///
+/// Words are one command, or none; so one clause speaks of each call, and `complete` and `other_input` say more of a build.
 pub fn farm<D: Dialer, S: Station, K: Keeper, C: Clock, R: Source, O: Sink, E: Sink>(
     alloc: Global,
     words: &[String],
-    _env: &[(String, String)],
+    env: &[(String, String)],
     input: &mut R,
     kits: &mut Vec<Kit<D, S, K, C>>,
     out: &mut O,
@@ -37,53 +85,88 @@ pub fn farm<D: Dialer, S: Station, K: Keeper, C: Clock, R: Source, O: Sink, E: S
     requires out { (O.shows out.old).stopped ≡ false }
     requires err { (E.shows err.old).stopped ≡ false }
 
-    // Words of the one form: the host is that of the third word.
-    ensures build { (name : List ℕ) (port : ℕ) → IsBuild (map string_bytes words.now) name port →
-        Builds (λ kit. D.may_give kit.dialer) (kit_view D.shows S.shows K.shows C.shows)
-        (host_of name port)
+    // Words that are no command: the place is that of the first that doesn't fit.
+    ensures bad_words { (place : ℕ) → BadAt (map string_bytes words.now) place →
+        Answered (complaint (bad_words_text place)) 101
         (world R.shows O.shows E.shows input.old kits.old.items out.old err.old)
         (world R.shows O.shows E.shows input.new kits.new.items out.new err.new) result.status }
 
-    // The whole input is a line, and neither the source nor a sink failed or stopped: nothing is left unread, and the status
-    // is the number of the job's report, or memory was wanting.
-    ensures complete { (name : List ℕ) (port : ℕ) (line : _) →
-        IsBuild (map string_bytes words.now) name port →
-        IsTrue (R.shows input.new).left.known → IsLine (R.shows input.old).left.value line →
+    ensures help { (name : Option CommandName) →
+        IsCommand (map string_bytes words.now) (commands.Help name) →
+        Answered (output (help_of name)) 0
+        (world R.shows O.shows E.shows input.old kits.old.items out.old err.old)
+        (world R.shows O.shows E.shows input.new kits.new.items out.new err.new) result.status }
+
+    ensures version { IsCommand (map string_bytes words.now) commands.Version →
+        Answered (output version_text) 0
+        (world R.shows O.shows E.shows input.old kits.old.items out.old err.old)
+        (world R.shows O.shows E.shows input.new kits.new.items out.new err.new) result.status }
+
+    // The host list is that of the option, or else of the environment.
+    ensures hosts { (text : Option (List ℕ)) →
+        IsCommand (map string_bytes words.now) (commands.Hosts text) →
+        ListsHosts
+        (environment.host_text_of text (map (λ v. (string_bytes v.0, string_bytes v.1)) env.now))
+        (world R.shows O.shows E.shows input.old kits.old.items out.old err.old)
+        (world R.shows O.shows E.shows input.new kits.new.items out.new err.new) result.status }
+
+    ensures scan { (command : List (List ℕ)) →
+        IsCommand (map string_bytes words.now) (commands.Scan command) →
+        Answered (output (class_line command)) 0
+        (world R.shows O.shows E.shows input.old kits.old.items out.old err.old)
+        (world R.shows O.shows E.shows input.new kits.new.items out.new err.new) result.status }
+
+    ensures rehearse { (jobs : ℕ) →
+        IsCommand (map string_bytes words.now) (commands.Rehearse jobs) →
+        Answered (complaint not_built_text) 102
+        (world R.shows O.shows E.shows input.old kits.old.items out.old err.old)
+        (world R.shows O.shows E.shows input.new kits.new.items out.new err.new) result.status }
+
+    ensures cc { (command : List (List ℕ)) →
+        IsCommand (map string_bytes words.now) (commands.Cc command) →
+        RefusesCommand
+        (environment.host_text_of None (map (λ v. (string_bytes v.0, string_bytes v.1)) env.now))
+        (world R.shows O.shows E.shows input.old kits.old.items out.old err.old)
+        (world R.shows O.shows E.shows input.new kits.new.items out.new err.new) result.status }
+
+    ensures build { (options : Given) →
+        IsCommand (map string_bytes words.now) (commands.Build options) →
+        BuildsBy (λ kit. D.may_give kit.dialer) (kit_view D.shows S.shows K.shows C.shows)
+        (environment.host_text_of options.hosts
+            (map (λ v. (string_bytes v.0, string_bytes v.1)) env.now))
+        (environment.is_fallback_on options.fallback
+            (map (λ v. (string_bytes v.0, string_bytes v.1)) env.now))
+        (world R.shows O.shows E.shows input.old kits.old.items out.old err.old)
+        (world R.shows O.shows E.shows input.new kits.new.items out.new err.new) result.status }
+
+    // The whole input asks for this plan, and neither the source nor a sink failed or stopped: nothing is left unread, and the
+    // status is the number of the job's report, or memory was wanting.
+    ensures complete { (host : Host) (plan : RemotePlan) →
+        IsBuildOn (map string_bytes words.now)
+        (map (λ v. (string_bytes v.0, string_bytes v.1)) env.now) host →
+        IsTrue (R.shows input.new).left.known → AsksFor (R.shows input.old).left.value plan →
         IsSmooth (world R.shows O.shows E.shows input.old kits.old.items out.old err.old)
         (world R.shows O.shows E.shows input.new kits.new.items out.new err.new) →
         Completed (λ kit. D.may_give kit.dialer) (kit_view D.shows S.shows K.shows C.shows)
-        (host_of name port) line
+        host plan
         (world R.shows O.shows E.shows input.old kits.old.items out.old err.old)
         (world R.shows O.shows E.shows input.new kits.new.items out.new err.new) result.status
         ⊎ (result.status ≡ 105) }
 
-    // The whole input is no line, and neither the source nor a sink failed or stopped: nothing is done, and the status is 102,
-    // or memory was wanting.
-    ensures other_input { (name : List ℕ) (port : ℕ) →
-        IsBuild (map string_bytes words.now) name port →
+    // The whole input asks for no plan, and neither the source nor a sink failed or stopped: nothing is done, and the status is
+    // 102, or memory was wanting.
+    ensures other_input { (host : Host) →
+        IsBuildOn (map string_bytes words.now)
+        (map (λ v. (string_bytes v.0, string_bytes v.1)) env.now) host →
         IsTrue (R.shows input.new).left.known →
-        ((line : _) → ¬ (IsLine (R.shows input.old).left.value line)) →
+        ((plan : RemotePlan) → ¬ (AsksFor (R.shows input.old).left.value plan)) →
         IsSmooth (world R.shows O.shows E.shows input.old kits.old.items out.old err.old)
         (world R.shows O.shows E.shows input.new kits.new.items out.new err.new) →
         ((result.status ≡ 102) × (kits.new.items ≡ kits.old.items)) ⊎ (result.status ≡ 105) }
-
-    // Other words: nothing is read.
-    ensures other_words { ((name : List ℕ) (port : ℕ) → ¬ (IsBuild (map string_bytes words.now) name port)) →
-        (R.shows input.new ≡ R.shows input.old) × Refused not_built_text 102
-        (world R.shows O.shows E.shows input.old kits.old.items out.old err.old)
-        (world R.shows O.shows E.shows input.new kits.new.items out.new err.new) result.status }
 {
-    let status = match parse_words(words) {
-        Some(host) => build(
-            alloc,
-            host.name,
-            host.port,
-            input,
-            kits.as_mut_slice(),
-            out,
-            err,
-        ),
-        None => refuse_form(out, err),
+    let status = match parse_command(words) {
+        Ok(command) => answer(alloc, command, env, input, kits.as_mut_slice(), out, err),
+        Err(place) => refuse_words(alloc, place, out, err),
     };
     Ended { status }
 }

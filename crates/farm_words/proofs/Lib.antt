@@ -2,4 +2,4 @@ mod Cutting
 mod NumberLemmas
 mod OptionLemmas
 mod CommandLemmas
-mod Reading
+pub mod Reading

@@ -1,5 +1,0 @@
-pub mod LastNames
-pub mod LineParts
-pub mod LineLemmas
-pub mod HostLemmas
-pub mod Four

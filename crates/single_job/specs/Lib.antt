@@ -1,4 +1,0 @@
-pub mod Paths
-pub mod Lines
-pub mod BuildWords
-pub mod Parts
