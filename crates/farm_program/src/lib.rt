@@ -7,3 +7,8 @@ mod report;
 mod top;
 
 pub use top::{Ended, farm};
+
+#[cfg(test)]
+mod tests;
+#[cfg(test)]
+mod word_tests;

@@ -7,8 +7,8 @@ ghost use Rattle.report_text.specs.Pieces.{job_pieces, jobs_pieces, total_piece,
 ghost use Rattle.report_text.specs.Numbers.{number};
 ghost use Rattle.farm_answers.specs.Texts.{no_memory_text};
 
-use farm_answers::want_memory;
 use edge_traits::Sink;
+use farm_answers::want_memory;
 use farm_machine::{Report, ReportList};
 use farm_types::Hosts;
 use report_text::{lines, status, total};

@@ -133,9 +133,9 @@ pub fn farm<D: Dialer, S: Station, K: Keeper, C: Clock, R: Source, O: Sink, E: S
         IsCommand (map string_bytes words.now) (commands.Build options) →
         BuildsBy (λ kit. D.may_give kit.dialer) (kit_view D.shows S.shows K.shows C.shows)
         (environment.host_text_of options.hosts
-            (map (λ v. (string_bytes v.0, string_bytes v.1)) env.now))
+        (map (λ v. (string_bytes v.0, string_bytes v.1)) env.now))
         (environment.is_fallback_on options.fallback
-            (map (λ v. (string_bytes v.0, string_bytes v.1)) env.now))
+        (map (λ v. (string_bytes v.0, string_bytes v.1)) env.now))
         (world R.shows O.shows E.shows input.old kits.old.items out.old err.old)
         (world R.shows O.shows E.shows input.new kits.new.items out.new err.new) result.status }
 

@@ -1,0 +1,388 @@
+//! What `farm` answers to its words, to its environment and to an input that asks for no job.
+
+use crate::tests::{FIRST, Script, Seen, run};
+use std::alloc::Global;
+use std::process::Abort;
+use std::test::Fail;
+
+const DONE: &str = "1 remote H:3632 stat 00000000\ntotal 1 ok 1\n";
+
+const NOT_BUILT: &str = "farm: not built yet\n";
+
+const HOSTS: &str = "red:4000/2\nblue:4001/3\n--localslots=4\n--localslots_cpp=8\n";
+
+// The words behind the program's name, the variables, and what is seen: the status, the output, the error sink.
+struct Row {
+    words: &'static [&'static str],
+    env: &'static [(&'static str, &'static str)],
+    status: u8,
+    out: &'static str,
+    err: &'static str,
+}
+
+// Words of one command each. What a build is asked for is the first run's job.
+const COMMANDS: [Row; 21] = [
+    Row {
+        words: &[
+            "build",
+            "--hosts",
+            "H",
+            "--workers",
+            "1",
+            "--no-fallback",
+            "--no-retry",
+        ],
+        env: &[],
+        status: 0,
+        out: DONE,
+        err: "note\n",
+    },
+    Row {
+        words: &[
+            "build",
+            "--no-retry",
+            "--no-fallback",
+            "--workers",
+            "16",
+            "--hosts",
+            "H/1",
+        ],
+        env: &[],
+        status: 0,
+        out: DONE,
+        err: "note\n",
+    },
+    Row {
+        words: &[
+            "build",
+            "--workers",
+            "4",
+            "--no-retry",
+            "--hosts",
+            " H:3632/255 # x",
+            "--no-fallback",
+        ],
+        env: &[],
+        status: 0,
+        out: DONE,
+        err: "note\n",
+    },
+    Row {
+        words: &["build", "--no-fallback", "--hosts", "H --randomize"],
+        env: &[],
+        status: 0,
+        out: DONE,
+        err: "note\n",
+    },
+    Row {
+        words: &["build", "--hosts", "H"],
+        env: &[("DISTCC_FALLBACK", "0")],
+        status: 0,
+        out: DONE,
+        err: "note\n",
+    },
+    Row {
+        words: &["build"],
+        env: &[
+            ("DISTCC_FALLBACK", "0"),
+            ("DISTCC_HOSTS", "H"),
+            ("DISTCC_HOSTS", "@red"),
+            ("DISTCC_FALLBACK", "1"),
+        ],
+        status: 0,
+        out: DONE,
+        err: "note\n",
+    },
+    Row {
+        words: &["hosts"],
+        env: &[],
+        status: 0,
+        out: "--localslots=4\n--localslots_cpp=8\n",
+        err: "",
+    },
+    Row {
+        words: &["hosts", "--hosts", "red/2:4000 blue:4001/3 # x"],
+        env: &[("DISTCC_HOSTS", "@red")],
+        status: 0,
+        out: HOSTS,
+        err: "",
+    },
+    Row {
+        words: &["hosts"],
+        env: &[
+            ("DISTCC_HOSTS", "red/2:4000 blue:4001/3"),
+            ("DISTCC_HOSTS", "@red"),
+        ],
+        status: 0,
+        out: HOSTS,
+        err: "",
+    },
+    Row {
+        words: &["scan", "scc", "-c", "x.c"],
+        env: &[("DISTCC_HOSTS", "@red")],
+        status: 0,
+        out: "remote -c x.c x.o\n",
+        err: "",
+    },
+    Row {
+        words: &["scan", "gcc", "-S", "-O2", "a/x.cc", "-o", "b/y"],
+        env: &[],
+        status: 0,
+        out: "remote -S a/x.cc b/y\n",
+        err: "",
+    },
+    Row {
+        words: &["scan", "scc", "-c", "-march=native", "x.c"],
+        env: &[],
+        status: 0,
+        out: "local 7 at 2\n",
+        err: "",
+    },
+    Row {
+        words: &["scan", "scc", "x.c"],
+        env: &[],
+        status: 0,
+        out: "local 1 at 2\n",
+        err: "",
+    },
+    Row {
+        words: &["scan", "--help", "-c"],
+        env: &[],
+        status: 0,
+        out: "local 5 at 2\n",
+        err: "",
+    },
+    Row {
+        words: &["--version"],
+        env: &[],
+        status: 0,
+        out: "farm 0.1, distcc protocol 1\n",
+        err: "",
+    },
+    Row {
+        words: &["rehearse", "512"],
+        env: &[("DISTCC_HOSTS", "@red")],
+        status: 102,
+        out: "",
+        err: NOT_BUILT,
+    },
+    Row {
+        words: &["cc", "gcc", "-c", "x.c"],
+        env: &[("DISTCC_HOSTS", "H")],
+        status: 102,
+        out: "",
+        err: NOT_BUILT,
+    },
+    Row {
+        words: &["cc", "gcc", "-c", "x.c"],
+        env: &[("DISTCC_HOSTS", "H red:")],
+        status: 106,
+        out: "",
+        err: "farm: host list: fault 4 at byte 6\n",
+    },
+    Row {
+        words: &["hosts", "--hosts", "@red"],
+        env: &[],
+        status: 106,
+        out: "",
+        err: "farm: host list: fault 1 at byte 0\n",
+    },
+    Row {
+        words: &["build", "--hosts", "H:0", "--no-fallback"],
+        env: &[],
+        status: 106,
+        out: "",
+        err: "farm: host list: fault 4 at byte 2\n",
+    },
+    Row {
+        words: &["build", "--hosts", "@red"],
+        env: &[],
+        status: 106,
+        out: "",
+        err: "farm: host list: fault 1 at byte 0\n",
+    },
+];
+
+// Words of `build` that ask for what is not built yet.
+const LATER: [Row; 6] = [
+    Row {
+        words: &["build", "--hosts", "H"],
+        env: &[],
+        status: 102,
+        out: "",
+        err: NOT_BUILT,
+    },
+    Row {
+        words: &["build", "--hosts", "H"],
+        env: &[("DISTCC_FALLBACK", "1"), ("DISTCC_FALLBACK", "0")],
+        status: 102,
+        out: "",
+        err: NOT_BUILT,
+    },
+    Row {
+        words: &["build", "--no-fallback"],
+        env: &[],
+        status: 102,
+        out: "",
+        err: NOT_BUILT,
+    },
+    Row {
+        words: &["build", "--no-fallback", "--hosts", "localhost"],
+        env: &[],
+        status: 102,
+        out: "",
+        err: NOT_BUILT,
+    },
+    Row {
+        words: &["build", "--no-fallback", "--hosts", "H H"],
+        env: &[],
+        status: 102,
+        out: "",
+        err: NOT_BUILT,
+    },
+    Row {
+        words: &["build", "--no-fallback", "--hosts", "--randomize"],
+        env: &[],
+        status: 102,
+        out: "",
+        err: NOT_BUILT,
+    },
+];
+
+// Words that don't fit, and the place of the first that doesn't.
+const BAD_WORDS: [(&[&str], &str); 19] = [
+    (&[], "0"),
+    (&["make"], "0"),
+    (&["build", "--workers", "0"], "2"),
+    (&["build", "--workers", "17"], "2"),
+    (&["build", "--workers", "016"], "2"),
+    (&["build", "--workers", "+4"], "2"),
+    (&["build", "--workers"], "2"),
+    (&["build", "--hosts", "@red", "--hosts", "H"], "3"),
+    (&["build", "--workers", "4", "--workers", "4"], "3"),
+    (
+        &["build", "--no-fallback", "--hosts", "H", "--no-fallback"],
+        "4",
+    ),
+    (&["build", "--no-retry", "--no-retry"], "2"),
+    (&["build", "--help", "x"], "2"),
+    (&["hosts", "--no-fallback"], "1"),
+    (&["hosts", "--hosts"], "2"),
+    (&["scan"], "1"),
+    (&["cc"], "1"),
+    (&["rehearse", "513"], "1"),
+    (&["--version", "x"], "1"),
+    (&["--help", "build"], "1"),
+];
+
+// What the help of each command begins with.
+const HELP: [(&[&str], &str); 6] = [
+    (&["--help"], "Usage: farm COMMAND [WORD]...\n"),
+    (&["build", "--help"], "Usage: farm build [OPTION]...\n"),
+    (&["cc", "--help"], "Usage: farm cc WORD...\n"),
+    (&["hosts", "--help"], "Usage: farm hosts [--hosts LIST]\n"),
+    (&["scan", "--help"], "Usage: farm scan WORD...\n"),
+    (&["rehearse", "--help"], "Usage: farm rehearse N\n"),
+];
+
+// Inputs of the first run's words that ask for no job, or can't be read: which read fails, where 0 is none; and the status.
+const INPUTS: [(&[u8], u64, u8); 11] = [
+    (b"", 0, 102),
+    (b"\n", 0, 102),
+    (b"gcc -c x.c", 0, 102),
+    (b"gcc -c x.c\ngcc -c y.c\n", 0, 102),
+    (b"gcc  -c x.c\n", 0, 102),
+    (b"gcc -c 'x.c'\n", 0, 102),
+    (b"gcc x.c -o x\n", 0, 102),
+    (b"gcc -c -march=native x.c\n", 0, 102),
+    (b"gcc -c x.i\n", 0, 102),
+    (b"gcc -c x.c\n", 2, 107),
+    (b"gcc -c 'x.c'\n", 1, 107),
+];
+
+// Whether nothing but this was printed, and whether there is an object exactly where the status is 0 and a job ran.
+fn shows(seen: &Seen, status: u8, out: &str, err: &str) -> bool {
+    seen.status == status
+        && seen.out.as_slice() == out.as_bytes()
+        && seen.err.as_slice() == err.as_bytes()
+        && seen.object.is_some() == (out == DONE)
+}
+
+fn check_rows(rt: &impl Abort, alloc: Global, rows: &[Row]) -> Result<(), Fail> {
+    for (at, row) in rows.iter().enumerate() {
+        let script = Script {
+            words: row.words,
+            env: row.env,
+            ..FIRST
+        };
+        let seen = run(alloc, &script)?;
+        assert!(rt;
+            shows(&seen, row.status, row.out, row.err),
+            "row {at}: {} {:?} {:?}",
+            seen.status,
+            seen.out,
+            seen.err
+        );
+    }
+    Ok(())
+}
+
+#[test]
+fn commands_answer_by_their_words(rt: HostRuntime) -> Result<(), Fail> {
+    check_rows(&rt, rt.alloc(), &COMMANDS)?;
+    check_rows(&rt, rt.alloc(), &LATER)
+}
+
+#[test]
+fn words_that_do_not_fit_are_named_by_their_place(rt: HostRuntime) -> Result<(), Fail> {
+    for (words, place) in BAD_WORDS {
+        let script = Script {
+            words,
+            read_fails: 1,
+            ..FIRST
+        };
+        let seen = run(rt.alloc(), &script)?;
+        let err = format!(in rt.alloc(); "farm: bad words at word {place}\n")?;
+        assert!(rt;
+            shows(&seen, 101, "", err.as_str()),
+            "{words:?}: {:?}",
+            seen.err
+        );
+    }
+    Ok(())
+}
+
+#[test]
+fn help_is_printed(rt: HostRuntime) -> Result<(), Fail> {
+    for (words, usage) in HELP {
+        let seen = run(rt.alloc(), &Script { words, ..FIRST })?;
+        assert_eq!(rt; seen.status, 0, "{words:?}");
+        assert!(rt;
+            seen.out.as_slice().starts_with(usage.as_bytes()),
+            "{words:?}"
+        );
+        assert!(rt; seen.err.is_empty(), "{words:?}");
+    }
+    Ok(())
+}
+
+#[test]
+fn inputs_without_a_job_are_refused(rt: HostRuntime) -> Result<(), Fail> {
+    for (input, read_fails, status) in INPUTS {
+        let seen = run(
+            rt.alloc(),
+            &Script {
+                input,
+                read_fails,
+                ..FIRST
+            },
+        )?;
+        let err = if status == 102 {
+            NOT_BUILT
+        } else {
+            "farm: cannot read the job list\n"
+        };
+        assert!(rt; shows(&seen, status, "", err), "{input:?}: {:?}", seen.err);
+    }
+    Ok(())
+}
