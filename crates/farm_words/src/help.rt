@@ -36,7 +36,9 @@ Options, in any order, each at most once:
   --no-fallback  don't compile here what no host compiled
   --no-retry     don't compile here what failed on a host
 
-Not built yet: more jobs than one, more hosts than one, and compiling here.
+So far a build does one job, on one host that isn't local, and compiles nothing
+here: --no-fallback or DISTCC_FALLBACK=0 has to be given, and --workers and
+--no-retry change nothing.
 ";
 
 /// What `farm cc --help` prints.
