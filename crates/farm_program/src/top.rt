@@ -1,6 +1,6 @@
 //! The public call of the program.
 
-ghost use Rattle.std.specs.Prelude.{◌≡◌, ◌<◌, ◌⊎◌, IsTrue, false, ℕ, List, [], ◌∷◌, map, string_bytes, length, vec_len, Option, None};
+ghost use Rattle.std.specs.Prelude.{◌≡◌, ◌<◌, ◌⊎◌, IsTrue, false, ℕ, List, map, string_bytes, length, vec_len, Option, None};
 ghost use Rattle.farm_types.specs.declared.hosts.Host.{Host};
 ghost use Rattle.edge_traits.specs.Kits.{kit_view};
 ghost use Rattle.stream_print.specs.Ends.{complaint};

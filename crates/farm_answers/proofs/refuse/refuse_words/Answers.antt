@@ -1,4 +1,4 @@
-use Rattle.std.proofs.Common.{◌≡◌, [], ◌∷◌, subst, ◌∙◌}
+use Rattle.std.proofs.Common.{◌≡◌, [], ◌∷◌, ◌∙◌}
 use Rattle.stream_print.specs.Ends.{complaint}
 use Rattle.stream_print.proofs.EndLemmas.{want_first}
 use Rattle.farm_answers.specs.Texts.{bad_words_text}
