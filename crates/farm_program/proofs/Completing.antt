@@ -17,7 +17,7 @@ use Rattle.farm_types.specs.declared.hosts.Hosts.{Hosts}
 use Rattle.host_list.proofs.TextReading.{one_hosts, no_both}
 use Rattle.farm_words.specs.Environment.{host_text_of, is_fallback_on}
 use Rattle.farm_program.specs.Worlds.{World}
-use Rattle.farm_program.specs.Commands.{IsOneHost, BuildsOn, one_host, other_hosts, BuildsBy, hosts_listed, hosts_faulty, hosts_unlisted, IsBuildOn}
+use Rattle.farm_program.specs.Commands.{IsOneHost, one_host, other_hosts, BuildsBy, hosts_listed, hosts_faulty, hosts_unlisted, IsBuildOn}
 use Rattle.farm_program.specs.Builds.{FirstRan, IsOther, other_text, longer_text, Builds, built, other_input, unread, wanted}
 use Rattle.farm_program.specs.Smooth.{IsSmooth, Completed}
 
