@@ -1,55 +1,155 @@
--- The course of a job that a host compiles: what it does, in order, and how it ends.
-use Rattle.std.specs.Prelude.{◌≡◌, ◌≢◌, ℕ, List, [], ◌∷◌}
-use Rattle.farm_types.specs.declared.request.Request.{Request}
+-- The course of one job, one act at a time: where it stands, what may come next there, and how it may end there. The same courses as a
+-- table, row by row, are in Table.
+use Rattle.std.specs.Prelude.{◌≡◌, ◌≢◌, ◌⊎◌, ℕ, ◌+◌, ◌<◌, ◌^◌, Bool, true, false, ◌&&◌, ◌||◌, cond, List, [], ◌∷◌, length, nat_eq, nat_lt}
+use Rattle.farm_types.specs.declared.placed.Word.{Word}
 use Rattle.farm_types.specs.declared.ran.Ran.{Ran}
 use Rattle.farm_types.specs.declared.ran.Outcome.{Outcome}
-use Rattle.farm_types.specs.declared.hosts.Host.{Host}
+use Rattle.edge_traits.specs.declared.entries.Run.{Run}
 use Rattle.edge_traits.specs.declared.entries.Exchange.{Exchange}
 use Rattle.edge_traits.specs.declared.cause.Cause.{Cause}
+use Rattle.edge_traits.specs.Deeds.{ran, fetched, exchanged, put}
 use Rattle.edge_traits.specs.Exchanges.{IsBegun, IsWhole, IsBroken}
-use Rattle.edge_traits.specs.Deeds.{Deed, ran, exchanged, put}
-use Rattle.farm_machine.specs.declared.plans.RemotePlan.{RemotePlan}
-use Rattle.farm_machine.specs.declared.reports.By.TheVariants.{Cpp, Remote}
-use Rattle.farm_machine.specs.declared.reports.Why5.TheVariants.{Station, Put as NotPut, Broke, Memory}
+use Rattle.slot_table.specs.Backoff.{bad_until}
+use Rattle.farm_machine.specs.declared.reports.By.{By}
+use Rattle.farm_machine.specs.declared.reports.By.TheVariants.{Cpp, Remote, Here, InPlace}
+use Rattle.farm_machine.specs.declared.reports.Why5.{Why5}
+use Rattle.farm_machine.specs.declared.reports.Why5.TheVariants.{Station, Put as NotPut, Broke, NoHost, Memory, Fetch}
 use Rattle.farm_machine.specs.declared.reports.End.{End}
 use Rattle.farm_machine.specs.declared.reports.End.TheVariants.{Done, Failed}
+use Rattle.farm_machine.specs.Acts.{Takes, Gives, GivesBad, FindsDown, TakesLocal, GivesLocal, Act, Did, Met}
+use Rattle.farm_machine.specs.Jobs.{Job, CanRequest, may_be_sent, is_source_ready, source_name, output_name, whole_command, preprocessing_command, compile_command, request_for, host_count, host_at, is_local_host}
 
--- the preprocessor's run, which has no input
-abbrev pub preprocessed : RemotePlan → Ran → Deed
-preprocessed plan r = ran (record { words = plan.preprocess; input = []; ran = r })
+-- the run is of these words on this input
+abbrev pub IsRunOf : Run → List Word → List ℕ → Type 0
+IsRunOf x words input = (x.words ≡ words) × (x.input ≡ input)
 
--- the request: the words that are sent, with what the preprocessor wrote to standard output
-abbrev pub request_of : RemotePlan → Ran → Request
-request_of plan r = record { words = plan.words; source = r.out }
+-- the exchange with the host at this place, for this source: begun, whole with this outcome, broken by this cause
+abbrev pub IsBegunWith : Job → Exchange → List ℕ → ℕ → Type 0
+IsBegunWith j x source host = IsBegun x (request_for j source) (host_at j host)
 
--- the object is put under the output's name
-abbrev pub delivered : RemotePlan → Outcome → Deed
-delivered plan o = put (record { path = plan.output; bytes = o.object })
+abbrev pub IsWholeWith : Job → Exchange → List ℕ → ℕ → Outcome → Type 0
+IsWholeWith j x source host o = IsWhole x (request_for j source) (host_at j host) o
 
--- the preprocessor succeeded, and there was an exchange
-abbrev pub sent_on : RemotePlan → Ran → Exchange → List Deed
-sent_on plan r x = preprocessed plan r ∷ exchanged x ∷ []
+abbrev pub IsBrokenWith : Job → Exchange → List ℕ → ℕ → Cause → Type 0
+IsBrokenWith j x source host cause = IsBroken x (request_for j source) (host_at j host) cause
 
--- The courses of a job with one host to ask, which stands at this place of the host list, and no compile here in its place.
-pub data Course (plan : RemotePlan) (host : Host) (at : ℕ) : List Deed → End → Type 0 where
-  -- the preprocessor could not be run
-  not_run : Course plan host at [] (Failed Station)
-  -- the preprocessor failed, and nothing is sent
-  not_preprocessed : (r : Ran) → r.status ≢ 0 → Course plan host at (preprocessed plan r ∷ []) (Done r.status [] r.err [] Cpp)
-  -- the exchange broke
-  broken : (r : Ran) (x : Exchange) (cause : Cause) → r.status ≡ 0 → IsBroken x (request_of plan r) host cause
-      → Course plan host at (sent_on plan r x) (Failed (Broke at cause))
-  -- the host answered with a failure, and nothing is put
-  not_compiled : (r : Ran) (x : Exchange) (o : Outcome) → r.status ≡ 0 → IsWhole x (request_of plan r) host o → o.status ≢ 0
-      → Course plan host at (sent_on plan r x) (Done o.status r.err o.err o.out (Remote at))
-  -- the host answered with an object, and exactly that is put
-  compiled : (r : Ran) (x : Exchange) (o : Outcome) → r.status ≡ 0 → IsWhole x (request_of plan r) host o → o.status ≡ 0
-      → Course plan host at (preprocessed plan r ∷ exchanged x ∷ delivered plan o ∷ []) (Done 0 r.err o.err o.out (Remote at))
-  -- the object could not be put
-  not_put : (r : Ran) (x : Exchange) (o : Outcome) → r.status ≡ 0 → IsWhole x (request_of plan r) host o → o.status ≡ 0
-      → Course plan host at (sent_on plan r x) (Failed NotPut)
-  -- Memory was wanting: some first deeds of a course above, not all, of which a last exchange need only be begun.
-  wanted_at_first : Course plan host at [] (Failed Memory)
-  wanted_after_run : (r : Ran) → r.status ≡ 0 → Course plan host at (preprocessed plan r ∷ []) (Failed Memory)
-  wanted_after_exchange : (r : Ran) (x : Exchange) → r.status ≡ 0 → IsBegun x (request_of plan r) host
-      → Course plan host at (sent_on plan r x) (Failed Memory)
+-- a host that was tried, and how its exchange broke
+pub record Tried : Type 0 where
+  pub host : ℕ
+  pub cause : Cause
+
+abbrev pub is_tried : ℕ → List Tried → Bool
+is_tried host [] = false
+is_tried host (t ∷ tried) = nat_eq t.host host || is_tried host tried
+
+-- the hosts that were tried, the latest in front
+abbrev pub tried_too : ℕ → Cause → List Tried → List Tried
+tried_too host cause tried = record { host = host; cause = cause } ∷ tried
+
+-- Where a job stands. From `Send` on it has a preprocessed source, and the note, which is what the preprocessor wrote to standard error.
+pub data At : Type 0 where
+  Start : At
+  -- it has a local slot for the whole command, which then has run
+  LentInPlace : At
+  RanInPlace : Ran → At
+  -- source, note, hosts tried: it is to be compiled
+  Send : List ℕ → List ℕ → List Tried → At
+  -- it has a slot of this host, which compiled it where the host is local, and else was sent the request
+  Lent : ℕ → List ℕ → List ℕ → List Tried → At
+  RanThere : ℕ → List ℕ → Ran → At
+  Sent : ℕ → List ℕ → List ℕ → List Tried → Exchange → At
+  -- it is to be compiled here; it has a local slot; it was compiled
+  Locally : List ℕ → List ℕ → At
+  LentHere : List ℕ → List ℕ → At
+  RanHere : List ℕ → Ran → At
+  -- whose compile, the note, and what the compile left: an object is to be put
+  Finish : By → List ℕ → Outcome → At
+  Over : End → At
+
+-- what a run left, as an outcome
+abbrev pub outcome_of : Ran → Outcome
+outcome_of r = record { status = r.status; err = r.err; out = r.out; object = r.object }
+
+-- a preprocessor that failed ends the job; else its standard output is the source
+abbrev pub after_preprocessor : Ran → At
+after_preprocessor r = cond (nat_eq r.status 0) (Send r.out r.err []) (Over (Done r.status [] r.err [] Cpp))
+
+-- with fallback the job is compiled here, and else it ends so
+abbrev pub or_here : Job → List ℕ → List ℕ → End → At
+or_here j source note end = cond j.config.fallback (Locally source note) (Over end)
+
+-- why a job fails that finds all hosts down that it hasn't tried
+abbrev pub no_host : List Tried → Why5
+no_host [] = NoHost
+no_host (t ∷ tried) = Broke t.host t.cause
+
+-- after a broken exchange the job asks another host, as long as it has tries left
+abbrev pub after_broken : Job → ℕ → Cause → List ℕ → List ℕ → List Tried → At
+after_broken j host cause source note tried =
+    cond (nat_lt (length tried + 1) j.tries) (Send source note (tried_too host cause tried)) (or_here j source note (Failed (Broke host cause)))
+
+-- a host's outcome of status 0 is the job's; another ends the job, or with fallback and retry the job is compiled here once more
+abbrev pub after_whole : Job → ℕ → List ℕ → List ℕ → Outcome → At
+after_whole j host source note o =
+    cond (nat_eq o.status 0) (Finish (Remote host) note o)
+    (cond (j.config.fallback && j.config.retry) (Locally source note) (Over (Done o.status note o.err o.out (Remote host))))
+
+-- the moment until which a host is left alone: a moment and the period together
+abbrev pub IsBackOff : Job → ℕ → Type 0
+IsBackOff j until = (moment : ℕ) × (moment < 2 ^ 64) × (until ≡ bad_until moment j.config.period)
+
+-- From here this act may come next, and leads there. A look at the clock is no act of a course.
+abbrev pub Next : Job → At → Act → At → Type 0
+Next j Start (Met TakesLocal) c = (may_be_sent j ≡ false) × (c ≡ LentInPlace)
+Next j Start (Did (fetched x)) c = (may_be_sent j ≡ true) × (is_source_ready j ≡ true) × (x.path ≡ source_name j) × (c ≡ Send x.bytes [] [])
+Next j Start (Did (ran x)) c = (may_be_sent j ≡ true) × (is_source_ready j ≡ false) × IsRunOf x (preprocessing_command j) [] × (c ≡ after_preprocessor x.ran)
+Next j LentInPlace (Did (ran x)) c = IsRunOf x (whole_command j) [] × (c ≡ RanInPlace x.ran)
+Next j LentInPlace (Met GivesLocal) c = (c ≡ Over (Failed Station)) ⊎ (c ≡ Over (Failed Memory))
+Next j (RanInPlace r) (Met GivesLocal) c = (c ≡ Over (Done r.status [] r.err r.out InPlace)) ⊎ (c ≡ Over (Failed Memory))
+Next j (Send source note tried) (Met FindsDown) c = CanRequest j source × (c ≡ or_here j source note (Failed (no_host tried)))
+Next j (Send source note tried) (Met (Takes host)) c = CanRequest j source × (host < host_count j) × (is_tried host tried ≡ false) × (c ≡ Lent host source note tried)
+Next j (Send source note tried) (Met TakesLocal) c = (¬ (CanRequest j source)) × (c ≡ LentHere source note)
+Next j (Lent host source note tried) (Did (ran x)) c = (is_local_host j host ≡ true) × IsRunOf x (compile_command j) source × (c ≡ RanThere host note x.ran)
+Next j (Lent host source note tried) (Did (exchanged x)) c = (is_local_host j host ≡ false) × IsBegunWith j x source host × (c ≡ Sent host source note tried x)
+Next j (Lent host source note tried) (Met (Gives k)) c =
+    (k ≡ host)
+    × (((is_local_host j host ≡ true) × (c ≡ Over (Failed Station)))
+    ⊎ (c ≡ Over (Failed Memory)))
+Next j (RanThere host note r) (Met (Gives k)) c = (k ≡ host) × ((c ≡ Finish Here note (outcome_of r)) ⊎ (c ≡ Over (Failed Memory)))
+Next j (Sent host source note tried x) (Met (Gives k)) c =
+    (k ≡ host)
+    × (((o : Outcome) × IsWholeWith j x source host o × (c ≡ after_whole j host source note o))
+    ⊎ (((cause : Cause) × IsBrokenWith j x source host cause × (j.config.period ≡ 0) × (c ≡ after_broken j host cause source note tried))
+    ⊎ (c ≡ Over (Failed Memory))))
+Next j (Sent host source note tried x) (Met (GivesBad k until)) c =
+    (k ≡ host) × (is_local_host j host ≡ false)
+    × ((cause : Cause) × IsBrokenWith j x source host cause × (0 < j.config.period) × IsBackOff j until × (c ≡ after_broken j host cause source note tried))
+Next j (Locally source note) (Met TakesLocal) c = c ≡ LentHere source note
+Next j (LentHere source note) (Did (ran x)) c = IsRunOf x (compile_command j) source × (c ≡ RanHere note x.ran)
+Next j (LentHere source note) (Met GivesLocal) c = (c ≡ Over (Failed Station)) ⊎ (c ≡ Over (Failed Memory))
+Next j (RanHere note r) (Met GivesLocal) c = (c ≡ Finish Here note (outcome_of r)) ⊎ (c ≡ Over (Failed Memory))
+Next j (Finish by note o) (Did (put x)) c = (o.status ≡ 0) × (x.path ≡ output_name j) × (x.bytes ≡ o.object) × (c ≡ Over (Done 0 note o.err o.out by))
+Next j at act c = ⊥
+
+-- a job may end here so
+abbrev pub Ends : Job → At → End → Type 0
+Ends j Start end =
+    (end ≡ Failed Memory)
+    ⊎ (((may_be_sent j ≡ true) × (is_source_ready j ≡ true) × (end ≡ Failed Fetch))
+    ⊎ ((may_be_sent j ≡ true) × (is_source_ready j ≡ false) × (end ≡ Failed Station)))
+Ends j (Send source note tried) end = end ≡ Failed Memory
+Ends j (Locally source note) end = end ≡ Failed Memory
+Ends j (Finish by note o) end =
+    ((o.status ≡ 0) × ((end ≡ Failed Memory) ⊎ (end ≡ Failed NotPut)))
+    ⊎ ((o.status ≢ 0) × (end ≡ Done o.status note o.err o.out by))
+Ends j (Over e) end = end ≡ e
+Ends j at end = ⊥
+
+-- from here a job may go on by these acts to this end
+abbrev pub From : Job → At → List Act → End → Type 0
+From j at [] end = Ends j at end
+From j at (a ∷ acts) end = (c : At) × Next j at a c × From j c acts end
+
+-- the courses of a job: what it does, in order, and how it ends
+abbrev pub Course : Job → List Act → End → Type 0
+Course j acts end = From j Start acts end

@@ -1,4 +1,7 @@
-pub mod Numbered
+pub mod Acts
+pub mod Jobs
 pub mod Course
+pub mod Numbered
+pub mod RemoteCourse
 pub mod Causes
 pub mod Plans

@@ -30,7 +30,7 @@ use Rattle.farm_machine.specs.declared.reports.By.{By}
 use Rattle.farm_machine.specs.declared.reports.By.TheVariants.{Cpp, Remote}
 use Rattle.farm_machine.specs.declared.reports.Why5.{Why5}
 use Rattle.farm_machine.specs.declared.reports.Why5.TheVariants.{Broke as BrokeAt}
-use Rattle.farm_machine.specs.Course.{Course, preprocessed, request_of, delivered, sent_on, not_run, not_preprocessed, not_compiled, compiled, wanted_at_first}
+use Rattle.farm_machine.specs.RemoteCourse.{RemoteCourse, preprocessed, request_of, delivered, sent_on, not_run, not_preprocessed, not_compiled, compiled, wanted_at_first}
 use Rattle.farm_machine.specs.Causes.{HasEndCause, KitLater}
 use Rattle.job_run.specs.Failures.{station_failure}
 use Rattle.job_run.specs.JobRuns.{JobRan}
@@ -47,7 +47,7 @@ untouched keeper = record { puts = Grew-refl _; fetches = Grew-refl _; files = r
 
 module _ (may : List ℕ → List ℕ → Type 0) (plan : RemotePlan) (host : Host) (at : ℕ) (old new : KitView) (still : Grew old.clock.moments new.clock.moments []) (later : KitLater old new) (events : List Event) (end : End) (cause : HasEndCause end old new) where
   -- no run
-  pub no_run : events ≡ [] → Course plan host at [] end → Grew old.station.runs new.station.runs [] → Grew old.dialer.exchanges new.dialer.exchanges [] → Kept old.keeper new.keeper [] → JobRan may plan host at events end old new
+  pub no_run : events ≡ [] → RemoteCourse plan host at [] end → Grew old.station.runs new.station.runs [] → Grew old.dialer.exchanges new.dialer.exchanges [] → Kept old.keeper new.keeper [] → JobRan may plan host at events end old new
   no_run named course runs exchanges kept = record {
     deeds = [];
     did = record { runs = runs; fetches = kept.fetches; exchanges = exchanges; puts = kept.puts; moments = still; files = kept.files };
@@ -63,7 +63,7 @@ module _ (may : List ℕ → List ℕ → Type 0) (plan : RemotePlan) (host : Ho
     runs = Grew-by ran_once (ap (λ w. record { words = w; input = []; ran = r } ∷ []) same)
 
     -- one run
-    pub run_alone : events ≡ RanAt 0 ∷ [] → Course plan host at (preprocessed plan r ∷ []) end → Grew old.dialer.exchanges new.dialer.exchanges [] → Kept old.keeper new.keeper [] → JobRan may plan host at events end old new
+    pub run_alone : events ≡ RanAt 0 ∷ [] → RemoteCourse plan host at (preprocessed plan r ∷ []) end → Grew old.dialer.exchanges new.dialer.exchanges [] → Kept old.keeper new.keeper [] → JobRan may plan host at events end old new
     run_alone named course exchanges kept = record {
       deeds = preprocessed plan r ∷ [];
       did = record { runs = runs; fetches = kept.fetches; exchanges = exchanges; puts = kept.puts; moments = still; files = kept.files };
@@ -76,7 +76,7 @@ module _ (may : List ℕ → List ℕ → Type 0) (plan : RemotePlan) (host : Ho
 
     module _ {holds : Exchange → Type 0} (adds : Adds may old.dialer.exchanges new.dialer.exchanges holds) where
       -- a run and an exchange
-      pub exchange_last : events ≡ RanAt 0 ∷ ExchangedAt 0 ∷ [] → Course plan host at (sent_on plan r adds.entry) end → Kept old.keeper new.keeper [] → JobRan may plan host at events end old new
+      pub exchange_last : events ≡ RanAt 0 ∷ ExchangedAt 0 ∷ [] → RemoteCourse plan host at (sent_on plan r adds.entry) end → Kept old.keeper new.keeper [] → JobRan may plan host at events end old new
       exchange_last named course kept = record {
         deeds = sent_on plan r adds.entry;
         did = record { runs = runs; fetches = kept.fetches; exchanges = adds.grew; puts = kept.puts; moments = still; files = kept.files };
@@ -88,7 +88,7 @@ module _ (may : List ℕ → List ℕ → Type 0) (plan : RemotePlan) (host : Ho
       }
 
       -- a run, an exchange and a put
-      pub put_last : (o : Outcome) → events ≡ RanAt 0 ∷ ExchangedAt 0 ∷ PutAt 0 ∷ [] → Course plan host at (preprocessed plan r ∷ exchanged adds.entry ∷ delivered plan o ∷ []) end → Kept old.keeper new.keeper (record { path = plan.output; bytes = o.object } ∷ []) → JobRan may plan host at events end old new
+      pub put_last : (o : Outcome) → events ≡ RanAt 0 ∷ ExchangedAt 0 ∷ PutAt 0 ∷ [] → RemoteCourse plan host at (preprocessed plan r ∷ exchanged adds.entry ∷ delivered plan o ∷ []) end → Kept old.keeper new.keeper (record { path = plan.output; bytes = o.object } ∷ []) → JobRan may plan host at events end old new
       put_last o named course kept = record {
         deeds = preprocessed plan r ∷ exchanged adds.entry ∷ delivered plan o ∷ [];
         did = record { runs = runs; fetches = kept.fetches; exchanges = adds.grew; puts = kept.puts; moments = still; files = kept.files };
@@ -111,14 +111,14 @@ module _ (plan : RemotePlan) (words : List (List ℕ)) (same : words ≡ plan.wo
   broken_by c is = subst (λ w. IsBroken x (record { words = w; source = r.out }) host c) same is
 
 -- a preprocessor that failed
-pub ends_early : (plan : RemotePlan) (host : Host) (at : ℕ) (r : Ran) (end : End) → end ≡ Done r.status [] r.err [] Cpp → r.status ≢ 0 → Course plan host at (preprocessed plan r ∷ []) end
-ends_early plan host at r end is failed = subst (λ e. Course plan host at (preprocessed plan r ∷ []) e) (sym is) (not_preprocessed r failed)
+pub ends_early : (plan : RemotePlan) (host : Host) (at : ℕ) (r : Ran) (end : End) → end ≡ Done r.status [] r.err [] Cpp → r.status ≢ 0 → RemoteCourse plan host at (preprocessed plan r ∷ []) end
+ends_early plan host at r end is failed = subst (λ e. RemoteCourse plan host at (preprocessed plan r ∷ []) e) (sym is) (not_preprocessed r failed)
 
 -- a preprocessor that could not be run
-pub not_run_course : (plan : RemotePlan) (host : Host) (at : ℕ) (fault : StationFault) (why : Why5) → why ≡ station_failure fault → Course plan host at [] (Failed why)
-not_run_course plan host at RunFailed why is = subst (λ w. Course plan host at [] (Failed w)) (sym is) not_run
-not_run_course plan host at (RunTooMuch stream bytes) why is = subst (λ w. Course plan host at [] (Failed w)) (sym is) not_run
-not_run_course plan host at RunMemory why is = subst (λ w. Course plan host at [] (Failed w)) (sym is) wanted_at_first
+pub not_run_course : (plan : RemotePlan) (host : Host) (at : ℕ) (fault : StationFault) (why : Why5) → why ≡ station_failure fault → RemoteCourse plan host at [] (Failed why)
+not_run_course plan host at RunFailed why is = subst (λ w. RemoteCourse plan host at [] (Failed w)) (sym is) not_run
+not_run_course plan host at (RunTooMuch stream bytes) why is = subst (λ w. RemoteCourse plan host at [] (Failed w)) (sym is) not_run
+not_run_course plan host at RunMemory why is = subst (λ w. RemoteCourse plan host at [] (Failed w)) (sym is) wanted_at_first
 
 pub not_run_cause : (bounds : Bounds) (fault : StationFault) (why : Why5) (old new : KitView) → why ≡ station_failure fault → RunFault bounds old.station new.station fault → HasEndCause (Failed why) old new
 not_run_cause bounds RunFailed why old new is rose = subst (λ w. HasEndCause (Failed w) old new) (sym is) (inl rose)
@@ -126,12 +126,12 @@ not_run_cause bounds (RunTooMuch stream bytes) why old new is rose = subst (λ w
 not_run_cause bounds RunMemory why old new is free = subst (λ w. HasEndCause (Failed w) old new) (sym is) tt
 
 -- a whole reply, by its status
-pub answered : (plan : RemotePlan) (host : Host) (at : ℕ) (r : Ran) (x : Exchange) (o : Outcome) (end : End) → end ≡ Done o.status r.err o.err o.out (Remote at) → r.status ≡ 0 → IsWhole x (request_of plan r) host o → o.status ≢ 0 → Course plan host at (sent_on plan r x) end
-answered plan host at r x o end is well whole failed = subst (λ e. Course plan host at (sent_on plan r x) e) (sym is) (not_compiled r x o well whole failed)
+pub answered : (plan : RemotePlan) (host : Host) (at : ℕ) (r : Ran) (x : Exchange) (o : Outcome) (end : End) → end ≡ Done o.status r.err o.err o.out (Remote at) → r.status ≡ 0 → IsWhole x (request_of plan r) host o → o.status ≢ 0 → RemoteCourse plan host at (sent_on plan r x) end
+answered plan host at r x o end is well whole failed = subst (λ e. RemoteCourse plan host at (sent_on plan r x) e) (sym is) (not_compiled r x o well whole failed)
 
-pub put_done : (plan : RemotePlan) (host : Host) (at : ℕ) (r : Ran) (x : Exchange) (o : Outcome) (end : End) → end ≡ Done o.status r.err o.err o.out (Remote at) → r.status ≡ 0 → IsWhole x (request_of plan r) host o → o.status ≡ 0 → Course plan host at (preprocessed plan r ∷ exchanged x ∷ delivered plan o ∷ []) end
+pub put_done : (plan : RemotePlan) (host : Host) (at : ℕ) (r : Ran) (x : Exchange) (o : Outcome) (end : End) → end ≡ Done o.status r.err o.err o.out (Remote at) → r.status ≡ 0 → IsWhole x (request_of plan r) host o → o.status ≡ 0 → RemoteCourse plan host at (preprocessed plan r ∷ exchanged x ∷ delivered plan o ∷ []) end
 put_done plan host at r x o end is well whole done =
-    subst (λ e. Course plan host at (preprocessed plan r ∷ exchanged x ∷ delivered plan o ∷ []) e) (sym (is ∙ ap (λ s. Done s r.err o.err o.out (Remote at)) done)) (compiled r x o well whole done)
+    subst (λ e. RemoteCourse plan host at (preprocessed plan r ∷ exchanged x ∷ delivered plan o ∷ []) e) (sym (is ∙ ap (λ s. Done s r.err o.err o.out (Remote at)) done)) (compiled r x o well whole done)
 
 module _ (may : List ℕ → List ℕ → Type 0) (q : Request) (host : Host) (old new : Told (List Exchange)) where
   -- memory was wanting before the dial had succeeded, or after it

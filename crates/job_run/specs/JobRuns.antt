@@ -7,7 +7,7 @@ use Rattle.farm_machine.specs.declared.plans.RemotePlan.{RemotePlan}
 use Rattle.farm_machine.specs.declared.reports.Event.{Event}
 use Rattle.farm_machine.specs.declared.reports.End.{End}
 use Rattle.farm_machine.specs.Numbered.{no_places, numbered}
-use Rattle.farm_machine.specs.Course.{Course}
+use Rattle.farm_machine.specs.RemoteCourse.{RemoteCourse}
 use Rattle.farm_machine.specs.Causes.{HasEndCause, KitLater}
 
 -- The job did these deeds on the kit and no others, in this order; its events name them; with its end they are a course of
@@ -16,7 +16,7 @@ pub record JobRan (may_give : List ℕ → List ℕ → Type 0) (plan : RemotePl
   pub deeds : List Deed
   pub did : DidIn old new deeds
   pub named : events ≡ numbered no_places deeds
-  pub course : Course plan host at deeds end
+  pub course : RemoteCourse plan host at deeds end
   pub cause : HasEndCause end old new
   pub later : KitLater old new
   pub may : IsTrue new.dialer.exchanges.known → MayAll may_give (exchanges_in deeds)

@@ -4,7 +4,7 @@ use Rattle.std.specs.FinMap.{insert}
 use Rattle.edge_traits.specs.Told.{Became}
 use Rattle.edge_traits.proofs.ToldLemmas.{Grew-refl, Grew-by}
 use Rattle.farm_machine.specs.declared.reports.Event.TheVariants.{Ran as RanAt, Exchanged as ExchangedAt, Put as PutAt}
-use Rattle.farm_machine.specs.Course.{broken, not_put, wanted_after_run, wanted_after_exchange}
+use Rattle.farm_machine.specs.RemoteCourse.{broken, not_put, wanted_after_run, wanted_after_exchange}
 use Rattle.job_run.proofs.Coursing.{no_run, run_alone, exchange_last, put_last, untouched, begun_by, whole_by, broken_by, ends_early, not_run_course, not_run_cause, answered, put_done, undialed, dialed_once, dial_cause, done_cause}
 use Rattle.job_run.proofs.job.carry_out.Goals as goal
 
