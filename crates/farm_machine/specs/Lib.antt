@@ -1,7 +1,10 @@
 pub mod Acts
 pub mod Jobs
 pub mod Course
+pub mod Table
 pub mod Numbered
+pub mod Honest
+pub mod Example
 pub mod RemoteCourse
 pub mod Causes
 pub mod Plans
