@@ -1,0 +1,16 @@
+//! Laws of the course of one job.
+#![tactic(auto)]
+
+ghost use Rattle.course_laws.specs.Laws.{DownLaw, OrderLaw};
+
+/// The slot events of a course come in their turn: a job takes where it has nothing out, gives back what it has out, never has a local
+/// host left alone, and has nothing out at its end.
+pub fn order_law()
+    ensures { OrderLaw }
+{}
+
+/// Where a job may find all hosts down, it may take a slot of any host that it hasn't taken one of before: so a take of a slot that any of
+/// these hosts answers may wait where all of them being down is an answer.
+pub fn down_law()
+    ensures { DownLaw }
+{}
