@@ -2,6 +2,7 @@
 #![tactic(auto)]
 
 ghost use Rattle.course_laws.specs.Laws.{DownLaw, OrderLaw};
+ghost use Rattle.farm_machine.specs.Table.{MemoryLaw, TableLaw};
 
 /// The slot events of a course come in their turn: a job takes where it has nothing out, gives back what it has out, never has a local
 /// host left alone, and has nothing out at its end.
@@ -13,4 +14,11 @@ pub fn order_law()
 /// these hosts answers may wait where all of them being down is an answer.
 pub fn down_law()
     ensures { DownLaw }
+{}
+
+/// The courses that don't end for want of memory are those of the table, and those that do are the first acts of one of these, with
+/// the give of what is out then.
+pub fn table_law()
+    ensures table { TableLaw }
+    ensures memory { MemoryLaw }
 {}

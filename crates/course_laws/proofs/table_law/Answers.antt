@@ -1,0 +1,9 @@
+use Rattle.course_laws.proofs.Cuts.{memory-law}
+use Rattle.course_laws.proofs.Tables.{table}
+use Rattle.course_laws.proofs.table_law.Goals as goal
+
+pub returns-clause-table : goal.returns-clause-table
+returns-clause-table c = table
+
+pub returns-clause-memory : goal.returns-clause-memory
+returns-clause-memory c = memory-law
