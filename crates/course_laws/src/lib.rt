@@ -2,6 +2,7 @@
 #![tactic(auto)]
 
 ghost use Rattle.course_laws.specs.Laws.{DownLaw, OrderLaw};
+ghost use Rattle.farm_machine.specs.Numbered.{NumberedLaw};
 ghost use Rattle.farm_machine.specs.Table.{MemoryLaw, TableLaw};
 
 /// The slot events of a course come in their turn: a job takes where it has nothing out, gives back what it has out, never has a local
@@ -21,4 +22,10 @@ pub fn down_law()
 pub fn table_law()
     ensures table { TableLaw }
     ensures memory { MemoryLaw }
+{}
+
+/// Events that are numbered on from the lengths of a worker's lists read as the acts that they number: they name exactly the entries that
+/// the acts add, in order.
+pub fn numbered_law()
+    ensures { NumberedLaw }
 {}
