@@ -5,7 +5,11 @@ use Rattle.std.proofs.lemmas.List.{length_push, append-nil}
 use Rattle.edge_traits.specs.Deeds.{ran, fetched, exchanged, put, timed}
 use Rattle.farm_machine.specs.declared.reports.Places.{Places}
 use Rattle.farm_machine.specs.Acts.{Takes, Gives, GivesBad, FindsDown, TakesLocal, GivesLocal, Act, Did, Met, Entries}
-use Rattle.farm_machine.specs.Numbered.{added, Counts, NumberedLaw}
+use Rattle.farm_machine.specs.declared.reports.End.{End}
+use Rattle.farm_machine.specs.Jobs.{Job}
+use Rattle.farm_machine.specs.Course.{At, Start, LentInPlace, RanInPlace, Send, Lent, RanThere, Sent, Locally, LentHere, RanHere, Finish, Over, Next, From}
+use Rattle.farm_machine.specs.Numbered.{added, untimed, Counts, NumberedLaw}
+use Rattle.course_laws.specs.Laws.{UntimedLaw}
 
 -- xs is a prefix of ys
 abbrev Begins : {A : Type 0} → List A → List A → Type 0
@@ -85,3 +89,29 @@ reading at es (Met (GivesBad host until) ∷ acts) c = (refl, reading at es acts
 reading at es (Met FindsDown ∷ acts) c = (refl, reading at es acts c)
 reading at es (Met TakesLocal ∷ acts) c = (refl, reading at es acts c)
 reading at es (Met GivesLocal ∷ acts) c = (refl, reading at es acts c)
+
+no-look : (j : Job) (at c : At) (moment : ℕ) → Next j at (Did (timed moment)) c → ⊥
+no-look j Start c moment h = h
+no-look j LentInPlace c moment h = h
+no-look j (RanInPlace r) c moment h = h
+no-look j (Send source note tried) c moment h = h
+no-look j (Lent host source note tried) c moment h = h
+no-look j (RanThere host note r) c moment h = h
+no-look j (Sent host source note tried x) c moment h = h
+no-look j (Locally source note) c moment h = h
+no-look j (LentHere source note) c moment h = h
+no-look j (RanHere note r) c moment h = h
+no-look j (Finish by note o) c moment h = h
+no-look j (Over e) c moment h = h
+
+untimed-from : (j : Job) (acts : List Act) (at : At) (end : End) → From j at acts end → untimed acts ≡ acts
+untimed-from j [] at end h = refl
+untimed-from j (Did (ran x) ∷ acts) at end (c, next, from) = ap (λ (more : List Act). Did (ran x) ∷ more) (untimed-from j acts c end from)
+untimed-from j (Did (fetched x) ∷ acts) at end (c, next, from) = ap (λ (more : List Act). Did (fetched x) ∷ more) (untimed-from j acts c end from)
+untimed-from j (Did (exchanged x) ∷ acts) at end (c, next, from) = ap (λ (more : List Act). Did (exchanged x) ∷ more) (untimed-from j acts c end from)
+untimed-from j (Did (put x) ∷ acts) at end (c, next, from) = ap (λ (more : List Act). Did (put x) ∷ more) (untimed-from j acts c end from)
+untimed-from j (Did (timed moment) ∷ acts) at end (c, next, from) = absurd (no-look j at c moment next)
+untimed-from j (Met x ∷ acts) at end (c, next, from) = ap (λ (more : List Act). Met x ∷ more) (untimed-from j acts c end from)
+
+pub untimed-course : UntimedLaw
+untimed-course j acts end course = untimed-from j acts Start end course

@@ -1,7 +1,7 @@
 //! Laws of the course of one job.
 #![tactic(auto)]
 
-ghost use Rattle.course_laws.specs.Laws.{DownLaw, OrderLaw};
+ghost use Rattle.course_laws.specs.Laws.{DownLaw, OrderLaw, RemoteCourseLaw, UntimedLaw};
 ghost use Rattle.farm_machine.specs.Numbered.{NumberedLaw};
 ghost use Rattle.farm_machine.specs.Table.{MemoryLaw, TableLaw};
 
@@ -25,7 +25,14 @@ pub fn table_law()
 {}
 
 /// Events that are numbered on from the lengths of a worker's lists read as the acts that they number: they name exactly the entries that
-/// the acts add, in order.
+/// the acts add, in order. No course has a look at the clock, which alone is no event.
 pub fn numbered_law()
-    ensures { NumberedLaw }
+    ensures numbered { NumberedLaw }
+    ensures untimed { UntimedLaw }
+{}
+
+/// A course by one host and no compile here is the deeds of a course of the table, in which a slot of the host is taken right before the
+/// exchange and given back right after it.
+pub fn remote_course_law()
+    ensures { RemoteCourseLaw }
 {}
