@@ -18,7 +18,7 @@ use Rattle.farm_machine.specs.declared.reports.Why5.TheVariants.{Station, Put as
 use Rattle.farm_machine.specs.declared.reports.End.{End}
 use Rattle.farm_machine.specs.declared.reports.End.TheVariants.{Done, Failed}
 use Rattle.farm_machine.specs.Acts.{Takes, Gives, GivesBad, FindsDown, TakesLocal, GivesLocal, Act, Did, Met, slots_of, Loan, loan_of}
-use Rattle.farm_machine.specs.Jobs.{Job, CanRequest, may_be_sent, is_source_ready, source_name, output_name, preprocessing_command, request_for, host_at, is_local_host}
+use Rattle.farm_machine.specs.Jobs.{Job, may_be_sent, is_source_ready, source_name, output_name, preprocessing_command, request_for, host_at, is_local_host}
 use Rattle.farm_machine.specs.Course.{IsBegunWith, IsBrokenWith, At, Start, LentInPlace, RanInPlace, Send, Lent, RanThere, Sent, Locally, LentHere, RanHere, Finish, Over, outcome_of, after_preprocessor, or_here, after_broken, after_whole, Tried, tried_too, no_host, Next, From, Course}
 use Rattle.farm_machine.specs.Table.{gives_back, IsSource, IsCut, IsCutInExchange, MemoryLaw}
 use Rattle.course_laws.proofs.Courses.{has_out, next-did, next-met}

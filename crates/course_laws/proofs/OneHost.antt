@@ -1,22 +1,21 @@
 -- A course by one host and no compile here is the deeds of a course.
-use Rattle.std.proofs.Common.{◌≡◌, ◌≢◌, ◌⊎◌, inl, inr, ℕ, ◌<◌, ◌^◌, List, [], ◌∷◌, nat_eq, refl, sym, arith, eq-eqb}
+use Rattle.std.proofs.Common.{◌≡◌, inl, inr, ℕ, List, [], nat_eq, refl, sym, arith, eq-eqb}
 use Rattle.std.proofs.lemmas.Bool.{cases_eq, cond-true}
 use Rattle.farm_types.specs.declared.ran.Ran.{Ran}
 use Rattle.edge_traits.specs.declared.entries.Exchange.{Exchange}
 use Rattle.edge_traits.specs.declared.cause.Cause.{Cause}
-use Rattle.edge_traits.specs.Deeds.{Deed, exchanged}
-use Rattle.edge_traits.specs.Exchanges.{IsBroken}
+use Rattle.edge_traits.specs.Deeds.{Deed}
 use Rattle.slot_table.specs.Backoff.{bad_until}
-use Rattle.farm_machine.specs.declared.reports.By.TheVariants.{Cpp, Remote}
+use Rattle.farm_machine.specs.declared.reports.By.TheVariants.{Cpp}
 use Rattle.farm_machine.specs.declared.reports.Why5.TheVariants.{Broke, Memory}
 use Rattle.farm_machine.specs.declared.reports.End.{End}
 use Rattle.farm_machine.specs.declared.reports.End.TheVariants.{Done, Failed}
-use Rattle.farm_machine.specs.Acts.{SlotEvent, Gives, GivesBad, Act, Did}
-use Rattle.farm_machine.specs.Jobs.{Job, CanRequest, request_for, host_at}
+use Rattle.farm_machine.specs.Acts.{SlotEvent, Gives, GivesBad}
+use Rattle.farm_machine.specs.Jobs.{Job, CanRequest}
 use Rattle.farm_machine.specs.Course.{IsBrokenWith, Send, Lent, Sent, Over, after_preprocessor, Course}
 use Rattle.farm_machine.specs.Table.{MayTake, Finished}
-use Rattle.farm_machine.specs.RemoteCourse.{RemoteCourse, preprocessed, request_of, sent_on, not_run, not_preprocessed, broken, not_compiled, compiled, not_put, wanted_at_first, wanted_after_run, wanted_after_exchange}
-use Rattle.course_laws.specs.Laws.{plan_for, AsksOneHost, RunsFit, with_slots, GivesBack, RemoteCourseLaw}
+use Rattle.farm_machine.specs.RemoteCourse.{sent_on, not_run, not_preprocessed, broken, not_compiled, compiled, not_put, wanted_at_first, wanted_after_run, wanted_after_exchange}
+use Rattle.course_laws.specs.Laws.{plan_for, AsksOneHost, with_slots, GivesBack, RemoteCourseLaw}
 use Rattle.course_laws.proofs.Tables.{back}
 
 abbrev Within : Job → ℕ → List Deed → End → Type 0
@@ -46,7 +45,7 @@ broke j host r x cause asks fits well is =
         GivesBad host until,
         inr (until, refl),
         back j (with_slots host (GivesBad host until) deeds) end
-        (asks.sent, asks.source, (refl, refl), inr (well, inr (may-take j host r.out asks fits, refl, asks.remote, (cause, is, omega arith, (0, omega arith, refl), inr (asks.tries, inr (asks.fallback, refl, refl)))))),
+            (asks.sent, asks.source, (refl, refl), inr (well, inr (may-take j host r.out asks fits, refl, asks.remote, (cause, is, omega arith, (0, omega arith, refl), inr (asks.tries, inr (asks.fallback, refl, refl)))))),
       )
     ]
   where
@@ -73,6 +72,8 @@ remote-course j host deeds end asks fit wanted_at_first = plainly j host deeds e
 remote-course j host deeds end asks fit (wanted_after_run r well) =
     plainly j host deeds end (Send r.out r.err [], (asks.sent, asks.source, (refl, refl), leads r well), refl)
 remote-course j host deeds end asks fit (wanted_after_exchange r x well begun) =
-    plainly j host deeds end
-    (Send r.out r.err [], (asks.sent, asks.source, (refl, refl), leads r well),
-    (Lent host r.out r.err [], (fit.0, asks.entry, refl, refl), (Sent host r.out r.err [] x, (asks.remote, begun, refl), (Over (Failed Memory), (refl, inr (inr refl)), refl))))
+    plainly j host deeds end (
+      Send r.out r.err [],
+      (asks.sent, asks.source, (refl, refl), leads r well),
+      (Lent host r.out r.err [], (fit.0, asks.entry, refl, refl), (Sent host r.out r.err [] x, (asks.remote, begun, refl), (Over (Failed Memory), (refl, inr (inr refl)), refl))),
+    )

@@ -32,19 +32,19 @@ longer [] es = record { runs = begins-itself es.runs; fetches = begins-itself es
 longer (Did (ran x) ∷ acts) es =
     let then : Entries = record es { runs = es.runs ++ x ∷ [] } in
     let l : Longer then (added then acts) = longer acts then in
-    record { runs = begins-more es.runs (added then acts).runs x l.runs; fetches = l.fetches; exchanges = l.exchanges; puts = l.puts; }
+    record { runs = begins-more es.runs (added then acts).runs x l.runs; fetches = l.fetches; exchanges = l.exchanges; puts = l.puts }
 longer (Did (fetched x) ∷ acts) es =
     let then : Entries = record es { fetches = es.fetches ++ x ∷ [] } in
     let l : Longer then (added then acts) = longer acts then in
-    record { runs = l.runs; fetches = begins-more es.fetches (added then acts).fetches x l.fetches; exchanges = l.exchanges; puts = l.puts; }
+    record { runs = l.runs; fetches = begins-more es.fetches (added then acts).fetches x l.fetches; exchanges = l.exchanges; puts = l.puts }
 longer (Did (exchanged x) ∷ acts) es =
     let then : Entries = record es { exchanges = es.exchanges ++ x ∷ [] } in
     let l : Longer then (added then acts) = longer acts then in
-    record { runs = l.runs; fetches = l.fetches; exchanges = begins-more es.exchanges (added then acts).exchanges x l.exchanges; puts = l.puts; }
+    record { runs = l.runs; fetches = l.fetches; exchanges = begins-more es.exchanges (added then acts).exchanges x l.exchanges; puts = l.puts }
 longer (Did (put x) ∷ acts) es =
     let then : Entries = record es { puts = es.puts ++ x ∷ [] } in
     let l : Longer then (added then acts) = longer acts then in
-    record { runs = l.runs; fetches = l.fetches; exchanges = l.exchanges; puts = begins-more es.puts (added then acts).puts x l.puts; }
+    record { runs = l.runs; fetches = l.fetches; exchanges = l.exchanges; puts = begins-more es.puts (added then acts).puts x l.puts }
 longer (Did (timed moment) ∷ acts) es = longer acts es
 longer (Met x ∷ acts) es = longer acts es
 
@@ -62,25 +62,25 @@ reading at es (Did (ran x) ∷ acts) c =
     let then : Entries = record es { runs = es.runs ++ x ∷ [] } in
     let next : Places = record at { runs = at.runs + 1 } in
     let l : Longer then (added then acts) = longer acts then in
-    let counts : Counts next then = record { runs = length_push es.runs x ∙ ap (λ n. n + 1) c.runs; fetches = c.fetches; exchanges = c.exchanges; puts = c.puts; } in
+    let counts : Counts next then = record { runs = length_push es.runs x ∙ ap (λ n. n + 1) c.runs; fetches = c.fetches; exchanges = c.exchanges; puts = c.puts } in
     ((x, get-there es.runs (added then acts).runs x at.runs c.runs l.runs, refl), reading next then acts counts)
 reading at es (Did (fetched x) ∷ acts) c =
     let then : Entries = record es { fetches = es.fetches ++ x ∷ [] } in
     let next : Places = record at { fetches = at.fetches + 1 } in
     let l : Longer then (added then acts) = longer acts then in
-    let counts : Counts next then = record { runs = c.runs; fetches = length_push es.fetches x ∙ ap (λ n. n + 1) c.fetches; exchanges = c.exchanges; puts = c.puts; } in
+    let counts : Counts next then = record { runs = c.runs; fetches = length_push es.fetches x ∙ ap (λ n. n + 1) c.fetches; exchanges = c.exchanges; puts = c.puts } in
     ((x, get-there es.fetches (added then acts).fetches x at.fetches c.fetches l.fetches, refl), reading next then acts counts)
 reading at es (Did (exchanged x) ∷ acts) c =
     let then : Entries = record es { exchanges = es.exchanges ++ x ∷ [] } in
     let next : Places = record at { exchanges = at.exchanges + 1 } in
     let l : Longer then (added then acts) = longer acts then in
-    let counts : Counts next then = record { runs = c.runs; fetches = c.fetches; exchanges = length_push es.exchanges x ∙ ap (λ n. n + 1) c.exchanges; puts = c.puts; } in
+    let counts : Counts next then = record { runs = c.runs; fetches = c.fetches; exchanges = length_push es.exchanges x ∙ ap (λ n. n + 1) c.exchanges; puts = c.puts } in
     ((x, get-there es.exchanges (added then acts).exchanges x at.exchanges c.exchanges l.exchanges, refl), reading next then acts counts)
 reading at es (Did (put x) ∷ acts) c =
     let then : Entries = record es { puts = es.puts ++ x ∷ [] } in
     let next : Places = record at { puts = at.puts + 1 } in
     let l : Longer then (added then acts) = longer acts then in
-    let counts : Counts next then = record { runs = c.runs; fetches = c.fetches; exchanges = c.exchanges; puts = length_push es.puts x ∙ ap (λ n. n + 1) c.puts; } in
+    let counts : Counts next then = record { runs = c.runs; fetches = c.fetches; exchanges = c.exchanges; puts = length_push es.puts x ∙ ap (λ n. n + 1) c.puts } in
     ((x, get-there es.puts (added then acts).puts x at.puts c.puts l.puts, refl), reading next then acts counts)
 reading at es (Did (timed moment) ∷ acts) c = reading at es acts c
 reading at es (Met (Takes host) ∷ acts) c = (refl, reading at es acts c)

@@ -11,7 +11,7 @@ use Rattle.farm_machine.specs.declared.reports.Why5.TheVariants.{Station, Broke,
 use Rattle.farm_machine.specs.declared.reports.End.{End}
 use Rattle.farm_machine.specs.declared.reports.End.TheVariants.{Done, Failed}
 use Rattle.farm_machine.specs.Acts.{Takes, Gives, GivesBad, FindsDown, TakesLocal, GivesLocal, Act, Did, Met}
-use Rattle.farm_machine.specs.Jobs.{Job, CanRequest, may_be_sent, is_source_ready, is_local_host}
+use Rattle.farm_machine.specs.Jobs.{Job, CanRequest, may_be_sent, is_local_host}
 use Rattle.farm_machine.specs.Course.{At, LentInPlace, RanInPlace, Send, Lent, RanThere, Sent, Locally, LentHere, RanHere, Finish, Over, outcome_of, after_preprocessor, or_here, after_broken, after_whole, Tried, tried_too, no_host, From, Course}
 use Rattle.farm_machine.specs.Table.{EndPart, HerePart, HereOr, WholeThen, SendPart, CompilePart, Finished, TableLaw}
 
