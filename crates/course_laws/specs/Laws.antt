@@ -1,14 +1,20 @@
 -- What holds of every course.
-use Rattle.std.specs.Prelude.{◌≡◌, ◌⊎◌, ℕ, ◌<◌, ◌≤◌, true, false, List, [], ◌∷◌, ◌++◌, None}
-use Rattle.edge_traits.specs.Deeds.{Deed, ran, exchanged}
+use Rattle.std.specs.Prelude.{◌≡◌, ◌⊎◌, ℕ, ◌+◌, ◌*◌, ◌<◌, ◌≤◌, true, false, List, [], ◌∷◌, ◌++◌, length, None}
+use Rattle.farm_types.specs.declared.ran.Outcome.{Outcome}
+use Rattle.edge_traits.specs.declared.entries.Run.{Run}
+use Rattle.edge_traits.specs.declared.entries.Exchange.{Exchange}
+use Rattle.edge_traits.specs.declared.entries.Put.{Put}
+use Rattle.edge_traits.specs.Deeds.{Deed, ran, exchanged, put}
 use Rattle.arg_strip.specs.Words.{stripped}
 use Rattle.farm_machine.specs.declared.plans.RemotePlan.{RemotePlan}
+use Rattle.farm_machine.specs.declared.reports.By.{By}
 use Rattle.farm_machine.specs.declared.reports.Why5.TheVariants.{Memory}
 use Rattle.farm_machine.specs.declared.reports.End.{End}
-use Rattle.farm_machine.specs.declared.reports.End.TheVariants.{Failed}
+use Rattle.farm_machine.specs.declared.reports.End.TheVariants.{Done, Failed}
 use Rattle.farm_machine.specs.Acts.{SlotEvent, Takes, Gives, GivesBad, FindsDown, Act, Did, Met, slots_of, took, IsOrderly}
-use Rattle.farm_machine.specs.Jobs.{Job, CanRequest, may_be_sent, is_source_ready, output_name, preprocessing_command, host_count, host_at, is_local_host}
-use Rattle.farm_machine.specs.Course.{Course}
+use Rattle.farm_machine.specs.Jobs.{Job, CanRequest, may_be_sent, is_source_ready, output_name, preprocessing_command, compile_command, host_count, host_at, is_local_host}
+use Rattle.farm_machine.specs.Course.{IsRunOf, IsWholeWith, outcome_of, Course}
+use Rattle.farm_machine.specs.Table.{IsSource}
 use Rattle.farm_machine.specs.Numbered.{untimed}
 use Rattle.farm_machine.specs.RemoteCourse.{RemoteCourse}
 
@@ -59,3 +65,35 @@ abbrev pub RemoteCourseLaw : Type 0
 RemoteCourseLaw = (j : Job) (host : ℕ) (deeds : List Deed) (end : End) → AsksOneHost j host → RunsFit j deeds
     → RemoteCourse (plan_for j) (host_at j host) host deeds end
     → (give : SlotEvent) × GivesBack host give × Course j (with_slots host give deeds) end
+
+-- this act is among these
+abbrev pub IsAmong : Act → List Act → Type 0
+IsAmong act [] = ⊥
+IsAmong act (a ∷ acts) = (a ≡ act) ⊎ IsAmong act acts
+
+-- The outcome is that of a compile of the job's source among these acts: a host's whole reply to the request of the source, or a run of the
+-- compile's words on the source here.
+pub record IsCompiled (j : Job) (acts : List Act) (o : Outcome) : Type 0 where
+  pub source : List ℕ
+  pub source_is : IsSource acts source
+  pub compile :
+      ((x : Exchange) × (host : ℕ) × IsAmong (Did (exchanged x)) acts × IsWholeWith j x source host o)
+      ⊎ ((x : Run) × IsAmong (Did (ran x)) acts × IsRunOf x (compile_command j) source × (o ≡ outcome_of x.ran))
+
+-- A put of a course is its last act. It is under the output's name, of the object of a compile of status 0 before it, and the job is done
+-- with status 0: so a job that has put its object never fails.
+pub record PutsLast (j : Job) (before : List Act) (x : Put) (rest : List Act) (end : End) : Type 0 where
+  pub last : rest ≡ []
+  pub path : x.path ≡ output_name j
+  pub outcome : Outcome
+  pub compiled : IsCompiled j before outcome
+  pub status : outcome.status ≡ 0
+  pub object : x.bytes ≡ outcome.object
+  pub done : (note : List ℕ) × (by : By) × (end ≡ Done 0 note outcome.err outcome.out by)
+
+abbrev pub PutLaw : Type 0
+PutLaw = (j : Job) (before : List Act) (x : Put) (rest : List Act) (end : End) → Course j (before ++ Did (put x) ∷ rest) end → PutsLast j before x rest end
+
+-- a course is so long at most: three acts for each try, and five for all else
+abbrev pub LengthLaw : Type 0
+LengthLaw = (j : Job) (acts : List Act) (end : End) → 1 ≤ j.tries → Course j acts end → length acts ≤ 3 * j.tries + 5

@@ -1,7 +1,7 @@
 //! Laws of the course of one job.
 #![tactic(auto)]
 
-ghost use Rattle.course_laws.specs.Laws.{DownLaw, OrderLaw, RemoteCourseLaw, UntimedLaw};
+ghost use Rattle.course_laws.specs.Laws.{DownLaw, LengthLaw, OrderLaw, PutLaw, RemoteCourseLaw, UntimedLaw};
 ghost use Rattle.farm_machine.specs.Numbered.{NumberedLaw};
 ghost use Rattle.farm_machine.specs.Table.{MemoryLaw, TableLaw};
 
@@ -35,4 +35,15 @@ pub fn numbered_law()
 /// exchange and given back right after it.
 pub fn remote_course_law()
     ensures { RemoteCourseLaw }
+{}
+
+/// A put of a course is its last act, under the output's name, of the object of a compile of the job's own source with status 0; the job
+/// is then done with status 0. So a job that has put its object never fails, and none puts twice.
+pub fn put_law()
+    ensures { PutLaw }
+{}
+
+/// A course has at most three acts for each host that it may try, and five more.
+pub fn length_law()
+    ensures { LengthLaw }
 {}
