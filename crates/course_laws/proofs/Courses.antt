@@ -255,7 +255,7 @@ turn j host rest end below [] (Over e) past t new (c, next, from) = absurd next
 turn j host rest end below (Did d ∷ acts) at past t new (c, next, from) = (c, next, turn j host rest end below acts c past (tried-did j at c d past next t) new from)
 turn j host rest end below (Met x ∷ acts) at past t new (c, next, from) = (c, next, turn j host rest end below acts c (past ++ x ∷ []) (tried-met j at c x past next t) (ap (took host) (append_assoc past (x ∷ []) (slots_of acts)) ∙ new) from)
 
--- Where a job may find all hosts down, it may take a slot of any host that it has not taken one of before, and then give it back for want
--- of memory.
+-- Where a job may find all hosts down, it may take a slot of any host that it has not taken one of before, and then
+-- give it back for want of memory.
 pub take-where-down : (j : Job) (host : ℕ) (acts rest : List Act) (end : End) → host < host_count j → took host (slots_of acts) ≡ false → Course j (acts ++ Met FindsDown ∷ rest) end → Course j (acts ++ Met (Takes host) ∷ Met (Gives host) ∷ []) (Failed Memory)
 take-where-down j host acts rest end below new course = turn j host rest end below acts Start [] tt new course

@@ -14,7 +14,8 @@ use Rattle.farm_machine.specs.Jobs.{Job}
 use Rattle.farm_machine.specs.Course.{At, Start, LentInPlace, RanInPlace, Send, Lent, RanThere, Sent, Locally, LentHere, RanHere, Finish, Over, outcome_of, after_preprocessor, or_here, after_broken, after_whole, Tried, tried_too, no_host, Next, From}
 use Rattle.course_laws.specs.Laws.{LengthLaw}
 
--- From here a course may have n acts more: three for each host that may still be tried, and those of the compile here and of the put.
+-- From here a course may have n acts more: three for each host that may still be tried, and those of the compile here
+-- and of the put.
 abbrev Left : Job → At → ℕ → Type 0
 Left j Start n = 3 * j.tries + 5 ≤ n
 Left j LentInPlace n = 2 ≤ n

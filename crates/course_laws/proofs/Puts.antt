@@ -12,7 +12,7 @@ use Rattle.farm_machine.specs.declared.reports.Why5.TheVariants.{Station, Broke,
 use Rattle.farm_machine.specs.declared.reports.End.{End}
 use Rattle.farm_machine.specs.declared.reports.End.TheVariants.{Done, Failed}
 use Rattle.farm_machine.specs.Acts.{Takes, Gives, GivesBad, FindsDown, TakesLocal, GivesLocal, Act, Did, Met}
-use Rattle.farm_machine.specs.Jobs.{Job, compile_command}
+use Rattle.farm_machine.specs.Jobs.{Job, CanRequest, compile_command}
 use Rattle.farm_machine.specs.Course.{IsRunOf, At, Start, LentInPlace, RanInPlace, Send, Lent, RanThere, Sent, Locally, LentHere, RanHere, Finish, Over, outcome_of, after_preprocessor, or_here, after_broken, after_whole, Tried, tried_too, no_host, Next, From}
 use Rattle.farm_machine.specs.Table.{IsSource}
 use Rattle.course_laws.specs.Laws.{IsAmong, IsCompiled, PutsLast, PutLaw}
@@ -41,7 +41,8 @@ record Compiled (j : Job) (acts : List Act) (r : Ran) : Type 0 where
 abbrev KnownAt : Job → List Act → At → Type 0
 KnownAt j acts (RanThere host note r) = Compiled j acts r
 KnownAt j acts (RanHere note r) = Compiled j acts r
-KnownAt j acts (Sent host source note tried x) = IsSource acts source × IsAmong (Did (exchanged x)) acts
+KnownAt j acts (Lent host source note tried) = CanRequest j source
+KnownAt j acts (Sent host source note tried x) = IsSource acts source × IsAmong (Did (exchanged x)) acts × CanRequest j source
 KnownAt j acts (Finish by note o) = IsCompiled j acts o
 KnownAt j acts at = Unit {0}
 
@@ -100,11 +101,11 @@ known-next j acts LentInPlace c (Met GivesLocal) h s k = one-of j (acts ++ Met G
 known-next j acts (RanInPlace r) c (Met GivesLocal) h s k = one-of j (acts ++ Met GivesLocal ∷ []) c (Over (Done r.status [] r.err r.out InPlace)) (Over (Failed Memory)) h tt tt
 known-next j acts (Send source note tried) c (Met FindsDown) h s k =
     known-at j (acts ++ Met FindsDown ∷ []) c (or_here j source note (Failed (no_host tried))) h.1 (known-or_here j (acts ++ Met FindsDown ∷ []) source note (Failed (no_host tried)))
-known-next j acts (Send source note tried) c (Met (Takes host)) h s k = known-at j (acts ++ Met (Takes host) ∷ []) c (Lent host source note tried) h.3 tt
+known-next j acts (Send source note tried) c (Met (Takes host)) h s k = known-at j (acts ++ Met (Takes host) ∷ []) c (Lent host source note tried) h.3 h.0
 known-next j acts (Send source note tried) c (Met TakesLocal) h s k = known-at j (acts ++ Met TakesLocal ∷ []) c (LentHere source note) h.1 tt
 known-next j acts (Lent host source note tried) c (Did (ran x)) h s k = known-at j (acts ++ Did (ran x) ∷ []) c (RanThere host note x.ran) h.2 (ran-now j acts source x s h.1)
 known-next j acts (Lent host source note tried) c (Did (exchanged x)) h s k =
-    known-at j (acts ++ Did (exchanged x) ∷ []) c (Sent host source note tried x) h.2 (more-source acts (Did (exchanged x)) source s, among-last acts (Did (exchanged x)))
+    known-at j (acts ++ Did (exchanged x) ∷ []) c (Sent host source note tried x) h.2 (more-source acts (Did (exchanged x)) source s, among-last acts (Did (exchanged x)), k)
 known-next j acts (Lent host source note tried) c (Met (Gives i)) h s k =
     elim h.1 [ inl e ↦ known-at j (acts ++ Met (Gives i) ∷ []) c (Over (Failed Station)) e.1 tt | inr e ↦ known-at j (acts ++ Met (Gives i) ∷ []) c (Over (Failed Memory)) e tt ]
 known-next j acts (RanThere host note r) c (Met (Gives i)) h s k =
@@ -115,7 +116,7 @@ known-next j acts (Sent host source note tried x) c (Met (Gives i)) h s k =
           (known-whole j (acts ++ Met (Gives i) ∷ []) host source note w.0 record {
             source = source;
             source_is = more-source acts (Met (Gives i)) source k.0;
-            compile = inl (x, host, among-more (Did (exchanged x)) acts (Met (Gives i)) k.1, w.1);
+            compile = inl (x, host, among-more (Did (exchanged x)) acts (Met (Gives i)) k.1, k.2, w.1);
           })
       | inr other ↦ elim other [
         | inl b ↦ known-at j (acts ++ Met (Gives i) ∷ []) c (after_broken j host b.0 source note tried) b.3 (known-broken j (acts ++ Met (Gives i) ∷ []) host b.0 source note tried)

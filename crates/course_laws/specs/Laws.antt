@@ -35,8 +35,8 @@ UntimedLaw = (j : Job) (acts : List Act) (end : End) → Course j acts end → u
 abbrev pub plan_for : Job → RemotePlan
 plan_for j = record { preprocess = preprocessing_command j; words = stripped j.words; output = output_name j }
 
--- A job that asks this one host, which isn't local: its command may be sent, its source isn't preprocessed yet, it has one try, and no
--- compile here stands in for a host's.
+-- A job that asks this one host, which isn't local: its command may be sent, its source isn't preprocessed yet, it has
+-- one try, and no compile here stands in for a host's.
 pub record AsksOneHost (j : Job) (host : ℕ) : Type 0 where
   pub sent : may_be_sent j ≡ true
   pub source : is_source_ready j ≡ false
@@ -71,17 +71,17 @@ abbrev pub IsAmong : Act → List Act → Type 0
 IsAmong act [] = ⊥
 IsAmong act (a ∷ acts) = (a ≡ act) ⊎ IsAmong act acts
 
--- The outcome is that of a compile of the job's source among these acts: a host's whole reply to the request of the source, or a run of the
--- compile's words on the source here.
+-- The outcome is that of a compile of the job's source among these acts: a host's whole reply to the request of the
+-- source, which is within the limits, or a run of the compile's words on the source here.
 pub record IsCompiled (j : Job) (acts : List Act) (o : Outcome) : Type 0 where
   pub source : List ℕ
   pub source_is : IsSource acts source
   pub compile :
-      ((x : Exchange) × (host : ℕ) × IsAmong (Did (exchanged x)) acts × IsWholeWith j x source host o)
+      ((x : Exchange) × (host : ℕ) × IsAmong (Did (exchanged x)) acts × CanRequest j source × IsWholeWith j x source host o)
       ⊎ ((x : Run) × IsAmong (Did (ran x)) acts × IsRunOf x (compile_command j) source × (o ≡ outcome_of x.ran))
 
--- A put of a course is its last act. It is under the output's name, of the object of a compile of status 0 before it, and the job is done
--- with status 0: so a job that has put its object never fails.
+-- A put of a course is its last act. It is under the output's name, of the object of a compile of status 0 before it,
+-- and the job is done with status 0: so a job that has put its object never fails.
 pub record PutsLast (j : Job) (before : List Act) (x : Put) (rest : List Act) (end : End) : Type 0 where
   pub last : rest ≡ []
   pub path : x.path ≡ output_name j

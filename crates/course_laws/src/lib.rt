@@ -1,44 +1,51 @@
 //! Laws of the course of one job.
 #![tactic(auto)]
 
+ghost use Rattle.course_laws.specs.Answers.{PutAnswerLaw, WholeAnswerLaw};
 ghost use Rattle.course_laws.specs.Laws.{DownLaw, LengthLaw, OrderLaw, PutLaw, RemoteCourseLaw, UntimedLaw};
 ghost use Rattle.farm_machine.specs.Numbered.{NumberedLaw};
 ghost use Rattle.farm_machine.specs.Table.{MemoryLaw, TableLaw};
 
-/// The slot events of a course come in their turn: a job takes where it has nothing out, gives back what it has out, never has a local
-/// host left alone, and has nothing out at its end.
+#[cfg(test)]
+mod tests;
+
+use edge_traits::{Dialer, Station};
+
+/// The slot events of a course come in their turn: a job takes where it has nothing out, gives back what it has out,
+/// never has a local host left alone, and has nothing out at its end.
 pub fn order_law()
     ensures { OrderLaw }
 {}
 
-/// Where a job may find all hosts down, it may take a slot of any host that it hasn't taken one of before: so a take of a slot that any of
-/// these hosts answers may wait where all of them being down is an answer.
+/// Where a job may find all hosts down, it may also be given a slot of any host that it hasn't taken one of before. So
+/// which of these answers a take gets is left to the slots, and a take that is refused may come wherever one of them
+/// may.
 pub fn down_law()
     ensures { DownLaw }
 {}
 
-/// The courses that don't end for want of memory are those of the table, and those that do are the first acts of one of these, with
-/// the give of what is out then.
+/// The courses that don't end for want of memory are those of the table, and those that do are the first acts of one of
+/// these, with the give of what is out then.
 pub fn table_law()
     ensures table { TableLaw }
     ensures memory { MemoryLaw }
 {}
 
-/// Events that are numbered on from the lengths of a worker's lists read as the acts that they number: they name exactly the entries that
-/// the acts add, in order. No course has a look at the clock, which alone is no event.
+/// Events that are numbered on from the lengths of a worker's lists read as the acts that they number: they name
+/// exactly the entries that the acts add, in order. No course has a look at the clock, which alone is no event.
 pub fn numbered_law()
     ensures numbered { NumberedLaw }
     ensures untimed { UntimedLaw }
 {}
 
-/// A course by one host and no compile here is the deeds of a course of the table, in which a slot of the host is taken right before the
-/// exchange and given back right after it.
+/// A course by one host and no compile here is the deeds of a course of the table, in which a slot of the host is taken
+/// right before the exchange and given back right after it.
 pub fn remote_course_law()
     ensures { RemoteCourseLaw }
 {}
 
-/// A put of a course is its last act, under the output's name, of the object of a compile of the job's own source with status 0; the job
-/// is then done with status 0. So a job that has put its object never fails, and none puts twice.
+/// A put of a course is its last act, under the output's name, of the object of a compile of the job's own source with
+/// status 0; the job is then done with status 0. So a job that has put its object never fails, and none puts twice.
 pub fn put_law()
     ensures { PutLaw }
 {}
@@ -46,4 +53,12 @@ pub fn put_law()
 /// A course has at most three acts for each host that it may try, and five more.
 pub fn length_law()
     ensures { LengthLaw }
+{}
+
+/// Over honest peers, what a host answers whole with status 0 is what a compiler of this station may answer to the
+/// job's request, and over fully honest ones with any status. So over honest peers each object that a job puts is one
+/// that a compiler may answer, whether a host or this machine compiled it.
+pub fn answer_law<D: Dialer, S: Station>(_dialer: &D, _station: &S)
+    ensures whole { WholeAnswerLaw (D.may_give _dialer.now) (S.ran _station.now) }
+    ensures put { PutAnswerLaw (D.may_give _dialer.now) (S.ran _station.now) }
 {}

@@ -8,8 +8,9 @@ use Rattle.edge_traits.specs.Deeds.{Deed, ran, fetched, exchanged, put}
 use Rattle.farm_machine.specs.declared.reports.Event.{Event}
 use Rattle.farm_machine.specs.declared.reports.Event.TheVariants.{Ran, Fetched, Exchanged, Put as PutAt, Took, Gave, GaveBad, Down, TookLocal, GaveLocal}
 
--- One call on the slots that was answered for good: a slot of a host was taken, given back, or given back with the moment until which
--- the host is left alone; all hosts were found down; a local slot was taken or given back. Answers that say to try again are no events.
+-- One call on the slots that was answered for good: a slot of a host was taken, given back, or given back with the
+-- moment until which the host is left alone; all hosts were found down; a local slot was taken or given back. Answers
+-- that say to try again are no events.
 pub data SlotEvent : Type 0 where
   Takes : ℕ → SlotEvent
   Gives : ℕ → SlotEvent

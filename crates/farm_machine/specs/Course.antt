@@ -1,5 +1,5 @@
--- The course of one job, one act at a time: where it stands, what may come next there, and how it may end there. The same courses as a
--- table, row by row, are in Table.
+-- The course of one job, one act at a time: where it stands, what may come next there, and how it may end there. The
+-- same courses as a table, row by row, are in Table.
 use Rattle.std.specs.Prelude.{◌≡◌, ◌≢◌, ◌⊎◌, ℕ, ◌+◌, ◌<◌, ◌^◌, Bool, true, false, ◌&&◌, ◌||◌, cond, List, [], ◌∷◌, length, nat_eq, nat_lt}
 use Rattle.farm_types.specs.declared.placed.Word.{Word}
 use Rattle.farm_types.specs.declared.ran.Ran.{Ran}
@@ -46,7 +46,8 @@ is_tried host (t ∷ tried) = nat_eq t.host host || is_tried host tried
 abbrev pub tried_too : ℕ → Cause → List Tried → List Tried
 tried_too host cause tried = record { host = host; cause = cause } ∷ tried
 
--- Where a job stands. From `Send` on it has a preprocessed source, and the note, which is what the preprocessor wrote to standard error.
+-- Where a job stands. From `Send` on it has a preprocessed source, and the note, which is what the preprocessor wrote
+-- to standard error.
 pub data At : Type 0 where
   Start : At
   -- it has a local slot for the whole command, which then has run
@@ -88,7 +89,8 @@ abbrev pub after_broken : Job → ℕ → Cause → List ℕ → List ℕ → Li
 after_broken j host cause source note tried =
     cond (nat_lt (length tried + 1) j.tries) (Send source note (tried_too host cause tried)) (or_here j source note (Failed (Broke host cause)))
 
--- a host's outcome of status 0 is the job's; another ends the job, or with fallback and retry the job is compiled here once more
+-- a host's outcome of status 0 is the job's; another ends the job, or with fallback and retry the job is compiled here
+-- once more
 abbrev pub after_whole : Job → ℕ → List ℕ → List ℕ → Outcome → At
 after_whole j host source note o =
     cond (nat_eq o.status 0) (Finish (Remote host) note o)

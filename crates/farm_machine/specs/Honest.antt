@@ -21,8 +21,8 @@ Peers = List ℕ → List ℕ → Type 0
 abbrev pub object_of : Ran → List ℕ
 object_of r = if r.status == 0 then r.object else []
 
--- A compiler may answer this outcome: the request is of a command that may be sent, and the outcome is what a run of its words on its
--- source may leave.
+-- A compiler may answer this outcome: the request is of a command that may be sent, and the outcome is what a run of
+-- its words on its source may leave.
 pub record Compiles (programs : Programs) (q : Request) (o : Outcome) : Type 0 where
   pub remote : IsRemote q.words
   pub run : Ran
@@ -32,8 +32,8 @@ pub record Compiles (programs : Programs) (q : Request) (o : Outcome) : Type 0 w
   pub out : o.out ≡ run.out
   pub object : o.object ≡ object_of run
 
--- Peers are honest: where they were sent a request, and begin what they give with an outcome of status 0, it is one that a compiler may
--- answer. They may be silent, fail, or give what is no outcome.
+-- Peers are honest: where they were sent a request, and begin what they give with an outcome of status 0, it is one
+-- that a compiler may answer. They may be silent, fail, or give what is no outcome.
 abbrev pub IsHonest : Peers → Programs → Type 0
 IsHonest peers programs = (sent given : List ℕ) (q : Request) (o : Outcome) (used : ℕ)
     → peers sent given → SpellsRequest sent q → BeginsReply given used o → o.status ≡ 0 → Compiles programs q o

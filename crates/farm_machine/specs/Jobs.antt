@@ -17,7 +17,8 @@ pub record Job : Type 0 where
   pub config : JobConfig
   pub tries : ℕ
 
--- The command may be sent. Any other is run here as it stands; so would be one without words, which no list of jobs has.
+-- The command may be sent. Any other is run here as it stands; so would be one without words, which no list of jobs
+-- has.
 abbrev pub may_be_sent : Job → Bool
 may_be_sent j = is_remote_verdict (verdict_of j.words)
 

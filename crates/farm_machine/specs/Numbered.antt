@@ -10,8 +10,8 @@ use Rattle.farm_machine.specs.Acts.{Takes, Gives, GivesBad, FindsDown, TakesLoca
 abbrev pub no_places : Places
 no_places = record { runs = 0; fetches = 0; exchanges = 0; puts = 0 }
 
--- Each deed that adds an entry is named by the next place of its kind, and each slot event by its kind and values; a look at the clock is
--- no event.
+-- Each deed that adds an entry is named by the next place of its kind, and each slot event by its kind and values; a
+-- look at the clock is no event.
 abbrev pub numbered : Places → List Act → List Event
 numbered at [] = []
 numbered at (Did (ran x) ∷ acts) = Ran at.runs ∷ numbered (record at { runs = at.runs + 1 }) acts

@@ -13,8 +13,8 @@ use Rattle.farm_machine.specs.Acts.{Takes, Gives, GivesBad, FindsDown, TakesLoca
 use Rattle.farm_machine.specs.Jobs.{Job, CanRequest, may_be_sent, is_source_ready, source_name, output_name, whole_command, preprocessing_command, compile_command, host_count, is_local_host}
 use Rattle.farm_machine.specs.Course.{IsRunOf, IsBegunWith, IsWholeWith, IsBrokenWith, Tried, is_tried, tried_too, no_host, outcome_of, IsBackOff, Course}
 
--- The end of a job by its compile: an object of status 0 is put, and is the job's; it may not be put; another status is the job's, with
--- no put.
+-- The end of a job by its compile: an object of status 0 is put, and is the job's; it may not be put; another status is
+-- the job's, with no put.
 abbrev pub EndPart : Job → By → List ℕ → Outcome → List Act → End → Type 0
 EndPart j by note o (Did (put x) ∷ []) end = (o.status ≡ 0) × (x.path ≡ output_name j) × (x.bytes ≡ o.object) × (end ≡ Done 0 note o.err o.out by)
 EndPart j by note o [] end =
@@ -38,16 +38,17 @@ HereOr j source note why acts end =
 abbrev pub MayTake : Job → List ℕ → List Tried → ℕ → Type 0
 MayTake j source tried host = CanRequest j source × (host < host_count j) × (is_tried host tried ≡ false)
 
--- after a host's outcome: of status 0 it is the job's; else with fallback and retry the compile here, and without it is the job's
+-- after a host's outcome: of status 0 it is the job's; else with fallback and retry the compile here, and without it is
+-- the job's
 abbrev pub WholeThen : Job → ℕ → List ℕ → List ℕ → Outcome → List Act → End → Type 0
 WholeThen j host source note o acts end =
     ((o.status ≡ 0) × EndPart j (Remote host) note o acts end)
     ⊎ (((o.status ≢ 0) × (j.config.fallback ≡ true) × (j.config.retry ≡ true) × HerePart j source note acts end)
     ⊎ ((o.status ≢ 0) × ((j.config.fallback ≡ false) ⊎ (j.config.retry ≡ false)) × (acts ≡ []) × (end ≡ Done o.status note o.err o.out (Remote host))))
 
--- The compile elsewhere, of a request within its limits, after these tries: all hosts are down; or a local host compiled it, or could not
--- run it; or the exchange with a host was whole; or it broke, the host is left alone for the period if there is one, and another host is
--- asked where there are tries left.
+-- The compile elsewhere, of a request within its limits, after these tries: all hosts are down; or a local host
+-- compiled it, or could not run it; or the exchange with a host was whole; or it broke, the host is left alone for the
+-- period if there is one, and another host is asked where there are tries left.
 abbrev pub SendPart : Job → List ℕ → List ℕ → List Tried → List Act → End → Type 0
 SendPart j source note tried (Met FindsDown ∷ acts) end = CanRequest j source × HereOr j source note (Failed (no_host tried)) acts end
 SendPart j source note tried (Met (Takes host) ∷ Did (ran x) ∷ Met (Gives k) ∷ acts) end =
@@ -72,8 +73,8 @@ CompilePart j source note acts end =
     ((¬ (CanRequest j source)) × HerePart j source note acts end)
     ⊎ SendPart j source note [] acts end
 
--- A whole course, want of memory aside: a command that stays here is run as it stands; a preprocessed source is fetched; any other source
--- is preprocessed, and a preprocessor that fails ends the job.
+-- A whole course, want of memory aside: a command that stays here is run as it stands; a preprocessed source is
+-- fetched; any other source is preprocessed, and a preprocessor that fails ends the job.
 abbrev pub Finished : Job → List Act → End → Type 0
 Finished j (Met TakesLocal ∷ Did (ran x) ∷ Met GivesLocal ∷ []) end = (may_be_sent j ≡ false) × IsRunOf x (whole_command j) [] × (end ≡ Done x.ran.status [] x.ran.err x.ran.out InPlace)
 Finished j (Met TakesLocal ∷ Met GivesLocal ∷ []) end = (may_be_sent j ≡ false) × (end ≡ Failed Station)
@@ -112,7 +113,8 @@ pub record IsCut (j : Job) (acts : List Act) : Type 0 where
   pub finished : Finished j (front ++ next ∷ rest) end
   pub is : acts ≡ front ++ gives_back (loan_of None (slots_of front))
 
--- The first acts of a whole course up to an exchange, in whose place stands one that need only be begun, and the give of the host's slot.
+-- The first acts of a whole course up to an exchange, in whose place stands one that need only be begun, and the give
+-- of the host's slot.
 pub record IsCutInExchange (j : Job) (acts : List Act) : Type 0 where
   pub front : List Act
   pub exchange : Exchange

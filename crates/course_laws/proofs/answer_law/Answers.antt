@@ -1,0 +1,8 @@
+use Rattle.course_laws.proofs.Compilers.{put-answer, whole-answer}
+use Rattle.course_laws.proofs.answer_law.Goals as goal
+
+pub returns-clause-whole : goal.returns-clause-whole
+returns-clause-whole g c = whole-answer _ _
+
+pub returns-clause-put : goal.returns-clause-put
+returns-clause-put g c = put-answer _ _

@@ -1,0 +1,47 @@
+-- What a compiler may answer, and what jobs put over honest peers.
+use Rattle.std.specs.Prelude.{◌≡◌, ◌⊎◌, ℕ, true, List, [], ◌∷◌, ◌++◌}
+use Rattle.farm_types.specs.declared.ran.Outcome.{Outcome}
+use Rattle.edge_traits.specs.declared.entries.Exchange.{Exchange}
+use Rattle.edge_traits.specs.declared.entries.Put.{Put}
+use Rattle.edge_traits.specs.Deeds.{ran, exchanged, put}
+use Rattle.farm_machine.specs.declared.reports.End.{End}
+use Rattle.farm_machine.specs.Acts.{Act, Did}
+use Rattle.farm_machine.specs.Jobs.{Job, CanRequest, request_for}
+use Rattle.farm_machine.specs.Course.{IsWholeWith, Course}
+use Rattle.farm_machine.specs.Table.{IsSource}
+use Rattle.farm_machine.specs.Honest.{Programs, Peers, Compiles, IsHonest, IsFullyHonest}
+
+-- the peers may have given what each dialed exchange was given
+abbrev pub AllGiven : Peers → List Act → Type 0
+AllGiven peers [] = Unit {0}
+AllGiven peers (Did (exchanged x) ∷ acts) = (x.dialed ≡ true → peers x.sent x.given) × AllGiven peers acts
+AllGiven peers (act ∷ acts) = AllGiven peers acts
+
+-- the programs may have left what each run left
+abbrev pub AllRan : Programs → List Act → Type 0
+AllRan programs [] = Unit {0}
+AllRan programs (Did (ran x) ∷ acts) = programs x.words x.input x.ran × AllRan programs acts
+AllRan programs (act ∷ acts) = AllRan programs acts
+
+-- A whole exchange over honest peers has an outcome that a compiler may answer to the job's request, where its status
+-- is 0, and over fully honest ones in any case.
+abbrev pub WholeAnswerLaw : Peers → Programs → Type 0
+WholeAnswerLaw peers programs = (j : Job) (source : List ℕ) (x : Exchange) (host : ℕ) (o : Outcome)
+    → CanRequest j source → (x.dialed ≡ true → peers x.sent x.given) → IsWholeWith j x source host o
+    → (IsHonest peers programs × (o.status ≡ 0)) ⊎ IsFullyHonest peers programs
+    → Compiles programs (request_for j source) o
+
+-- The put is of the object of an outcome of status 0 that a compiler may answer to the request of the job's own source.
+pub record IsAnswer (programs : Programs) (j : Job) (before : List Act) (x : Put) : Type 0 where
+  pub source : List ℕ
+  pub source_is : IsSource before source
+  pub outcome : Outcome
+  pub compiles : Compiles programs (request_for j source) outcome
+  pub status : outcome.status ≡ 0
+  pub object : x.bytes ≡ outcome.object
+
+-- over honest peers each object that a job puts is one that a compiler may answer
+abbrev pub PutAnswerLaw : Peers → Programs → Type 0
+PutAnswerLaw peers programs = (j : Job) (before : List Act) (x : Put) (rest : List Act) (end : End)
+    → IsHonest peers programs → AllGiven peers before → AllRan programs before
+    → Course j (before ++ Did (put x) ∷ rest) end → IsAnswer programs j before x
