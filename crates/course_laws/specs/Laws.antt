@@ -57,6 +57,7 @@ with_slots host give [] = []
 with_slots host give (exchanged x ∷ deeds) = Met (Takes host) ∷ Did (exchanged x) ∷ Met give ∷ with_slots host give deeds
 with_slots host give (d ∷ deeds) = Did d ∷ with_slots host give deeds
 
+-- this slot event gives a slot of the host back
 abbrev pub GivesBack : ℕ → SlotEvent → Type 0
 GivesBack host give = (give ≡ Gives host) ⊎ ((until : ℕ) × (give ≡ GivesBad host until))
 

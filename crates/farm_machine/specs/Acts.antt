@@ -75,10 +75,11 @@ took place [] = false
 took place (Takes host ∷ events) = nat_eq host place || took place events
 took place (e ∷ events) = took place events
 
--- What a job has out: nothing, a slot of a host, or a local slot.
+-- What a job has out: nothing, a slot of the host at a place, or a local slot.
 abbrev pub Loan : Type 0
 Loan = Option (Option ℕ)
 
+-- what a job has out after one slot event more
 abbrev pub loan_after : Loan → SlotEvent → Loan
 loan_after loan (Takes host) = Some (Some host)
 loan_after loan TakesLocal = Some None

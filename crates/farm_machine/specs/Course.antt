@@ -38,6 +38,7 @@ pub record Tried : Type 0 where
   pub host : ℕ
   pub cause : Cause
 
+-- the host at this place was tried
 abbrev pub is_tried : ℕ → List Tried → Bool
 is_tried host [] = false
 is_tried host (t ∷ tried) = nat_eq t.host host || is_tried host tried
@@ -49,6 +50,7 @@ tried_too host cause tried = record { host = host; cause = cause } ∷ tried
 -- Where a job stands. From `Send` on it has a preprocessed source, and the note, which is what the preprocessor wrote
 -- to standard error.
 pub data At : Type 0 where
+  -- nothing was done yet
   Start : At
   -- it has a local slot for the whole command, which then has run
   LentInPlace : At
@@ -63,8 +65,9 @@ pub data At : Type 0 where
   Locally : List ℕ → List ℕ → At
   LentHere : List ℕ → List ℕ → At
   RanHere : List ℕ → Ran → At
-  -- whose compile, the note, and what the compile left: an object is to be put
+  -- who compiled, the note, and what the compile left, of which an object is to be put
   Finish : By → List ℕ → Outcome → At
+  -- it has its end
   Over : End → At
 
 -- what a run left, as an outcome
@@ -133,7 +136,7 @@ Next j (RanHere note r) (Met GivesLocal) c = (c ≡ Finish Here note (outcome_of
 Next j (Finish by note o) (Did (put x)) c = (o.status ≡ 0) × (x.path ≡ output_name j) × (x.bytes ≡ o.object) × (c ≡ Over (Done 0 note o.err o.out by))
 Next j at act c = ⊥
 
--- a job may end here so
+-- A job may end here so. A run, a fetch or a put that could not be made is told by the end alone.
 abbrev pub Ends : Job → At → End → Type 0
 Ends j Start end =
     (end ≡ Failed Memory)

@@ -46,7 +46,7 @@ preprocessing_command j = map Text (preprocessing_words j.words)
 abbrev pub compile_command : Job → List Word
 compile_command j = placed_words j.words
 
--- the request for a compile of this source: the words without those that only the preprocessor and the linker use
+-- the request for a compile of this source, with the words that are sent
 abbrev pub request_for : Job → List ℕ → Request
 request_for j source = record { words = stripped j.words; source = source }
 
@@ -58,7 +58,7 @@ CanRequest j source = RequestFits (stripped j.words) source
 abbrev pub host_count : Job → ℕ
 host_count j = length j.config.hosts.list
 
--- what is looked up behind the end of a host list
+-- what is looked up behind the end of a host list, where no course looks
 abbrev pub no_host_entry : Host
 no_host_entry = record { name = record { text = [] }; port = 0; limit = 0; local = false }
 

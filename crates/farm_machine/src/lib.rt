@@ -1,4 +1,5 @@
-//! The values that tell what became of a job, and the definition of a job's course.
+//! The values that tell what became of a job, and the definitions of the farm: the course of a job, what a compiler may
+//! answer, and honest peers.
 #![tactic(auto)]
 
 mod plans;
