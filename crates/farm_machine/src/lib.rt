@@ -1,5 +1,5 @@
-//! The values that tell what became of a job, and the definitions of the farm: the course of a job, what a compiler may
-//! answer, and honest peers.
+//! The values that tell what became of a job, and the definitions of the farm: jobs and their courses, the machine, the
+//! weave, and what a compiler may answer.
 #![tactic(auto)]
 
 mod plans;
