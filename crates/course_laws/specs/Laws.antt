@@ -1,5 +1,5 @@
 -- What holds of every course.
-use Rattle.std.specs.Prelude.{◌≡◌, ◌⊎◌, ℕ, ◌+◌, ◌*◌, ◌<◌, ◌≤◌, true, false, List, [], ◌∷◌, ◌++◌, length, None}
+use Rattle.std.specs.Prelude.{◌≡◌, ◌⊎◌, ◌↔◌, ℕ, ◌+◌, ◌*◌, ◌<◌, ◌≤◌, true, false, List, [], ◌∷◌, ◌++◌, length, None}
 use Rattle.farm_types.specs.declared.ran.Outcome.{Outcome}
 use Rattle.edge_traits.specs.declared.entries.Run.{Run}
 use Rattle.edge_traits.specs.declared.entries.Exchange.{Exchange}
@@ -61,11 +61,11 @@ with_slots host give (d ∷ deeds) = Did d ∷ with_slots host give deeds
 abbrev pub GivesBack : ℕ → SlotEvent → Type 0
 GivesBack host give = (give ≡ Gives host) ⊎ ((until : ℕ) × (give ≡ GivesBad host until))
 
--- A course by one host and no compile here is the deeds of a course.
+-- The courses by one host and no compile here are exactly the deeds of the courses in which the slots are used so.
 abbrev pub RemoteCourseLaw : Type 0
 RemoteCourseLaw = (j : Job) (host : ℕ) (deeds : List Deed) (end : End) → AsksOneHost j host → RunsFit j deeds
     → RemoteCourse (plan_for j) (host_at j host) host deeds end
-    → (give : SlotEvent) × GivesBack host give × Course j (with_slots host give deeds) end
+    ↔ ((give : SlotEvent) × GivesBack host give × Course j (with_slots host give deeds) end)
 
 -- this act is among these
 abbrev pub IsAmong : Act → List Act → Type 0

@@ -38,8 +38,8 @@ pub fn numbered_law()
     ensures untimed { UntimedLaw }
 {}
 
-/// A course by one host and no compile here is the deeds of a course of the table, in which a slot of the host is taken
-/// right before the exchange and given back right after it.
+/// The courses by one host and no compile here are exactly the deeds of those courses of the table in which a slot of
+/// the host is taken right before each exchange and given back right after it, and no other slot is used.
 pub fn remote_course_law()
     ensures { RemoteCourseLaw }
 {}

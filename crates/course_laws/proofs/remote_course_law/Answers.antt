@@ -1,5 +1,5 @@
-use Rattle.course_laws.proofs.OneHost.{remote-course}
+use Rattle.course_laws.proofs.OneHost.{one-host}
 use Rattle.course_laws.proofs.remote_course_law.Goals as goal
 
 pub returns : goal.returns
-returns c = remote-course
+returns c = one-host
