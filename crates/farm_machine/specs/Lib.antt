@@ -8,3 +8,6 @@ pub mod Example
 pub mod RemoteCourse
 pub mod Causes
 pub mod Plans
+pub mod Acts
+pub mod Machine
+pub mod Weave
