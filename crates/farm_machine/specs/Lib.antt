@@ -4,10 +4,12 @@ pub mod Course
 pub mod Table
 pub mod Numbered
 pub mod Honest
+pub mod Machine
+pub mod Weave
+pub mod Own
+pub mod Driver
+pub mod Farm
 pub mod Example
 pub mod RemoteCourse
 pub mod Causes
 pub mod Plans
-pub mod Acts
-pub mod Machine
-pub mod Weave

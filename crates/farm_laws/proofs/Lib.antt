@@ -1,0 +1,5 @@
+pub mod SetAt
+pub mod Callers
+pub mod Unread
+pub mod Draws
+pub mod Worker

@@ -1,0 +1,6 @@
+//! The laws of the farm machine, of the weave, and of what workers' own calls say.
+#![tactic(auto)]
+
+mod laws;
+
+pub use laws::{callers_law, unread_law};
