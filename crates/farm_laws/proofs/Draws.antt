@@ -1,5 +1,5 @@
 -- What the replies of the slots say of the next job, and of the entries of a refused take.
-use Rattle.std.proofs.Common.{◌≡◌, ◌⊎◌, inl, inr, ℕ, zero, suc, ◌+◌, ◌<◌, ◌≤◌, Bool, true, false, ◌&&◌, ◌||◌, not, cond, List, [], ◌∷◌, Option, Some, None, nat_lt, length, refl, sym, ap, ◌∙◌, subst, arith}
+use Rattle.std.proofs.Common.{◌≡◌, ℕ, zero, suc, ◌+◌, ◌<◌, ◌≤◌, Bool, true, false, ◌&&◌, ◌||◌, not, cond, List, [], ◌∷◌, Option, Some, None, nat_lt, length, refl, sym, ap, ◌∙◌, subst, arith}
 use Rattle.std.specs.Prelude.{find}
 use Rattle.std.specs.List.{range_with_len, list_all}
 use Rattle.std.proofs.lemmas.Bool.{ltb-true}
@@ -14,7 +14,7 @@ use Rattle.slot_table.specs.declared.calls.SlotReply.{SlotReply}
 use Rattle.slot_table.specs.declared.calls.SlotReply.TheVariants.{Drawn, Local}
 use Rattle.slot_table.specs.Mask.{in_mask}
 use Rattle.slot_table.specs.Step.{opening, slot_step, search_order, is_free, is_ruled_out, is_left_alone, is_down, take_free, drawn}
-use Rattle.slot_table.specs.History.{Holding, outstanding_then, IsLegalFrom, IsLegal, state_from, state_after, jobs_drawn}
+use Rattle.slot_table.specs.History.{Holding, outstanding_then, IsLegalFrom, IsLegal, state_from, state_after}
 use Rattle.slot_table.proofs.Draws.{draws-in-order}
 use Rattle.farm_machine.specs.Machine.{HostSlot, LocalSlot, JobCall, Draws, Adds, Waits, Mismatched, job_call, job_call_of}
 use Rattle.farm_machine.specs.Weave.{AllDrawn}
