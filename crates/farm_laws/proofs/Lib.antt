@@ -3,3 +3,5 @@ pub mod Callers
 pub mod Unread
 pub mod Draws
 pub mod Worker
+pub mod Drivers
+pub mod Woven

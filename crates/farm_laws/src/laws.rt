@@ -1,4 +1,6 @@
 //! The laws, one function each.
+ghost use Rattle.farm_machine.specs.Driver.{DriverLaw};
+ghost use Rattle.farm_machine.specs.Own.{ServesMoreLaw, WorkerLaw};
 ghost use Rattle.farm_machine.specs.Weave.{CallersLaw, UnreadLaw};
 
 /// The law by callers: a legal list of calls in which every job was drawn agrees with reports exactly where
@@ -10,4 +12,17 @@ pub fn callers_law()
 /// Whether calls agree with reports is seen from the reports' workers and slot events alone.
 pub fn unread_law()
     ensures { UnreadLaw }
+{}
+
+/// One worker: where its calls are its jobs, one after another until a draw answers none, they agree with its
+/// reports. `more` lets a job's calls grow one slot event at a time, the refused takes before it included.
+pub fn worker_law()
+    ensures worker { WorkerLaw }
+    ensures more { ServesMoreLaw }
+{}
+
+/// All workers: where each did one job after another until a draw answered none, and no one else called, each
+/// job was done by a worker, and the calls agree with the reports of what the workers did.
+pub fn driver_law()
+    ensures { DriverLaw }
 {}
