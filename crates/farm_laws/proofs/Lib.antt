@@ -5,3 +5,6 @@ pub mod Draws
 pub mod Worker
 pub mod Drivers
 pub mod Woven
+pub mod Farms
+pub mod Grants
+pub mod Kept

@@ -1,7 +1,23 @@
 //! The laws, one function each.
 ghost use Rattle.farm_machine.specs.Driver.{DriverLaw};
+ghost use Rattle.farm_machine.specs.Farm.{KeptLaw, PrefixLaw, RunLaw, WeaveLaw};
 ghost use Rattle.farm_machine.specs.Own.{ServesMoreLaw, WorkerLaw};
 ghost use Rattle.farm_machine.specs.Weave.{CallersLaw, UnreadLaw};
+
+/// The farm machine: after every list of steps that it may make, and so at every front of one, the calls are
+/// a legal history, the jobs drawn are those begun or returned, a worker has at most one begun job, a begun
+/// job's acts are the front of a course, and what is outstanding is what begun jobs took and have not given.
+/// At the end of every run nothing is outstanding.
+pub fn machine_law()
+    ensures kept { KeptLaw }
+    ensures prefixes { PrefixLaw }
+    ensures run { RunLaw }
+{}
+
+/// The law of the weave: where calls agree with reports that are courses, what is woven of them is a run.
+pub fn weave_law()
+    ensures { WeaveLaw }
+{}
 
 /// The law by callers: a legal list of calls in which every job was drawn agrees with reports exactly where
 /// each worker's own calls do.
