@@ -8,3 +8,4 @@ pub mod Woven
 pub mod Farms
 pub mod Grants
 pub mod Kept
+pub mod Examples

@@ -1,8 +1,11 @@
 //! The laws, one function each.
+ghost use Rattle.std.specs.Prelude.{◌≡◌};
 ghost use Rattle.farm_machine.specs.Driver.{DriverLaw};
-ghost use Rattle.farm_machine.specs.Farm.{KeptLaw, PrefixLaw, RunLaw, WeaveLaw};
+ghost use Rattle.farm_machine.specs.Example.{calls, limits};
+ghost use Rattle.farm_machine.specs.ExampleRun.{reports, steps};
+ghost use Rattle.farm_machine.specs.Farm.{wanted, KeptLaw, PrefixLaw, RunLaw, WeaveLaw};
 ghost use Rattle.farm_machine.specs.Own.{ServesMoreLaw, WorkerLaw};
-ghost use Rattle.farm_machine.specs.Weave.{CallersLaw, UnreadLaw};
+ghost use Rattle.farm_machine.specs.Weave.{Agrees, CallersLaw, UnreadLaw, weave};
 
 /// The farm machine: after every list of steps that it may make, and so at every front of one, the calls are
 /// a legal history, the jobs drawn are those begun or returned, a worker has at most one begun job, a begun
@@ -41,4 +44,11 @@ pub fn worker_law()
 /// job was done by a worker, and the calls agree with the reports of what the workers did.
 pub fn driver_law()
     ensures { DriverLaw }
+{}
+
+/// An example that computes: two workers, one host with one slot, three jobs and one refused take. Its calls
+/// agree with its reports, and what is woven of them is the list that docs/farm.md shows.
+pub fn example()
+    ensures agrees { Agrees limits reports (wanted limits) calls }
+    ensures woven { weave calls reports ≡ steps }
 {}

@@ -3,4 +3,4 @@
 
 mod laws;
 
-pub use laws::{callers_law, driver_law, machine_law, unread_law, weave_law, worker_law};
+pub use laws::{callers_law, driver_law, example, machine_law, unread_law, weave_law, worker_law};

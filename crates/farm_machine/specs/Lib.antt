@@ -10,6 +10,7 @@ pub mod Own
 pub mod Driver
 pub mod Farm
 pub mod Example
+pub mod ExampleRun
 pub mod RemoteCourse
 pub mod Causes
 pub mod Plans

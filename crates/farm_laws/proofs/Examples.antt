@@ -1,0 +1,31 @@
+-- The example agrees.
+use Rattle.std.proofs.Common.{◌≡◌, ℕ, zero, suc, ◌<◌, Bool, true, false, ◌&&◌, nat_lt, [], Some, refl, ◌∙◌, inr, arith}
+use Rattle.slot_table.proofs.Masks.{mask-all}
+use Rattle.farm_machine.specs.Acts.{Takes}
+use Rattle.farm_machine.specs.Machine.{MaskIs}
+use Rattle.farm_machine.specs.Weave.{no_progress, last_progress, IsUsedUp, Agrees}
+use Rattle.farm_machine.specs.Farm.{wanted}
+use Rattle.farm_machine.specs.Example.{limits, all_hosts, calls}
+use Rattle.farm_machine.specs.ExampleRun.{reports}
+
+and-true : (b : Bool) → b ≡ (b && true)
+and-true true = refl
+and-true false = refl
+
+-- the mask has all entries, and no job took one before
+mask-is : MaskIs (Some all_hosts) (wanted limits [])
+mask-is i = mask-all 1 i (omega arith) ∙ and-true (nat_lt i 1)
+
+used : (j : ℕ) → j < 3 → IsUsedUp (last_progress (no_progress reports) calls) j
+used zero h = refl
+used (suc zero) h = refl
+used (suc (suc zero)) h = refl
+used (suc (suc (suc j))) h = absurd (omega arith)
+
+pub agrees : Agrees limits reports (wanted limits) calls
+agrees = record {
+  legal = (record { reply = refl; may = refl }, (record { reply = refl; may = refl }, (record { reply = refl; may = refl }, (record { reply = refl; may = refl }, (record { reply = refl; may = refl }, (record { reply = refl; may = refl }, (record { reply = refl; may = refl }, (record { reply = refl; may = refl }, (record { reply = refl; may = refl }, (record { reply = refl; may = refl }, tt))))))))));
+  follow = (refl, (refl, ((refl, mask-is, refl), ((refl, mask-is, (Takes 0, refl, inr (0, refl))), ((refl, tt, refl), ((refl, mask-is, refl), (refl, ((refl, tt, refl), (tt, (tt, tt))))))))));
+  drawn = refl;
+  used = used;
+}

@@ -1,0 +1,9 @@
+use Rattle.std.proofs.Common.{refl}
+use Rattle.farm_laws.proofs.Examples.{agrees}
+use Rattle.farm_laws.proofs.laws.example.Goals as goal
+
+pub returns-clause-agrees : goal.returns-clause-agrees
+returns-clause-agrees c = agrees
+
+pub returns-clause-woven : goal.returns-clause-woven
+returns-clause-woven c = refl
