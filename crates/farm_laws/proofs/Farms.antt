@@ -1,13 +1,17 @@
 -- The farm of jobs: what is woven is one of its runs.
-use Rattle.std.proofs.Common.{◌≡◌, ℕ, ◌<◌, true, not, [], ◌∷◌, nat_lt, arith}
+use Rattle.std.proofs.Common.{◌≡◌, ℕ, true, not, [], ◌∷◌, nat_lt, sym, ap, ◌∙◌, arith}
 use Rattle.std.proofs.lemmas.Bool.{and_parts, not-true}
 use Rattle.slot_table.specs.declared.limits.Limits.{Limits}
+use Rattle.slot_table.specs.History.{outstanding}
 use Rattle.farm_machine.specs.declared.reports.Why5.TheVariants.{Memory}
 use Rattle.farm_machine.specs.declared.reports.End.TheVariants.{Failed}
 use Rattle.farm_machine.specs.Acts.{Gives, Met, slots_of, took}
 use Rattle.farm_machine.specs.Jobs.{Job}
-use Rattle.farm_machine.specs.Farm.{farm_of, IsOf, wanted, WeaveLaw}
+use Rattle.farm_machine.specs.Weave.{no_progress, weave}
+use Rattle.farm_machine.specs.Farm.{farm_of, IsOf, WeaveLaw, AllBackLaw}
 use Rattle.course_laws.proofs.Courses.{take-where-down}
+use Rattle.farm_laws.proofs.NothingLost.{calls-from}
+use Rattle.farm_laws.proofs.Kept.{run-law}
 use Rattle.farm_laws.proofs.Woven.{TakesWhereDown, woven}
 
 takes-where-down : {h : ℕ} (l : Limits h) (jobs : ℕ → Job) → IsOf l jobs → TakesWhereDown l (farm_of l jobs)
@@ -17,3 +21,6 @@ takes-where-down l jobs of j acts host below is_wanted may =
 
 pub weave-law : WeaveLaw
 weave-law h l jobs r calls of courses agrees = woven (farm_of l jobs) l r calls (takes-where-down l jobs of) courses agrees
+
+pub all-back : AllBackLaw
+all-back h l jobs r calls of courses agrees = ap outstanding (sym (calls-from r calls (no_progress r))) ∙ run-law h l jobs (weave calls r) of (weave-law h l jobs r calls of courses agrees)

@@ -12,13 +12,12 @@ use Rattle.slot_table.specs.Limits.{is_local}
 use Rattle.slot_table.specs.Step.{slot_step}
 use Rattle.slot_table.specs.History.{Holding, holding, host_eq, without, has, Change, Keeps, Takes as Taking, Gives as Giving, change, changed, outstanding_then, outstanding_from, outstanding, state_from, may_call, IsLegalFrom}
 use Rattle.slot_table.proofs.Holdings.{host_eq-refl}
-use Rattle.edge_traits.specs.Deeds.{Deed}
 use Rattle.farm_machine.specs.declared.reports.End.{End}
 use Rattle.farm_machine.specs.Acts.{SlotEvent, Takes, Gives, GivesBad, FindsDown, TakesLocal, GivesLocal, Act, Did, Met, slots_of, Loan, loan_of, IsTurn}
 use Rattle.farm_machine.specs.Jobs.{Job, is_local_host}
 use Rattle.farm_machine.specs.Course.{Course}
-use Rattle.farm_machine.specs.Machine.{JobCall, Draws, Adds, Waits, Mismatched, job_call, job_call_of, set_at, JobState, NotBegun, Begun, Returned, FarmState, start, FarmStep, Calls, Does, Returns, with_act, jobs_after, after, after_steps, Farm, MayCall, IsAllowedFrom, AllReturned}
-use Rattle.farm_machine.specs.Farm.{farm_of, IsOf, calls_in, times, is_loan, lent, Kept, KeptLaw, PrefixLaw, RunLaw}
+use Rattle.farm_machine.specs.Machine.{JobCall, Draws, Adds, Waits, Mismatched, job_call, job_call_of, set_at, JobState, NotBegun, Begun, Returned, FarmState, start, FarmStep, Calls, Does, Returns, with_act, jobs_after, after, after_steps, calls_in, Farm, MayCall, IsAllowedFrom}
+use Rattle.farm_machine.specs.Farm.{farm_of, IsOf, times, is_loan, lent, Kept, KeptLaw, PrefixLaw, RunLaw}
 use Rattle.course_laws.proofs.Courses.{turn-at, nothing-out, loan-met, loan-did}
 use Rattle.farm_laws.proofs.SetAt.{set_at-elim, set_at-other}
 use Rattle.farm_laws.proofs.Draws.{NextIs, next_is}

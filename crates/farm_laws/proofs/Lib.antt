@@ -1,11 +1,12 @@
 pub mod SetAt
+pub mod Draws
 pub mod Callers
 pub mod Unread
-pub mod Draws
 pub mod Worker
 pub mod Drivers
 pub mod Woven
-pub mod Farms
+pub mod NothingLost
 pub mod Grants
 pub mod Kept
+pub mod Farms
 pub mod Examples

@@ -3,9 +3,10 @@ ghost use Rattle.std.specs.Prelude.{◌≡◌};
 ghost use Rattle.farm_machine.specs.Driver.{DriverLaw};
 ghost use Rattle.farm_machine.specs.Example.{calls, limits};
 ghost use Rattle.farm_machine.specs.ExampleRun.{reports, steps};
-ghost use Rattle.farm_machine.specs.Farm.{wanted, KeptLaw, PrefixLaw, RunLaw, WeaveLaw};
+ghost use Rattle.farm_machine.specs.Farm.{wanted, AllBackLaw, KeptLaw, PrefixLaw, RunLaw, WeaveLaw};
 ghost use Rattle.farm_machine.specs.Own.{ServesMoreLaw, WorkerLaw};
-ghost use Rattle.farm_machine.specs.Weave.{Agrees, CallersLaw, UnreadLaw, weave};
+ghost use Rattle.farm_machine.specs.Reading.{ReadingLaw};
+ghost use Rattle.farm_machine.specs.Weave.{Agrees, CallersLaw, NothingLostLaw, UnreadLaw, weave};
 
 /// The farm machine: after every list of steps that it may make, and so at every front of one, the calls are
 /// a legal history, the jobs drawn are those begun or returned, a worker has at most one begun job, a begun
@@ -17,9 +18,12 @@ pub fn machine_law()
     ensures run { RunLaw }
 {}
 
-/// The law of the weave: where calls agree with reports that are courses, what is woven of them is a run.
+/// The law of the weave: where calls agree with reports that are courses, what is woven of them is a run, and
+/// every grant was given back. The weave has all calls and all that each job does, and nothing else.
 pub fn weave_law()
-    ensures { WeaveLaw }
+    ensures run { WeaveLaw }
+    ensures back { AllBackLaw }
+    ensures whole { NothingLostLaw }
 {}
 
 /// The law by callers: a legal list of calls in which every job was drawn agrees with reports exactly where
@@ -28,9 +32,11 @@ pub fn callers_law()
     ensures { CallersLaw }
 {}
 
-/// Whether calls agree with reports is seen from the reports' workers and slot events alone.
+/// Whether calls agree with reports is seen from the reports' workers and slot events alone, which need no
+/// entries of devices to be read.
 pub fn unread_law()
-    ensures { UnreadLaw }
+    ensures alike { UnreadLaw }
+    ensures read { ReadingLaw }
 {}
 
 /// One worker: where its calls are its jobs, one after another until a draw answers none, they agree with its

@@ -8,7 +8,7 @@ use Rattle.farm_machine.specs.declared.reports.End.{End}
 use Rattle.farm_machine.specs.Acts.{SlotEvent, Act, slots_of, took, Loan, loan_of}
 use Rattle.farm_machine.specs.Jobs.{Job, host_count, is_local_host}
 use Rattle.farm_machine.specs.Course.{Course}
-use Rattle.farm_machine.specs.Machine.{JobState, NotBegun, Begun, Returned, FarmState, start, FarmStep, Calls, Does, Returns, after_steps, Farm, IsAllowed, FarmRun}
+use Rattle.farm_machine.specs.Machine.{JobState, NotBegun, Begun, Returned, FarmState, start, FarmStep, calls_in, after_steps, Farm, IsAllowed, FarmRun}
 use Rattle.farm_machine.specs.Weave.{Reports, Agrees, weave}
 
 -- A take asks for all entries but those that the job took before. With one try that is all of them.
@@ -30,12 +30,11 @@ WeaveLaw = (h : ℕ) (l : Limits h) (jobs : ℕ → Job) (r : Reports) (calls : 
     → IsOf l jobs → ((j : ℕ) → j < l.jobs → Course (jobs j) (r.acts j) (r.ends j))
     → Agrees l r (wanted l) calls → FarmRun (farm_of l jobs) l (weave calls r)
 
--- the calls among the steps
-abbrev pub calls_in : List FarmStep → List CallEntry
-calls_in [] = []
-calls_in (Calls e ∷ steps) = e ∷ calls_in steps
-calls_in (Does j d ∷ steps) = calls_in steps
-calls_in (Returns j end ∷ steps) = calls_in steps
+-- And then every grant was given back.
+abbrev pub AllBackLaw : Type 0
+AllBackLaw = (h : ℕ) (l : Limits h) (jobs : ℕ → Job) (r : Reports) (calls : List CallEntry)
+    → IsOf l jobs → ((j : ℕ) → j < l.jobs → Course (jobs j) (r.acts j) (r.ends j))
+    → Agrees l r (wanted l) calls → outstanding calls ≡ []
 
 -- how often a grant is in the list
 abbrev pub times : Holding → List Holding → ℕ

@@ -6,6 +6,7 @@ pub mod Numbered
 pub mod Honest
 pub mod Machine
 pub mod Weave
+pub mod Reading
 pub mod Own
 pub mod Driver
 pub mod Farm

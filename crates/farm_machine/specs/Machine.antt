@@ -72,6 +72,25 @@ pub data FarmStep : Type 0 where
   Does : ℕ → Deed → FarmStep
   Returns : ℕ → End → FarmStep
 
+-- the calls among the steps
+abbrev pub calls_in : List FarmStep → List CallEntry
+calls_in [] = []
+calls_in (Calls e ∷ steps) = e ∷ calls_in steps
+calls_in (Does j d ∷ steps) = calls_in steps
+calls_in (Returns j end ∷ steps) = calls_in steps
+
+-- the slot event that a call is, where it is one of this job
+abbrev pub met_by : ℕ → JobCall → List Act
+met_by j (Adds i mask x) = cond (nat_eq i j) (Met x ∷ []) []
+met_by j other = []
+
+-- what this job does in the steps, in order
+abbrev pub acts_in : ℕ → List FarmStep → List Act
+acts_in j [] = []
+acts_in j (Calls e ∷ steps) = met_by j (job_call_of e) ++ acts_in j steps
+acts_in j (Does i d ∷ steps) = cond (nat_eq i j) (Did d ∷ []) [] ++ acts_in j steps
+acts_in j (Returns i end ∷ steps) = acts_in j steps
+
 -- a begun job has one act more
 abbrev pub with_act : JobState → Act → JobState
 with_act NotBegun act = NotBegun

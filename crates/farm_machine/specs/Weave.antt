@@ -6,7 +6,7 @@ use Rattle.slot_table.specs.declared.calls.CallEntry.{CallEntry}
 use Rattle.slot_table.specs.History.{IsLegal, calls_by, jobs_drawn}
 use Rattle.farm_machine.specs.declared.reports.End.{End}
 use Rattle.farm_machine.specs.Acts.{SlotEvent, Takes, FindsDown, TakesLocal, Act, Did, Met, slots_of, next_met, after_met}
-use Rattle.farm_machine.specs.Machine.{SlotKind, HostSlot, LocalSlot, JobCall, Draws, Adds, Waits, Mismatched, job_call_of, MaskIs, set_at, FarmStep, Calls, Does, Returns}
+use Rattle.farm_machine.specs.Machine.{SlotKind, HostSlot, LocalSlot, JobCall, Draws, Adds, Waits, Mismatched, job_call_of, MaskIs, set_at, FarmStep, Calls, Does, Returns, calls_in, acts_in}
 
 -- the reports of all jobs, as they are read: of each job its worker, its acts and its end
 pub record Reports : Type 0 where
@@ -91,7 +91,8 @@ CallersLaw = (h : ℕ) (l : Limits h) (r : Reports) (wants : Wants) (calls : Lis
 -- Whether calls agree is seen from workers and slot events alone, so it can be tested before the reports' places are read.
 abbrev pub UnreadLaw : Type 0
 UnreadLaw = (h : ℕ) (l : Limits h) (r s : Reports) (wants : Wants) (calls : List CallEntry)
-    → ((j : ℕ) → r.worker j ≡ s.worker j) → ((j : ℕ) → slots_of (r.acts j) ≡ slots_of (s.acts j)) → Agrees l r wants calls → Agrees l s wants calls
+    → ((j : ℕ) → j < l.jobs → r.worker j ≡ s.worker j) → ((j : ℕ) → j < l.jobs → slots_of (r.acts j) ≡ slots_of (s.acts j))
+    → Agrees l r wants calls → Agrees l s wants calls
 
 -- the deeds before the next slot event, and the return where there is none
 abbrev pub steps_until_met : ℕ → End → List Act → List FarmStep
@@ -114,3 +115,11 @@ weave_from r p (e ∷ es) = Calls e ∷ (steps_behind r (next_progress p e) (job
 -- the calls in their order, and behind each what its job does until its next slot event
 abbrev pub weave : List CallEntry → Reports → List FarmStep
 weave calls r = weave_from r (no_progress r) calls
+
+-- The weave leaves out nothing and adds nothing: its calls are the calls, and in it each job does exactly its report's acts, in order.
+pub record HasAll {h : ℕ} (l : Limits h) (r : Reports) (es : List CallEntry) (steps : List FarmStep) : Type 0 where
+  pub calls : calls_in steps ≡ es
+  pub acts : (j : ℕ) → j < l.jobs → acts_in j steps ≡ r.acts j
+
+abbrev pub NothingLostLaw : Type 0
+NothingLostLaw = (h : ℕ) (l : Limits h) (r : Reports) (wants : Wants) (calls : List CallEntry) → Agrees l r wants calls → HasAll l r calls (weave calls r)
