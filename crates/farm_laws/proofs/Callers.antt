@@ -4,8 +4,8 @@ use Rattle.std.proofs.lemmas.Bool.{eqb-true, eqb-false}
 use Rattle.slot_table.specs.declared.calls.CallEntry.{CallEntry}
 use Rattle.slot_table.specs.History.{calls_by}
 use Rattle.farm_machine.specs.Acts.{SlotEvent, next_met, after_met}
-use Rattle.farm_machine.specs.Machine.{JobCall, Draws, Adds, Waits, Mismatched, job_call_of, MaskIs, set_at}
-use Rattle.farm_machine.specs.Weave.{Wants, Reports, Progress, no_progress, progress_after, next_progress, last_progress, Follows, AllFollow, CallersLaw}
+use Rattle.farm_machine.specs.Machine.{Wants, JobCall, Draws, Adds, Waits, Mismatched, job_call_of, MaskIs, set_at}
+use Rattle.farm_machine.specs.Weave.{Reports, Progress, no_progress, progress_after, next_progress, last_progress, Follows, AllFollow, CallersLaw}
 use Rattle.farm_laws.proofs.SetAt.{set_at-elim, set_at-other}
 
 -- a worker's job is reported by it

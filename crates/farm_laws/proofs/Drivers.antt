@@ -12,13 +12,13 @@ use Rattle.slot_table.specs.declared.calls.SlotReply.TheVariants.{Drawn, Local}
 use Rattle.slot_table.specs.Step.{opening, slot_step, search_order, is_free, is_down, take_free, drawn}
 use Rattle.slot_table.specs.History.{entry, Holding, outstanding_then, IsLegalFrom, state_from, state_after, calls_by}
 use Rattle.farm_machine.specs.Acts.{SlotEvent, slots_of}
-use Rattle.farm_machine.specs.Machine.{JobCall, Draws, Adds, Waits, Mismatched, job_call, job_call_of}
-use Rattle.farm_machine.specs.Weave.{Wants, Reports, OwnAgrees}
+use Rattle.farm_machine.specs.Machine.{Wants, JobCall, Draws, Adds, Waits, Mismatched, job_call, job_call_of}
+use Rattle.farm_machine.specs.Weave.{Reports, OwnAgrees}
 use Rattle.farm_machine.specs.Own.{ServedBy, Serves, DoneJob, Each, DoesJobs, AreApart, IsReported, HasNumber}
 use Rattle.farm_machine.specs.Driver.{DriverLaw}
 use Rattle.farm_laws.proofs.Draws.{NextIs, next_is, grows-from, all-next}
 use Rattle.farm_laws.proofs.Callers.{callers}
-use Rattle.farm_laws.proofs.Worker.{worker}
+use Rattle.farm_laws.proofs.Worker.{each-map, worker}
 
 -- the call drew this job
 abbrev pub DrawsIt : ℕ → JobCall → Type 0
@@ -122,29 +122,29 @@ serves-draws wants w i j (e ∷ es) more past (x ∷ xs) h d = go (job_call_of e
     go (Draws o) h d now later = absurd h
     go Mismatched h d now later = absurd h
 
-seg-has : (wants : Wants) (w j : ℕ) (ss : List DoneJob) (es : List CallEntry) → DoesJobs wants w ss es → IsDrawnIn j (es ++ entry w Draw (Drawn None) ∷ []) → HasNumber j ss
-seg-has wants w j [] es h d = go (subst (λ (xs : List CallEntry). IsDrawnIn j (xs ++ entry w Draw (Drawn None) ∷ [])) h d)
+jobs-have : (wants : Wants) (w j : ℕ) (ss : List DoneJob) (es : List CallEntry) → DoesJobs wants w ss es → IsDrawnIn j (es ++ entry w Draw (Drawn None) ∷ []) → HasNumber j ss
+jobs-have wants w j [] es h d = go (subst (λ (xs : List CallEntry). IsDrawnIn j (xs ++ entry w Draw (Drawn None) ∷ [])) h d)
   where
     go : (None ≡ Some j) ⊎ ⊥ → ⊥
     go (inl e) = cc
     go (inr e) = e
-seg-has wants w j (s ∷ ss) es (calls, more, is, serves, segments) d =
+jobs-have wants w j (s ∷ ss) es (calls, more, is, serves, segments) d =
     let tail = entry w Draw (Drawn None) ∷ [] in
     let d' : (Some s.number ≡ Some j) ⊎ IsDrawnIn j ((calls ++ more) ++ tail) = subst (λ (xs : List CallEntry). IsDrawnIn j (xs ++ tail)) is d in
     elim d' [
       | inl here ↦ inl (let e : s.number ≡ j = cc in e)
-      | inr there ↦ inr (seg-has wants w j ss more segments (serves-draws wants w s.number j calls (more ++ tail) [] (slots_of s.acts) serves (subst (λ (xs : List CallEntry). IsDrawnIn j xs) (append_assoc calls more tail) there)))
+      | inr there ↦ inr (jobs-have wants w j ss more segments (serves-draws wants w s.number j calls (more ++ tail) [] (slots_of s.acts) serves (subst (λ (xs : List CallEntry). IsDrawnIn j xs) (append_assoc calls more tail) there)))
     ]
 
 -- numbers are drawn in order
-abbrev AscBy : JobCall → ℕ → (ℕ → Type 0) → Type 0
+abbrev pub AscBy : JobCall → ℕ → (ℕ → Type 0) → Type 0
 AscBy (Draws (Some j)) k R = (k ≤ j) × R (j + 1)
 AscBy (Draws None) k R = R k
 AscBy (Adds j mask x) k R = R k
 AscBy (Waits j mask kind) k R = R k
 AscBy Mismatched k R = R k
 
-abbrev Ascend : List CallEntry → ℕ → Type 0
+abbrev pub Ascend : List CallEntry → ℕ → Type 0
 Ascend [] k = Unit {0}
 Ascend (e ∷ es) k = AscBy (job_call_of e) k (Ascend es)
 
@@ -155,11 +155,11 @@ asc-step l (Adds j mask x) n m R next r = subst R next r
 asc-step l (Waits j mask kind) n m R next r = subst R next r
 asc-step l Mismatched n m R next r = subst R next r
 
-asc-legal : {h : ℕ} (l : Limits h) (s : SlotState h) (o : List Holding) (es : List CallEntry) → IsLegalFrom l s o es → Ascend es s.next
+pub asc-legal : {h : ℕ} (l : Limits h) (s : SlotState h) (o : List Holding) (es : List CallEntry) → IsLegalFrom l s o es → Ascend es s.next
 asc-legal l s o [] legal = tt
 asc-legal l s o (e ∷ es) legal = asc-step l (job_call_of e) s.next (slot_step l s e.call).0.next (Ascend es) (next_is l s e.call e.reply legal.0.reply) (asc-legal l (slot_step l s e.call).0 (outstanding_then o e) es legal.1)
 
-asc-less : (es : List CallEntry) (k m : ℕ) → m ≤ k → Ascend es k → Ascend es m
+pub asc-less : (es : List CallEntry) (k m : ℕ) → m ≤ k → Ascend es k → Ascend es m
 asc-less [] k m le h = tt
 asc-less (e ∷ es) k m le h = go (job_call_of e) h (asc-less es k m le)
   where
@@ -170,7 +170,7 @@ asc-less (e ∷ es) k m le h = go (job_call_of e) h (asc-less es k m le)
     go (Waits j mask kind) h ih = ih h
     go Mismatched h ih = ih h
 
-asc-by : (w : ℕ) (es : List CallEntry) (k : ℕ) → Ascend es k → Ascend (calls_by w es) k
+pub asc-by : (w : ℕ) (es : List CallEntry) (k : ℕ) → Ascend es k → Ascend (calls_by w es) k
 asc-by w [] k h = tt
 asc-by w (e ∷ es) k h = go (nat_eq e.caller w) h (λ i r. asc-by w es i r)
   where
@@ -204,20 +204,16 @@ serves-asc wants w i (e ∷ es) more k past (x ∷ xs) h a = go (job_call_of e) 
     go (Draws o) h a now later = absurd h
     go Mismatched h a now later = absurd h
 
-each-from : (P Q : DoneJob → Type 0) (ss : List DoneJob) → ((s : DoneJob) → P s → Q s) → Each P ss → Each Q ss
-each-from P Q [] f h = tt
-each-from P Q (s ∷ ss) f h = (f s h.0, each-from P Q ss f h.1)
-
 -- so no worker reports a job twice
-seg-apart : (wants : Wants) (w : ℕ) (ss : List DoneJob) (es tail : List CallEntry) (k : ℕ) → DoesJobs wants w ss es → Ascend (es ++ tail) k → AreApart ss × Each (λ s. k ≤ s.number) ss
-seg-apart wants w [] es tail k h a = (tt, tt)
-seg-apart wants w (s ∷ ss) es tail k (calls, more, is, serves, segments) a =
+pub jobs-apart : (wants : Wants) (w : ℕ) (ss : List DoneJob) (es tail : List CallEntry) (k : ℕ) → DoesJobs wants w ss es → Ascend (es ++ tail) k → AreApart ss × Each (λ s. k ≤ s.number) ss
+jobs-apart wants w [] es tail k h a = (tt, tt)
+jobs-apart wants w (s ∷ ss) es tail k (calls, more, is, serves, segments) a =
     let j = s.number in
     let a' : (k ≤ j) × Ascend ((calls ++ more) ++ tail) (j + 1) = subst (λ (xs : List CallEntry). Ascend (xs ++ tail) k) is a in
     let below : k ≤ j = a'.0 in
-    let ih : AreApart ss × Each (λ t. j + 1 ≤ t.number) ss = seg-apart wants w ss more tail (j + 1) segments (serves-asc wants w j calls (more ++ tail) (j + 1) [] (slots_of s.acts) serves (subst (λ (xs : List CallEntry). Ascend xs (j + 1)) (append_assoc calls more tail) a'.1)) in (
-      (each-from (λ t. j + 1 ≤ t.number) (λ t. t.number ≢ j) ss (λ t above e. let u : j + 1 ≤ t.number = above in omega arith) ih.1, ih.0),
-      (below, each-from (λ t. j + 1 ≤ t.number) (λ t. k ≤ t.number) ss (λ t above. let u : j + 1 ≤ t.number = above in omega arith) ih.1),
+    let ih : AreApart ss × Each (λ t. j + 1 ≤ t.number) ss = jobs-apart wants w ss more tail (j + 1) segments (serves-asc wants w j calls (more ++ tail) (j + 1) [] (slots_of s.acts) serves (subst (λ (xs : List CallEntry). Ascend xs (j + 1)) (append_assoc calls more tail) a'.1)) in (
+      (each-map (λ t. j + 1 ≤ t.number) (λ t. t.number ≢ j) ss (λ t above e. let u : j + 1 ≤ t.number = above in omega arith) ih.1, ih.0),
+      (below, each-map (λ t. j + 1 ≤ t.number) (λ t. k ≤ t.number) ss (λ t above. let u : j + 1 ≤ t.number = above in omega arith) ih.1),
     )
 
 by-number : (r : Reports) (w j : ℕ) (ss : List DoneJob) → Each (IsReported r w) ss → HasNumber j ss → r.worker j ≡ w
@@ -240,7 +236,7 @@ driver h l wants n done log legal worked = record { found = found; agrees = λ r
         let d = drawn-by j log (drawn-all j below) in
         let w = d.0 in
         elim (cases_lt w n) [
-          | inl inside ↦ let e = worked.each w inside in (w, inside, seg-has wants w j (done w) e.0 e.1 (subst (λ (es : List CallEntry). IsDrawnIn j es) e.2 d.1))
+          | inl inside ↦ let e = worked.each w inside in (w, inside, jobs-have wants w j (done w) e.0 e.1 (subst (λ (es : List CallEntry). IsDrawnIn j es) e.2 d.1))
           | inr outside ↦ absurd (subst (λ (es : List CallEntry). IsDrawnIn j es) (worked.others w outside) d.1)
         ]
 
@@ -249,7 +245,7 @@ driver h l wants n done log legal worked = record { found = found; agrees = λ r
       | inl inside ↦
           let e = worked.each w inside in
           let asc : Ascend (e.0 ++ entry w Draw (Drawn None) ∷ []) 0 = subst (λ (es : List CallEntry). Ascend es 0) e.2 (asc-by w log 0 (asc-legal l (opening h) [] log legal)) in
-          subst (λ (es : List CallEntry). OwnAgrees l r wants w es) (sym e.2) (worker h l r wants w (done w) e.0 e.1 (seg-apart wants w (done w) e.0 (entry w Draw (Drawn None) ∷ []) 0 e.1 asc).0 (is_in w inside)
+          subst (λ (es : List CallEntry). OwnAgrees l r wants w es) (sym e.2) (worker h l r wants w (done w) e.0 e.1 (jobs-apart wants w (done w) e.0 (entry w Draw (Drawn None) ∷ []) 0 e.1 asc).0 (is_in w inside)
           (λ j below by. let f = found j below in let same : f.0 ≡ w = sym (by-number r f.0 j (done f.0) (is_in f.0 f.1) f.2) ∙ by in subst (λ (u : ℕ). HasNumber j (done u)) same f.2))
       | inr outside ↦ subst (λ (es : List CallEntry). OwnAgrees l r wants w es) (sym (worked.others w outside)) record {
         follow = tt;

@@ -1,5 +1,6 @@
 -- What each step of the machine keeps.
 use Rattle.std.proofs.Common.{◌≡◌, ◌≢◌, inl, inr, ℕ, ◌+◌, ◌<◌, ◌≤◌, Bool, true, false, ◌&&◌, not, cond, List, [], ◌∷◌, ◌++◌, Option, Some, None, nat_eq, refl, sym, ap, ◌∙◌, subst, arith, append_assoc, eq-eqb}
+use Rattle.std.specs.List.{range_with_len}
 use Rattle.std.proofs.lemmas.Bool.{cases_lt}
 use Rattle.slot_table.specs.declared.limits.Limits.{Limits}
 use Rattle.slot_table.specs.declared.state.SlotState.{SlotState}
@@ -11,6 +12,9 @@ use Rattle.slot_table.specs.declared.calls.SlotReply.TheVariants.{Drawn, Got, Fu
 use Rattle.slot_table.specs.Limits.{is_local}
 use Rattle.slot_table.specs.Step.{slot_step}
 use Rattle.slot_table.specs.History.{Holding, holding, host_eq, without, has, Change, Keeps, Takes as Taking, Gives as Giving, change, changed, outstanding_then, outstanding_from, outstanding, state_from, may_call, IsLegalFrom}
+use Rattle.slot_table.specs.Laws.{Agrees as SlotsAgree}
+use Rattle.slot_table.proofs.Keeps.{state-agrees}
+use Rattle.slot_table.proofs.Draws.{draws-in-order}
 use Rattle.slot_table.proofs.Holdings.{host_eq-refl}
 use Rattle.farm_machine.specs.declared.reports.End.{End}
 use Rattle.farm_machine.specs.Acts.{SlotEvent, Takes, Gives, GivesBad, FindsDown, TakesLocal, GivesLocal, Act, Did, Met, slots_of, Loan, loan_of, IsTurn}
@@ -313,7 +317,15 @@ kept-start l jobs = record {
 }
 
 pub kept-law : KeptLaw
-kept-law h l jobs ss of allowed = let all : AllKept l jobs [] (start h) ss = steps l jobs of ss [] (start h) (kept-start l jobs) allowed in record { legal = all.legal; slots = all.slots; kept = all.kept }
+kept-law h l jobs ss of allowed =
+    let all : AllKept l jobs [] (start h) ss = steps l jobs of ss [] (start h) (kept-start l jobs) allowed in
+    let calls = calls_in ss in record {
+      legal = all.legal;
+      slots = all.slots;
+      order = draws-in-order h l calls all.legal ∙ ap (λ (s : SlotState h). range_with_len 0 s.next) (sym all.slots);
+      agree = λ fit. subst (λ (s : SlotState h). SlotsAgree l s (outstanding calls)) (sym all.slots) (state-agrees h l calls fit all.legal);
+      kept = all.kept;
+    }
 
 front-allowed : {h : ℕ} (f : Farm) (l : Limits h) (s : FarmState h) (front rest : List FarmStep) → IsAllowedFrom f l s (front ++ rest) → IsAllowedFrom f l s front
 front-allowed f l s [] rest allowed = tt

@@ -9,4 +9,5 @@ pub mod NothingLost
 pub mod Grants
 pub mod Kept
 pub mod Farms
+pub mod Reported
 pub mod Examples

@@ -9,8 +9,8 @@ use Rattle.slot_table.specs.Step.{opening, slot_step}
 use Rattle.slot_table.specs.History.{Holding, outstanding_then, IsLegalFrom, state_from, state_after}
 use Rattle.farm_machine.specs.declared.reports.End.{End}
 use Rattle.farm_machine.specs.Acts.{SlotEvent, Act, Did, Met, next_met, after_met}
-use Rattle.farm_machine.specs.Machine.{JobCall, Draws, Adds, Waits, Mismatched, job_call_of, set_at, FarmStep, calls_in, acts_in, met_by}
-use Rattle.farm_machine.specs.Weave.{Wants, Reports, Progress, no_progress, progress_after, next_progress, last_progress, Follows, AllFollow, IsUsedUp, steps_until_met, steps_behind, weave_from, NothingLostLaw}
+use Rattle.farm_machine.specs.Machine.{Wants, JobCall, Draws, Adds, Waits, Mismatched, job_call_of, set_at, FarmStep, calls_in, acts_in, met_by}
+use Rattle.farm_machine.specs.Weave.{Reports, Progress, no_progress, progress_after, next_progress, last_progress, Follows, AllFollow, IsUsedUp, steps_until_met, steps_behind, weave_from, NothingLostLaw}
 use Rattle.farm_laws.proofs.SetAt.{set_at-elim, set_at-same, set_at-other}
 use Rattle.farm_laws.proofs.Draws.{NextIs, next_is, next-all}
 

@@ -11,8 +11,8 @@ use Rattle.farm_machine.specs.declared.reports.Event.{Event}
 use Rattle.farm_machine.specs.declared.reports.Event.TheVariants.{Ran, Fetched, Exchanged, Put as PutAt, Took, Gave, GaveBad, Down, TookLocal, GaveLocal}
 use Rattle.farm_machine.specs.declared.reports.Report.{Report}
 use Rattle.farm_machine.specs.Acts.{SlotEvent, Takes, Gives, GivesBad, FindsDown, TakesLocal, GivesLocal, Act, Did, Met, Entries, Reads, ReadsAll, slots_of, next_met, after_met}
-use Rattle.farm_machine.specs.Machine.{JobCall, Draws, Adds, Waits, Mismatched, job_call_of, MaskIs}
-use Rattle.farm_machine.specs.Weave.{Wants, Reports, Progress, no_progress, progress_after, next_progress, last_progress, Follows, AllFollow, UnreadLaw}
+use Rattle.farm_machine.specs.Machine.{Wants, JobCall, Draws, Adds, Waits, Mismatched, job_call_of, MaskIs}
+use Rattle.farm_machine.specs.Weave.{Reports, Progress, no_progress, progress_after, next_progress, last_progress, Follows, AllFollow, UnreadLaw}
 use Rattle.farm_machine.specs.Reading.{slots_in, AreRead, worker_at, slots_at, unread, ReadingLaw}
 use Rattle.farm_laws.proofs.SetAt.{set_at-elim}
 use Rattle.farm_laws.proofs.Draws.{NextIs, next_is}

@@ -6,8 +6,8 @@ use Rattle.slot_table.specs.declared.calls.SlotCall.TheVariants.{Draw}
 use Rattle.slot_table.specs.declared.calls.SlotReply.TheVariants.{Drawn}
 use Rattle.slot_table.specs.History.{entry}
 use Rattle.farm_machine.specs.Acts.{SlotEvent, Act, Did, Met, slots_of, next_met, after_met}
-use Rattle.farm_machine.specs.Machine.{JobCall, Draws, Adds, Waits, Mismatched, job_call_of, MaskIs, set_at}
-use Rattle.farm_machine.specs.Weave.{Wants, Reports, Progress, no_progress, progress_after, next_progress, last_progress, Follows, AllFollow}
+use Rattle.farm_machine.specs.Machine.{Wants, JobCall, Draws, Adds, Waits, Mismatched, job_call_of, MaskIs, set_at}
+use Rattle.farm_machine.specs.Weave.{Reports, Progress, no_progress, progress_after, next_progress, last_progress, Follows, AllFollow}
 use Rattle.farm_machine.specs.Own.{ServedBy, Serves, AreRefused, DoneJob, Each, DoesJobs, AreApart, IsReported, HasNumber, WorkerLaw, ServesMoreLaw}
 use Rattle.farm_laws.proofs.SetAt.{set_at-same, set_at-other}
 
@@ -123,11 +123,11 @@ record Went (r : Reports) (wants : Wants) (ss : List DoneJob) (b : Progress) (es
   used : Each (λ s. next_met ((last_progress b es).rest s.number) ≡ None) ss
   rest : (k : ℕ) → Each (λ s. s.number ≢ k) ss → (last_progress b es).rest k ≡ b.rest k
 
-each-map : (P Q : DoneJob → Type 0) (ss : List DoneJob) → ((s : DoneJob) → P s → Q s) → Each P ss → Each Q ss
+pub each-map : (P Q : DoneJob → Type 0) (ss : List DoneJob) → ((s : DoneJob) → P s → Q s) → Each P ss → Each Q ss
 each-map P Q [] f h = tt
 each-map P Q (s ∷ ss) f h = (f s h.0, each-map P Q ss f h.1)
 
-each-both : (P Q R : DoneJob → Type 0) (ss : List DoneJob) → ((s : DoneJob) → P s → Q s → R s) → Each P ss → Each Q ss → Each R ss
+pub each-both : (P Q R : DoneJob → Type 0) (ss : List DoneJob) → ((s : DoneJob) → P s → Q s → R s) → Each P ss → Each Q ss → Each R ss
 each-both P Q R [] f h k = tt
 each-both P Q R (s ∷ ss) f h k = (f s h.0 k.0, each-both P Q R ss f h.1 k.1)
 

@@ -10,8 +10,8 @@ use Rattle.slot_table.specs.Step.{slot_step}
 use Rattle.slot_table.specs.History.{Holding, outstanding_then, IsLegalFrom, state_from, state_after}
 use Rattle.edge_traits.specs.Deeds.{Deed}
 use Rattle.farm_machine.specs.Acts.{SlotEvent, Takes, FindsDown, Act, Did, Met, slots_of, next_met, after_met}
-use Rattle.farm_machine.specs.Machine.{SlotKind, HostSlot, LocalSlot, JobCall, Draws, Adds, Waits, Mismatched, job_call_of, MaskIs, set_at, JobState, NotBegun, Begun, Returned, FarmState, start, FarmStep, Does, Returns, with_act, jobs_after, after, Farm, MayBeNext, MayWait, MayCall, MayStep, after_steps, IsAllowedFrom, AllReturned, FarmRun}
-use Rattle.farm_machine.specs.Weave.{Wants, Reports, Progress, no_progress, progress_after, next_progress, last_progress, IsWaitedFor, Follows, AllFollow, IsUsedUp, steps_until_met, steps_behind, weave_from, Agrees, weave}
+use Rattle.farm_machine.specs.Machine.{Wants, SlotKind, HostSlot, LocalSlot, JobCall, Draws, Adds, Waits, Mismatched, job_call_of, MaskIs, set_at, JobState, NotBegun, Begun, Returned, FarmState, start, FarmStep, Does, Returns, with_act, jobs_after, after, Farm, MayBeNext, MayWait, MayCall, MayStep, after_steps, IsAllowedFrom, AllReturned, FarmRun}
+use Rattle.farm_machine.specs.Weave.{Reports, Progress, no_progress, progress_after, next_progress, last_progress, IsWaitedFor, Follows, AllFollow, IsUsedUp, steps_until_met, steps_behind, weave_from, Agrees, weave}
 use Rattle.farm_laws.proofs.SetAt.{set_at-elim, set_at-same, set_at-other}
 use Rattle.farm_laws.proofs.Callers.{Own, own-no_progress, own-move}
 use Rattle.farm_laws.proofs.Draws.{NextIs, HasRoom, next_is, has_room, next_grows, next-all}

@@ -1,6 +1,6 @@
 //! The laws, one function each.
 ghost use Rattle.std.specs.Prelude.{◌≡◌};
-ghost use Rattle.farm_machine.specs.Driver.{DriverLaw};
+ghost use Rattle.farm_machine.specs.Driver.{DriverLaw, WorkersRunLaw};
 ghost use Rattle.farm_machine.specs.Example.{calls, limits};
 ghost use Rattle.farm_machine.specs.ExampleRun.{reports, steps};
 ghost use Rattle.farm_machine.specs.Farm.{wanted, AllBackLaw, KeptLaw, PrefixLaw, RunLaw, WeaveLaw};
@@ -47,9 +47,11 @@ pub fn worker_law()
 {}
 
 /// All workers: where each did one job after another until a draw answered none, and no one else called, each
-/// job was done by a worker, and the calls agree with the reports of what the workers did.
+/// job was done by a worker, and the calls agree with the reports of what the workers did. Where what they did
+/// were courses, there are such reports, one for each job, and what is woven of them and the calls is a run.
 pub fn driver_law()
-    ensures { DriverLaw }
+    ensures agree { DriverLaw }
+    ensures run { WorkersRunLaw }
 {}
 
 /// An example that computes: two workers, one host with one slot, three jobs and one refused take. Its calls

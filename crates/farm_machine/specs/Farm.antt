@@ -1,9 +1,11 @@
 -- The farm of some jobs, and what its machine keeps.
 use Rattle.std.specs.Prelude.{◌≡◌, ◌≢◌, ◌↔◌, ℕ, ◌+◌, ◌<◌, ◌≤◌, Bool, false, ◌&&◌, not, cond, List, [], ◌∷◌, ◌++◌, Option, Some, None, nat_eq, nat_lt}
+use Rattle.std.specs.List.{range_with_len}
 use Rattle.slot_table.specs.declared.limits.Limits.{Limits}
 use Rattle.slot_table.specs.declared.calls.CallEntry.{CallEntry}
 use Rattle.slot_table.specs.Limits.{is_local}
-use Rattle.slot_table.specs.History.{Holding, holding_eq, host_eq, IsLegal, state_after, outstanding}
+use Rattle.slot_table.specs.History.{Holding, holding_eq, host_eq, IsLegal, state_after, outstanding, jobs_drawn}
+use Rattle.slot_table.specs.Laws.{Agrees as SlotsAgree}
 use Rattle.farm_machine.specs.declared.reports.End.{End}
 use Rattle.farm_machine.specs.Acts.{SlotEvent, Act, slots_of, took, Loan, loan_of}
 use Rattle.farm_machine.specs.Jobs.{Job, host_count, is_local_host}
@@ -63,10 +65,13 @@ pub record Kept {h : ℕ} (f : Farm) (l : Limits h) (out : List Holding) (s : Fa
   pub course : (j worker : ℕ) (acts : List Act) → s.jobs j ≡ Begun worker acts → (rest : List Act) × (end : End) × f.Course j (acts ++ rest) end
   pub lent : (x : Holding) → times x out ≡ lent (s.jobs x.job) x
 
--- what holds after steps that the machine may make: their calls are a legal history, which leaves the state of the slots, and the rest is kept
+-- What holds after steps that the machine may make: their calls are a legal history, which leaves the state of the slots, so that the laws
+-- of legal histories hold; and what each step keeps.
 pub record StepsKeep {h : ℕ} (f : Farm) (l : Limits h) (steps : List FarmStep) : Type 0 where
   pub legal : IsLegal l (calls_in steps)
   pub slots : (after_steps l (start h) steps).slots ≡ state_after l (calls_in steps)
+  pub order : jobs_drawn (calls_in steps) ≡ range_with_len 0 (after_steps l (start h) steps).slots.next
+  pub agree : l.count ≤ h → SlotsAgree l (after_steps l (start h) steps).slots (outstanding (calls_in steps))
   pub kept : Kept f l (outstanding (calls_in steps)) (after_steps l (start h) steps)
 
 -- the law of the machine: for every list of steps that it may make from the start

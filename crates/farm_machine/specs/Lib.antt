@@ -8,8 +8,8 @@ pub mod Machine
 pub mod Weave
 pub mod Reading
 pub mod Own
-pub mod Driver
 pub mod Farm
+pub mod Driver
 pub mod Example
 pub mod ExampleRun
 pub mod RemoteCourse

@@ -42,6 +42,10 @@ job_call call reply = Mismatched
 abbrev pub job_call_of : CallEntry → JobCall
 job_call_of e = job_call e.call e.reply
 
+-- which entries a take asks for, after these slot events of its job
+abbrev pub Wants : Type 0
+Wants = List SlotEvent → ℕ → Bool
+
 -- a mask, where there is one, has exactly the entries that pass the test
 abbrev pub MaskIs : Option Mask → (ℕ → Bool) → Type 0
 MaskIs None wanted = Unit {0}
@@ -111,10 +115,10 @@ after l s (Calls e) = record { slots = (slot_step l s.slots e.call).0; jobs = jo
 after l s (Does j d) = record { slots = s.slots; jobs = set_at s.jobs j (with_act (s.jobs j) (Did d)) }
 after l s (Returns j end) = record { slots = s.slots; jobs = set_at s.jobs j (Returned end) }
 
--- What a farm works by: the courses of each job, and which entries a job's take asks for after these slot events of it.
+-- what a farm works by: the courses of each job, and which entries a take asks for
 pub record Farm : Type 1 where
   pub Course : ℕ → List Act → End → Type 0
-  pub wants : List SlotEvent → ℕ → Bool
+  pub wants : Wants
 
 -- an act may come next in some course of the job
 abbrev pub MayBeNext : Farm → ℕ → List Act → Act → Type 0

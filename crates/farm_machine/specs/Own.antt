@@ -7,8 +7,8 @@ use Rattle.slot_table.specs.declared.calls.SlotReply.TheVariants.{Drawn}
 use Rattle.slot_table.specs.History.{entry}
 use Rattle.farm_machine.specs.declared.reports.End.{End}
 use Rattle.farm_machine.specs.Acts.{SlotEvent, Act, slots_of}
-use Rattle.farm_machine.specs.Machine.{JobCall, Draws, Adds, Waits, Mismatched, job_call_of, MaskIs}
-use Rattle.farm_machine.specs.Weave.{Reports, Wants, IsWaitedFor, OwnAgrees}
+use Rattle.farm_machine.specs.Machine.{JobCall, Draws, Adds, Waits, Mismatched, job_call_of, Wants, MaskIs}
+use Rattle.farm_machine.specs.Weave.{Reports, IsWaitedFor, OwnAgrees}
 
 -- A call of job j is its slot event x, and then this holds of the calls behind it; or it is a refused take before x, and then that does.
 abbrev pub ServedBy : Wants → ℕ → List SlotEvent → SlotEvent → JobCall → Type 0 → Type 0 → Type 0

@@ -9,7 +9,8 @@ use Rattle.farm_machine.specs.declared.reports.Why5.TheVariants.{Memory}
 use Rattle.farm_machine.specs.declared.reports.End.{End}
 use Rattle.farm_machine.specs.declared.reports.End.TheVariants.{Failed}
 use Rattle.farm_machine.specs.Acts.{SlotEvent, Takes, Gives, GivesBad, FindsDown, TakesLocal, GivesLocal, Act, Met, Entries, ReadsAll}
-use Rattle.farm_machine.specs.Weave.{Reports, Wants, Agrees}
+use Rattle.farm_machine.specs.Machine.{Wants}
+use Rattle.farm_machine.specs.Weave.{Reports, Agrees}
 
 -- the slot events among the events of a report, which need no entries to be read
 abbrev pub slots_in : List Event → List SlotEvent

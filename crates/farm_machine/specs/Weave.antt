@@ -6,17 +6,13 @@ use Rattle.slot_table.specs.declared.calls.CallEntry.{CallEntry}
 use Rattle.slot_table.specs.History.{IsLegal, calls_by, jobs_drawn}
 use Rattle.farm_machine.specs.declared.reports.End.{End}
 use Rattle.farm_machine.specs.Acts.{SlotEvent, Takes, FindsDown, TakesLocal, Act, Did, Met, slots_of, next_met, after_met}
-use Rattle.farm_machine.specs.Machine.{SlotKind, HostSlot, LocalSlot, JobCall, Draws, Adds, Waits, Mismatched, job_call_of, MaskIs, set_at, FarmStep, Calls, Does, Returns, calls_in, acts_in}
+use Rattle.farm_machine.specs.Machine.{SlotKind, HostSlot, LocalSlot, JobCall, Draws, Adds, Waits, Mismatched, job_call_of, Wants, MaskIs, set_at, FarmStep, Calls, Does, Returns, calls_in, acts_in}
 
 -- the reports of all jobs, as they are read: of each job its worker, its acts and its end
 pub record Reports : Type 0 where
   pub worker : ℕ → ℕ
   pub acts : ℕ → List Act
   pub ends : ℕ → End
-
--- which entries a take asks for, after these slot events of its job
-abbrev pub Wants : Type 0
-Wants = List SlotEvent → ℕ → Bool
 
 -- What the earlier calls of a list leave: the job that each worker's latest draw answered, and of each job the slot events that were
 -- calls and the acts behind them.
