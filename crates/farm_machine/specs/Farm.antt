@@ -1,5 +1,5 @@
 -- The farm of some jobs, and what its machine keeps.
-use Rattle.std.specs.Prelude.{◌≡◌, ◌≢◌, ◌↔◌, ℕ, ◌+◌, ◌<◌, ◌≤◌, Bool, false, ◌&&◌, not, cond, List, [], ◌∷◌, ◌++◌, Option, Some, None, nat_eq, nat_lt}
+use Rattle.std.specs.Prelude.{◌≡◌, ◌≢◌, ℕ, ◌+◌, ◌<◌, ◌≤◌, Bool, false, ◌&&◌, not, cond, List, [], ◌∷◌, ◌++◌, Option, Some, None, nat_eq, nat_lt}
 use Rattle.std.specs.List.{range_with_len}
 use Rattle.slot_table.specs.declared.limits.Limits.{Limits}
 use Rattle.slot_table.specs.declared.calls.CallEntry.{CallEntry}
