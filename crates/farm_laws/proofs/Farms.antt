@@ -15,9 +15,9 @@ use Rattle.farm_laws.proofs.Kept.{run-law}
 use Rattle.farm_laws.proofs.Woven.{TakesWhereDown, woven}
 
 takes-where-down : {h : ℕ} (l : Limits h) (jobs : ℕ → Job) → IsOf l jobs → TakesWhereDown l (farm_of l jobs)
-takes-where-down l jobs of j acts host below is_wanted may =
+takes-where-down l jobs of j acts host inside below is_wanted may =
     let new : not (took host (slots_of acts)) ≡ true = (and_parts (nat_lt host l.count) (not (took host (slots_of acts))) is_wanted).1 in
-    (Met (Gives host) ∷ [], Failed Memory, take-where-down (jobs j) host acts may.0 may.1 (let e = of.count j in omega (arith, e, below)) (not-true (took host (slots_of acts)) new) may.2)
+    (Met (Gives host) ∷ [], Failed Memory, take-where-down (jobs j) host acts may.0 may.1 (let e = of.count j inside in omega (arith, e, below)) (not-true (took host (slots_of acts)) new) may.2)
 
 pub weave-law : WeaveLaw
 weave-law h l jobs r calls of courses agrees = woven (farm_of l jobs) l r calls (takes-where-down l jobs of) courses agrees

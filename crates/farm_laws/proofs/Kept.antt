@@ -18,11 +18,12 @@ use Rattle.slot_table.proofs.Draws.{draws-in-order}
 use Rattle.slot_table.proofs.Holdings.{host_eq-refl}
 use Rattle.farm_machine.specs.declared.reports.End.{End}
 use Rattle.farm_machine.specs.Acts.{SlotEvent, Takes, Gives, GivesBad, FindsDown, TakesLocal, GivesLocal, Act, Did, Met, slots_of, Loan, loan_of, IsTurn}
-use Rattle.farm_machine.specs.Jobs.{Job, is_local_host}
+use Rattle.farm_machine.specs.Jobs.{Job, host_count, is_local_host}
 use Rattle.farm_machine.specs.Course.{Course}
 use Rattle.farm_machine.specs.Machine.{JobCall, Draws, Adds, Waits, Mismatched, job_call, job_call_of, set_at, JobState, NotBegun, Begun, Returned, FarmState, start, FarmStep, Calls, Does, Returns, with_act, jobs_after, after, after_steps, calls_in, Farm, MayCall, IsAllowedFrom}
 use Rattle.farm_machine.specs.Farm.{farm_of, IsOf, times, is_loan, lent, Kept, KeptLaw, PrefixLaw, RunLaw}
 use Rattle.course_laws.proofs.Courses.{turn-at, nothing-out, loan-met, loan-did}
+use Rattle.farm_laws.proofs.Below.{lent-below}
 use Rattle.farm_laws.proofs.SetAt.{set_at-elim, set_at-other}
 use Rattle.farm_laws.proofs.Draws.{NextIs, next_is}
 use Rattle.farm_laws.proofs.Grants.{times-without, times-has, none-outstanding, other-job, same-job, and-false}
@@ -173,13 +174,16 @@ after-matchedt local o v j acts FindsDown was turn = record {
   there = λ y apart. refl;
 }
 
-remote-turn : {h : ℕ} (l : Limits h) (jobs : ℕ → Job) → IsOf l jobs → (j : ℕ) (mask : Option Mask) (loan : Loan) (x : SlotEvent) → IsTurn (is_local_host (jobs j)) loan x → IsRemoteCall l (Adds j mask x)
-remote-turn l jobs of j mask loan (GivesBad host until) turn = sym (of.local j host) ∙ turn.1
-remote-turn l jobs of j mask loan (Takes host) turn = tt
-remote-turn l jobs of j mask loan (Gives host) turn = tt
-remote-turn l jobs of j mask loan FindsDown turn = tt
-remote-turn l jobs of j mask loan TakesLocal turn = tt
-remote-turn l jobs of j mask loan GivesLocal turn = tt
+remote-turn : {h : ℕ} (l : Limits h) (jobs : ℕ → Job) → IsOf l jobs → (j : ℕ) (mask : Option Mask) (acts rest : List Act) (end : End) (x : SlotEvent) → j < l.jobs → Course (jobs j) (acts ++ Met x ∷ rest) end → IsTurn (is_local_host (jobs j)) (loan_of None (slots_of acts)) x
+    → IsRemoteCall l (Adds j mask x)
+remote-turn l jobs of j mask acts rest end (GivesBad host until) inside course turn =
+    let below : host < host_count (jobs j) = lent-below (jobs j) acts (Met (GivesBad host until) ∷ rest) end host course turn.0 in
+    let count = of.count j inside in sym (of.local j host inside (omega (arith, below, count))) ∙ turn.1
+remote-turn l jobs of j mask acts rest end (Takes host) inside course turn = tt
+remote-turn l jobs of j mask acts rest end (Gives host) inside course turn = tt
+remote-turn l jobs of j mask acts rest end FindsDown inside course turn = tt
+remote-turn l jobs of j mask acts rest end TakesLocal inside course turn = tt
+remote-turn l jobs of j mask acts rest end GivesLocal inside course turn = tt
 
 same-effect : (j : ℕ) (mask : Option Mask) (x : SlotEvent) → effect (Adds j mask x) ≡ effect (Adds j None x)
 same-effect j mask (Takes host) = refl
@@ -188,6 +192,13 @@ same-effect j mask (GivesBad host until) = refl
 same-effect j mask FindsDown = refl
 same-effect j mask TakesLocal = refl
 same-effect j mask GivesLocal = refl
+
+-- a begun job is one of the limits
+begun-inside : {h : ℕ} (f : Farm) (l : Limits h) (o : List Holding) (w : FarmState h) (j v : ℕ) (acts : List Act) → Kept f l o w → w.jobs j ≡ Begun v acts → j < l.jobs
+begun-inside f l o w j v acts kept begun = elim (cases_lt j w.slots.next) [
+  | inl below ↦ let top = kept.below in omega (arith, below, top)
+  | inr above ↦ let e : Begun v acts ≡ NotBegun = sym begun ∙ kept.ahead j above in cc
+]
 
 -- what a call keeps, and that it is legal
 record Called {h : ℕ} (l : Limits h) (jobs : ℕ → Job) (o : List Holding) (w : FarmState h) (s : SlotState h) (v : ℕ) (a : JobCall) : Type 0 where
@@ -242,7 +253,7 @@ called l jobs of o w s v (Adds j mask x) kept next may =
     record {
       matched = tt;
       is_out = subst (λ (c : Change). IsOut v o c) (sym e) af.is_out;
-      remote = remote-turn l jobs of j mask (loan_of None (slots_of acts)) x turn;
+      remote = remote-turn l jobs of j mask acts may.3.0 may.3.1 x (begun-inside (farm_of l jobs) l o w j v acts kept begun) may.3.2 turn;
       kept = subst (λ (c : Change). Kept (farm_of l jobs) l (changed v o c) (record { slots = s; jobs = set_at w.jobs j (with_act (w.jobs j) (Met x)) })) (sym e)
           (moved (farm_of l jobs) l o (changed v o (effect (Adds j None x))) w s j v acts (with_act (w.jobs j) (Met x)) kept next begun (λ waiting. let k : Begun v (acts ++ Met x ∷ []) ≡ NotBegun = sym is ∙ waiting in cc)
           (λ u a begins. let k : Begun v (acts ++ Met x ∷ []) ≡ Begun u a = sym is ∙ begins in let by : u ≡ v = cc in let same : acts ++ Met x ∷ [] ≡ a = cc in

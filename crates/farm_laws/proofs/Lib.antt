@@ -6,6 +6,7 @@ pub mod Worker
 pub mod Drivers
 pub mod Woven
 pub mod NothingLost
+pub mod Below
 pub mod Grants
 pub mod Kept
 pub mod Farms

@@ -27,7 +27,7 @@ run-allowed f l (step ∷ steps) s run = let more = run-allowed f l steps (after
 
 -- where a job may find all hosts down, it might have taken a slot of any host of its mask
 abbrev pub TakesWhereDown : {h : ℕ} → Limits h → Farm → Type 0
-TakesWhereDown l f = (j : ℕ) (acts : List Act) (host : ℕ) → host < l.count → f.wants (slots_of acts) host ≡ true → MayBeNext f j acts (Met FindsDown) → MayBeNext f j acts (Met (Takes host))
+TakesWhereDown l f = (j : ℕ) (acts : List Act) (host : ℕ) → j < l.jobs → host < l.count → f.wants (slots_of acts) host ≡ true → MayBeNext f j acts (Met FindsDown) → MayBeNext f j acts (Met (Takes host))
 
 -- a begun job whose next act is a slot event
 pub record IsOpen (r : Reports) (j : ℕ) (stage : JobState) (past : List SlotEvent) (rest : List Act) : Type 0 where
@@ -128,14 +128,14 @@ open-next f r j stage past rest course o x is =
     let same : o.event ≡ x = let e : Some o.event ≡ Some x = sym o.next ∙ is in cc in
     subst (λ (y : SlotEvent). MayBeNext f j o.done (Met y)) same (after_met rest, r.ends j, subst (λ (acts : List Act). f.Course j acts (r.ends j)) (sym o.whole) course)
 
-may_wait : {h : ℕ} (f : Farm) (l : Limits h) (j : ℕ) (done : List Act) (mask : Option Mask) (kind : SlotKind) (x : SlotEvent) → TakesWhereDown l f → HasRoom l (Waits j mask kind) → MaskIs mask (f.wants (slots_of done)) → IsWaitedFor kind x → MayBeNext f j done (Met x) → MayWait f j done kind
-may_wait f l j done (Some mask) HostSlot x turns room is waited next =
+may_wait : {h : ℕ} (f : Farm) (l : Limits h) (j : ℕ) (done : List Act) (mask : Option Mask) (kind : SlotKind) (x : SlotEvent) → TakesWhereDown l f → j < l.jobs → HasRoom l (Waits j mask kind) → MaskIs mask (f.wants (slots_of done)) → IsWaitedFor kind x → MayBeNext f j done (Met x) → MayWait f j done kind
+may_wait f l j done (Some mask) HostSlot x turns below room is waited next =
     elim waited [
-      | inl down ↦ (room.0, turns j done room.0 room.1 (sym (is room.0) ∙ room.2) (subst (λ (y : SlotEvent). MayBeNext f j done (Met y)) down next))
+      | inl down ↦ (room.0, turns j done room.0 below room.1 (sym (is room.0) ∙ room.2) (subst (λ (y : SlotEvent). MayBeNext f j done (Met y)) down next))
       | inr got ↦ (got.0, subst (λ (y : SlotEvent). MayBeNext f j done (Met y)) got.1 next)
     ]
-may_wait f l j done None HostSlot x turns room is waited next = absurd room
-may_wait f l j done mask LocalSlot x turns room is waited next = subst (λ (y : SlotEvent). MayBeNext f j done (Met y)) waited next
+may_wait f l j done None HostSlot x turns below room is waited next = absurd room
+may_wait f l j done mask LocalSlot x turns below room is waited next = subst (λ (y : SlotEvent). MayBeNext f j done (Met y)) waited next
 
 may : {h : ℕ} (f : Farm) (l : Limits h) (r : Reports) (b : Progress) (w : FarmState h) (v m : ℕ) → TakesWhereDown l f → ((j : ℕ) → j < l.jobs → f.Course j (r.acts j) (r.ends j)) → Inv l r b w
     → (a : JobCall) → NextIs l a w.slots.next m → HasRoom l a → Follows r f.wants b v a → AtDraw a ((j : ℕ) → j < w.slots.next → r.worker j ≡ v → next_met (b.rest j) ≡ None) → MayCall f w.jobs v a
@@ -163,7 +163,7 @@ may f l r b w v m turns courses inv (Waits j mask kind) next room fit idle =
       | inl over ↦ let none : Some fit.2.0 ≡ None = sym fit.2.1 ∙ over.0 in cc
       | inr o ↦
           let is : MaskIs mask (f.wants (slots_of o.done)) = subst (λ (p : List SlotEvent). MaskIs mask (f.wants p)) (sym o.slots) fit.1 in
-          (o.done, o.begun ∙ ap (λ (u : ℕ). Begun u o.done) by, is, may_wait f l j o.done mask kind fit.2.0 turns room is fit.2.2 (open-next f r j (w.jobs j) (b.past j) (b.rest j) (courses j (omega arith)) o fit.2.0 fit.2.1))
+          (o.done, o.begun ∙ ap (λ (u : ℕ). Begun u o.done) by, is, may_wait f l j o.done mask kind fit.2.0 turns (omega arith) room is fit.2.2 (open-next f r j (w.jobs j) (b.past j) (b.rest j) (courses j (omega arith)) o fit.2.0 fit.2.1))
     ]
 may f l r b w v m turns courses inv Mismatched next room fit idle = absurd fit
 

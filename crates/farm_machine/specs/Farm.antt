@@ -21,10 +21,10 @@ wanted l past host = nat_lt host l.count && not (took host past)
 abbrev pub farm_of : {h : ℕ} → Limits h → (ℕ → Job) → Farm
 farm_of l jobs = record { Course = λ j. Course (jobs j); wants = wanted l }
 
--- the host list of each job is that of the limits
+-- the host list of each job of the limits has the limits' entries, local or not
 pub record IsOf {h : ℕ} (l : Limits h) (jobs : ℕ → Job) : Type 0 where
-  pub count : (j : ℕ) → host_count (jobs j) ≡ l.count
-  pub local : (j host : ℕ) → is_local_host (jobs j) host ≡ is_local l host
+  pub count : (j : ℕ) → j < l.jobs → host_count (jobs j) ≡ l.count
+  pub local : (j host : ℕ) → j < l.jobs → host < l.count → is_local_host (jobs j) host ≡ is_local l host
 
 -- The law of the weave: where calls agree with reports that are courses, what is woven of them is a run.
 abbrev pub WeaveLaw : Type 0
