@@ -104,7 +104,7 @@ orderly-from j (Met x ∷ acts) at end (c, next, from) =
     let one = next-met j at c x next in
     (one.0, subst (λ (loan : Loan). IsOrderly (is_local_host j) loan (slots_of acts)) one.1 (orderly-from j acts c end from))
 
-slots_of-append : (xs ys : List Act) → slots_of (xs ++ ys) ≡ slots_of xs ++ slots_of ys
+pub slots_of-append : (xs ys : List Act) → slots_of (xs ++ ys) ≡ slots_of xs ++ slots_of ys
 slots_of-append [] ys = refl
 slots_of-append (Did d ∷ xs) ys = slots_of-append xs ys
 slots_of-append (Met x ∷ xs) ys = ap (λ (l : List SlotEvent). x ∷ l) (slots_of-append xs ys)

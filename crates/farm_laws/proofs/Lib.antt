@@ -12,3 +12,4 @@ pub mod Kept
 pub mod Farms
 pub mod Reported
 pub mod Examples
+pub mod ExampleCourses

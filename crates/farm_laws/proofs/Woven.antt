@@ -12,6 +12,7 @@ use Rattle.edge_traits.specs.Deeds.{Deed}
 use Rattle.farm_machine.specs.Acts.{SlotEvent, Takes, FindsDown, Act, Did, Met, slots_of, next_met, after_met}
 use Rattle.farm_machine.specs.Machine.{Wants, SlotKind, HostSlot, LocalSlot, JobCall, Draws, Adds, Waits, Mismatched, job_call_of, MaskIs, set_at, JobState, NotBegun, Begun, Returned, FarmState, start, FarmStep, Does, Returns, with_act, jobs_after, after, Farm, MayBeNext, MayWait, MayCall, MayStep, after_steps, IsAllowedFrom, AllReturned, FarmRun}
 use Rattle.farm_machine.specs.Weave.{Reports, Progress, no_progress, progress_after, next_progress, last_progress, IsWaitedFor, Follows, AllFollow, IsUsedUp, steps_until_met, steps_behind, weave_from, Agrees, weave}
+use Rattle.course_laws.proofs.Courses.{slots_of-append}
 use Rattle.farm_laws.proofs.SetAt.{set_at-elim, set_at-same, set_at-other}
 use Rattle.farm_laws.proofs.Callers.{Own, own-no_progress, own-move}
 use Rattle.farm_laws.proofs.Draws.{NextIs, HasRoom, next_is, has_room, next_grows, next-all}
@@ -72,14 +73,7 @@ untouched l r wants j (e ∷ es) b s o legal follow below none =
     untouched l r wants j es (next_progress b e) (slot_step l s e.call).0 (outstanding_then o e) legal.1 follow.1 (omega arith) one.0 ∙ one.1
 
 slots_of-did : (done : List Act) (d : Deed) → slots_of (done ++ Did d ∷ []) ≡ slots_of done
-slots_of-did [] d = refl
-slots_of-did (Did c ∷ done) d = slots_of-did done d
-slots_of-did (Met x ∷ done) d = ap (λ (xs : List SlotEvent). x ∷ xs) (slots_of-did done d)
-
-slots_of-met : (done : List Act) (x : SlotEvent) → slots_of (done ++ Met x ∷ []) ≡ slots_of done ++ x ∷ []
-slots_of-met [] x = refl
-slots_of-met (Did c ∷ done) x = slots_of-met done x
-slots_of-met (Met y ∷ done) x = ap (λ (xs : List SlotEvent). y ∷ xs) (slots_of-met done x)
+slots_of-did done d = slots_of-append done (Did d ∷ []) ∙ append-nil (slots_of done)
 
 -- a deed in front changes nothing
 stands-did : (r : Reports) (j : ℕ) (stage : JobState) (past : List SlotEvent) (d : Deed) (rest : List Act) → Stands r j stage past rest → Stands r j stage past (Did d ∷ rest)
@@ -212,7 +206,7 @@ step {h} f l r b w s v more courses inv (Adds j mask x) next fit go_on =
           flush f l r j (b'.past j) more (courses j (omega arith)) (b'.rest j) (record { slots = s; jobs = set_at w.jobs j (with_act (w.jobs j) (Met x)) }) (o.done ++ Met x ∷ [])
           (set_at-same w.jobs j (with_act (w.jobs j) (Met x)) ∙ ap (λ (st : JobState). with_act st (Met x)) o.begun)
           (append_assoc o.done (Met x ∷ []) (b'.rest j) ∙ ap (λ (z : List Act). o.done ++ Met x ∷ z) (set_at-same b.rest j (after_met (b.rest j))) ∙ ap (λ (y : SlotEvent). o.done ++ Met y ∷ after_met (b.rest j)) (sym e) ∙ o.whole)
-          (slots_of-met o.done x ∙ ap (λ (p : List SlotEvent). p ++ x ∷ []) o.slots ∙ sym (set_at-same b.past j (b.past j ++ x ∷ [])))
+          (slots_of-append o.done (Met x ∷ []) ∙ ap (λ (p : List SlotEvent). p ++ x ∷ []) o.slots ∙ sym (set_at-same b.past j (b.past j ++ x ∷ [])))
           (λ w' same others stands.
           let n : w'.slots.next ≡ w.slots.next = ap (λ (z : SlotState h). z.next) same ∙ next in
           go_on w' same record {

@@ -1,9 +1,11 @@
 //! The laws, one function each.
-ghost use Rattle.std.specs.Prelude.{◌≡◌};
+ghost use Rattle.std.specs.Prelude.{◌≡◌, ℕ, ◌<◌};
+ghost use Rattle.farm_machine.specs.Course.{Course};
 ghost use Rattle.farm_machine.specs.Driver.{DriverLaw, WorkersRunLaw};
-ghost use Rattle.farm_machine.specs.Example.{calls, limits};
+ghost use Rattle.farm_machine.specs.Example.{calls, jobs, limits};
 ghost use Rattle.farm_machine.specs.ExampleRun.{reports, steps};
-ghost use Rattle.farm_machine.specs.Farm.{wanted, AllBackLaw, KeptLaw, PrefixLaw, RunLaw, WeaveLaw};
+ghost use Rattle.farm_machine.specs.Farm.{farm_of, wanted, AllBackLaw, KeptLaw, PrefixLaw, RunLaw, WeaveLaw};
+ghost use Rattle.farm_machine.specs.Machine.{FarmRun};
 ghost use Rattle.farm_machine.specs.Own.{ServesMoreLaw, WorkerLaw};
 ghost use Rattle.farm_machine.specs.Reading.{ReadingLaw};
 ghost use Rattle.farm_machine.specs.Weave.{Agrees, CallersLaw, NothingLostLaw, UnreadLaw, weave};
@@ -54,9 +56,12 @@ pub fn driver_law()
     ensures run { WorkersRunLaw }
 {}
 
-/// An example that computes: two workers, one host with one slot, three jobs and one refused take. Its calls
-/// agree with its reports, and what is woven of them is the list that docs/farm.md shows.
+/// An example that computes: two workers, one host with one slot, three jobs and one refused take. Its reports
+/// are courses of its jobs' commands, its calls agree with them, and what is woven of both is the list of steps
+/// that docs/farm.md shows, which is a run.
 pub fn example()
+    ensures courses { (j : ℕ) → j < limits.jobs → Course (jobs j) (reports.acts j) (reports.ends j) }
     ensures agrees { Agrees limits reports (wanted limits) calls }
     ensures woven { weave calls reports ≡ steps }
+    ensures run { FarmRun (farm_of limits jobs) limits steps }
 {}

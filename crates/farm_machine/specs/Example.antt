@@ -1,6 +1,11 @@
 -- Two workers, one host with one slot, three jobs: one take is refused, and the preprocessor of one job fails.
 use Rattle.std.specs.Prelude.{ℕ, true, false, ◌==◌, if◌then◌else◌, List, [], ◌∷◌, Some, None, codes}
 use Rattle.farm_types.specs.declared.placed.Word.TheVariants.{Text}
+use Rattle.farm_types.specs.declared.ran.Outcome.{Outcome}
+use Rattle.farm_types.specs.declared.hosts.Host.{Host}
+use Rattle.farm_types.specs.declared.jobs.JobConfig.{JobConfig}
+use Rattle.wire_tokens.specs.Request.{request_text}
+use Rattle.wire_tokens.specs.Reply.{reply_text}
 use Rattle.edge_traits.specs.declared.entries.Run.{Run}
 use Rattle.edge_traits.specs.declared.entries.Exchange.{Exchange}
 use Rattle.edge_traits.specs.declared.entries.Put.{Put}
@@ -14,6 +19,7 @@ use Rattle.slot_table.specs.History.{entry}
 use Rattle.farm_machine.specs.declared.reports.By.TheVariants.{Cpp, Remote}
 use Rattle.farm_machine.specs.declared.reports.End.{End}
 use Rattle.farm_machine.specs.declared.reports.End.TheVariants.{Done}
+use Rattle.farm_machine.specs.Jobs.{Job, request_for}
 use Rattle.farm_machine.specs.Acts.{Takes, Gives, Act, Did, Met}
 
 -- one host with one slot, and three jobs
@@ -31,10 +37,38 @@ preprocessed = record { words = Text (codes "cc") ∷ Text (codes "-E") ∷ Text
 abbrev pub not_preprocessed : Run
 not_preprocessed = record { words = Text (codes "cc") ∷ Text (codes "-E") ∷ Text (codes "b.c") ∷ []; input = []; ran = record { status = 256; out = []; err = codes "b.c: none"; object = [] } }
 
--- an exchange with the host, of which the weave looks at nothing, and the put of its object
-abbrev pub answered : Exchange
-answered = record { host = record { text = codes "a" }; port = 3632; dialed = true; sent = []; given = []; ended = true; stopped = false; faults = 0 }
+-- the commands of the jobs, of which the first two are the same
+abbrev pub words_of : ℕ → List (List ℕ)
+words_of job = codes "cc" ∷ codes "-c" ∷ (if job == 2 then codes "b.c" else codes "a.c") ∷ []
 
+-- the one host, and no compile here in its place
+abbrev pub host : Host
+host = record { name = record { text = codes "a" }; port = 3632; limit = 1; local = false }
+
+abbrev pub config : JobConfig
+config = record { hosts = record { list = host ∷ []; local_slots = 1; local_cpp = 1; randomize = false }; fallback = false; retry = false; period = 60 }
+
+abbrev pub jobs : ℕ → Job
+jobs job = record { words = words_of job; config = config; tries = 1 }
+
+-- what the host answers
+abbrev pub outcome : Outcome
+outcome = record { status = 0; err = []; out = []; object = codes "object" }
+
+-- the exchange: the whole request of the command and the preprocessed source, and the whole reply
+abbrev pub answered : Exchange
+answered = record {
+  host = host.name;
+  port = host.port;
+  dialed = true;
+  sent = request_text (request_for (jobs 0) preprocessed.ran.out);
+  given = reply_text outcome;
+  ended = true;
+  stopped = false;
+  faults = 0;
+}
+
+-- the put of the object
 abbrev pub delivered : Put
 delivered = record { path = codes "a.o"; bytes = codes "object" }
 

@@ -1,9 +1,16 @@
 use Rattle.std.proofs.Common.{refl}
 use Rattle.farm_laws.proofs.Examples.{agrees}
+use Rattle.farm_laws.proofs.ExampleCourses.{courses, runs}
 use Rattle.farm_laws.proofs.laws.example.Goals as goal
+
+pub returns-clause-courses : goal.returns-clause-courses
+returns-clause-courses c = courses
 
 pub returns-clause-agrees : goal.returns-clause-agrees
 returns-clause-agrees c = agrees
 
 pub returns-clause-woven : goal.returns-clause-woven
 returns-clause-woven c = refl
+
+pub returns-clause-run : goal.returns-clause-run
+returns-clause-run c = runs
