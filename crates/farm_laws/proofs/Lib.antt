@@ -2,14 +2,11 @@ pub mod SetAt
 pub mod Draws
 pub mod Callers
 pub mod Unread
-pub mod Worker
-pub mod Drivers
 pub mod Woven
 pub mod NothingLost
 pub mod Below
 pub mod Grants
 pub mod Kept
 pub mod Farms
-pub mod Reported
 pub mod Examples
 pub mod ExampleCourses

@@ -1,12 +1,10 @@
 //! The laws, one function each.
 ghost use Rattle.std.specs.Prelude.{◌≡◌, ℕ, ◌<◌};
 ghost use Rattle.farm_machine.specs.Course.{Course};
-ghost use Rattle.farm_machine.specs.Driver.{DriverLaw, WorkersRunLaw};
 ghost use Rattle.farm_machine.specs.Example.{calls, jobs, limits};
 ghost use Rattle.farm_machine.specs.ExampleRun.{reports, steps};
 ghost use Rattle.farm_machine.specs.Farm.{farm_of, wanted, AllBackLaw, KeptLaw, PrefixLaw, RunLaw, WeaveLaw};
 ghost use Rattle.farm_machine.specs.Machine.{FarmRun};
-ghost use Rattle.farm_machine.specs.Own.{ServesMoreLaw, WorkerLaw};
 ghost use Rattle.farm_machine.specs.Reading.{ReadingLaw};
 ghost use Rattle.farm_machine.specs.Weave.{Agrees, CallersLaw, NothingLostLaw, UnreadLaw, weave};
 
@@ -39,21 +37,6 @@ pub fn callers_law()
 pub fn unread_law()
     ensures alike { UnreadLaw }
     ensures read { ReadingLaw }
-{}
-
-/// One worker: where its calls are its jobs, one after another until a draw answers none, they agree with its
-/// reports. `more` lets a job's calls grow one slot event at a time, the refused takes before it included.
-pub fn worker_law()
-    ensures worker { WorkerLaw }
-    ensures more { ServesMoreLaw }
-{}
-
-/// All workers: where each did one job after another until a draw answered none, and no one else called, each
-/// job was done by a worker, and the calls agree with the reports of what the workers did. Where what they did
-/// were courses, there are such reports, one for each job, and what is woven of them and the calls is a run.
-pub fn driver_law()
-    ensures agree { DriverLaw }
-    ensures run { WorkersRunLaw }
 {}
 
 /// An example that computes: two workers, one host with one slot, three jobs and one refused take. Its reports

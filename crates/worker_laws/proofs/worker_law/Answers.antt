@@ -1,5 +1,5 @@
-use Rattle.farm_laws.proofs.Worker.{worker, serves-more}
-use Rattle.farm_laws.proofs.laws.worker_law.Goals as goal
+use Rattle.worker_laws.proofs.Worker.{worker, serves-more}
+use Rattle.worker_laws.proofs.worker_law.Goals as goal
 
 pub returns-clause-worker : goal.returns-clause-worker
 returns-clause-worker c = worker

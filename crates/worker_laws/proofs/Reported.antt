@@ -16,8 +16,8 @@ use Rattle.farm_machine.specs.Weave.{Reports, Agrees}
 use Rattle.farm_machine.specs.Farm.{wanted}
 use Rattle.farm_machine.specs.Own.{DoneJob, Each, DoesJobs, AreApart, IsReported, HasNumber}
 use Rattle.farm_machine.specs.Driver.{WorkersRunLaw}
-use Rattle.farm_laws.proofs.Drivers.{DrawsIt, IsDrawnIn, AscBy, Ascend, asc-less, asc-legal, asc-by, jobs-apart, driver}
-use Rattle.farm_laws.proofs.Worker.{each-map, each-both}
+use Rattle.worker_laws.proofs.Drivers.{DrawsIt, IsDrawnIn, AscBy, Ascend, asc-less, asc-legal, asc-by, jobs-apart, driver}
+use Rattle.worker_laws.proofs.Worker.{each-map, each-both}
 use Rattle.farm_laws.proofs.Farms.{weave-law}
 
 -- whether the call drew this job, and the caller of the first call that did

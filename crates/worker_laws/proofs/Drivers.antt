@@ -18,7 +18,7 @@ use Rattle.farm_machine.specs.Own.{ServedBy, Serves, DoneJob, Each, DoesJobs, Ar
 use Rattle.farm_machine.specs.Driver.{DriverLaw}
 use Rattle.farm_laws.proofs.Draws.{NextIs, next_is, grows-from, all-next}
 use Rattle.farm_laws.proofs.Callers.{callers}
-use Rattle.farm_laws.proofs.Worker.{each-map, worker}
+use Rattle.worker_laws.proofs.Worker.{each-map, worker}
 
 -- the call drew this job
 abbrev pub DrawsIt : ℕ → JobCall → Type 0

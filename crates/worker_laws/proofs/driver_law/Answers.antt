@@ -1,6 +1,6 @@
-use Rattle.farm_laws.proofs.Drivers.{driver}
-use Rattle.farm_laws.proofs.Reported.{workers-run}
-use Rattle.farm_laws.proofs.laws.driver_law.Goals as goal
+use Rattle.worker_laws.proofs.Drivers.{driver}
+use Rattle.worker_laws.proofs.Reported.{workers-run}
+use Rattle.worker_laws.proofs.driver_law.Goals as goal
 
 pub returns-clause-agree : goal.returns-clause-agree
 returns-clause-agree c = driver

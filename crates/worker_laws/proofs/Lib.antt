@@ -1,0 +1,3 @@
+pub mod Worker
+pub mod Drivers
+pub mod Reported
