@@ -48,7 +48,8 @@ abbrev pub is_loan : Loan → Option ℕ → Bool
 is_loan None host = false
 is_loan (Some slot) host = host_eq host slot
 
--- how often a job that stands so has this grant: once where it is begun by the grant's caller and its slot events have taken and not given it
+-- how often a job that stands so has this grant: once where it is begun by the grant's caller, and its slot events have taken the grant and
+-- not given it back
 abbrev pub lent : JobState → Holding → ℕ
 lent NotBegun x = 0
 lent (Begun worker acts) x = cond (nat_eq x.caller worker && is_loan (loan_of None (slots_of acts)) x.host) 1 0
@@ -62,7 +63,8 @@ pub record Kept {h : ℕ} (f : Farm) (l : Limits h) (out : List Holding) (s : Fa
   pub drawn : (j : ℕ) → j < s.slots.next → s.jobs j ≢ NotBegun
   pub below : s.slots.next ≤ l.jobs
   pub one : (worker j k : ℕ) (a b : List Act) → s.jobs j ≡ Begun worker a → s.jobs k ≡ Begun worker b → j ≡ k
-  pub course : (j worker : ℕ) (acts : List Act) → s.jobs j ≡ Begun worker acts → (rest : List Act) × (end : End) × f.Course j (acts ++ rest) end
+  pub course : (j worker : ℕ) (acts : List Act) → s.jobs j ≡ Begun worker acts
+      → (rest : List Act) × (end : End) × f.Course j (acts ++ rest) end
   pub lent : (x : Holding) → times x out ≡ lent (s.jobs x.job) x
 
 -- What holds after steps that the machine may make: their calls are a legal history, which leaves the state of the slots, so that the laws
@@ -76,12 +78,16 @@ pub record StepsKeep {h : ℕ} (f : Farm) (l : Limits h) (steps : List FarmStep)
 
 -- the law of the machine: for every list of steps that it may make from the start
 abbrev pub KeptLaw : Type 0
-KeptLaw = (h : ℕ) (l : Limits h) (jobs : ℕ → Job) (steps : List FarmStep) → IsOf l jobs → IsAllowed (farm_of l jobs) l steps → StepsKeep (farm_of l jobs) l steps
+KeptLaw = (h : ℕ) (l : Limits h) (jobs : ℕ → Job) (steps : List FarmStep)
+    → IsOf l jobs → IsAllowed (farm_of l jobs) l steps → StepsKeep (farm_of l jobs) l steps
 
 -- and at every front of such a list, since the machine may make its steps too
 abbrev pub PrefixLaw : Type 0
-PrefixLaw = (h : ℕ) (l : Limits h) (jobs : ℕ → Job) (front rest : List FarmStep) → IsOf l jobs → IsAllowed (farm_of l jobs) l (front ++ rest) → IsAllowed (farm_of l jobs) l front × StepsKeep (farm_of l jobs) l front
+PrefixLaw = (h : ℕ) (l : Limits h) (jobs : ℕ → Job) (front rest : List FarmStep)
+    → IsOf l jobs → IsAllowed (farm_of l jobs) l (front ++ rest)
+    → IsAllowed (farm_of l jobs) l front × StepsKeep (farm_of l jobs) l front
 
 -- at the end of every run nothing is outstanding
 abbrev pub RunLaw : Type 0
-RunLaw = (h : ℕ) (l : Limits h) (jobs : ℕ → Job) (steps : List FarmStep) → IsOf l jobs → FarmRun (farm_of l jobs) l steps → outstanding (calls_in steps) ≡ []
+RunLaw = (h : ℕ) (l : Limits h) (jobs : ℕ → Job) (steps : List FarmStep)
+    → IsOf l jobs → FarmRun (farm_of l jobs) l steps → outstanding (calls_in steps) ≡ []

@@ -133,8 +133,10 @@ MayWait f j acts LocalSlot = MayBeNext f j acts (Met TakesLocal)
 -- a refused take where a taken slot may come next. A take has the mask that is wanted.
 abbrev pub MayCall : Farm → (ℕ → JobState) → ℕ → JobCall → Type 0
 MayCall f jobs worker (Draws job) = (j : ℕ) (acts : List Act) → jobs j ≢ Begun worker acts
-MayCall f jobs worker (Adds j mask x) = (acts : List Act) × (jobs j ≡ Begun worker acts) × MaskIs mask (f.wants (slots_of acts)) × MayBeNext f j acts (Met x)
-MayCall f jobs worker (Waits j mask kind) = (acts : List Act) × (jobs j ≡ Begun worker acts) × MaskIs mask (f.wants (slots_of acts)) × MayWait f j acts kind
+MayCall f jobs worker (Adds j mask x) =
+    (acts : List Act) × (jobs j ≡ Begun worker acts) × MaskIs mask (f.wants (slots_of acts)) × MayBeNext f j acts (Met x)
+MayCall f jobs worker (Waits j mask kind) =
+    (acts : List Act) × (jobs j ≡ Begun worker acts) × MaskIs mask (f.wants (slots_of acts)) × MayWait f j acts kind
 MayCall f jobs worker Mismatched = ⊥
 
 -- Which steps the machine may make: a call with the reply of the slots; a deed of a begun job that may come next; the return of a begun

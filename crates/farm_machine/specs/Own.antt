@@ -23,7 +23,8 @@ Serves wants worker j past [] [] = Unit {0}
 Serves wants worker j past [] (e ∷ es) = ⊥
 Serves wants worker j past (x ∷ xs) [] = ⊥
 Serves wants worker j past (x ∷ xs) (e ∷ es) =
-    (e.caller ≡ worker) × ServedBy wants j past x (job_call_of e) (Serves wants worker j (past ++ x ∷ []) xs es) (Serves wants worker j past (x ∷ xs) es)
+    (e.caller ≡ worker)
+    × ServedBy wants j past x (job_call_of e) (Serves wants worker j (past ++ x ∷ []) xs es) (Serves wants worker j past (x ∷ xs) es)
 
 -- these calls of a worker are refused takes of its job before this slot event
 abbrev pub AreRefused : Wants → ℕ → ℕ → List SlotEvent → SlotEvent → List CallEntry → Type 0
@@ -44,7 +45,10 @@ Each P (job ∷ jobs) = P job × Each P jobs
 abbrev pub DoesJobs : Wants → ℕ → List DoneJob → List CallEntry → Type 0
 DoesJobs wants worker [] es = es ≡ []
 DoesJobs wants worker (job ∷ jobs) es =
-    (calls : List CallEntry) × (more : List CallEntry) × (es ≡ entry worker Draw (Drawn (Some job.number)) ∷ (calls ++ more)) × Serves wants worker job.number [] (slots_of job.acts) calls × DoesJobs wants worker jobs more
+    (calls : List CallEntry) × (more : List CallEntry)
+    × (es ≡ entry worker Draw (Drawn (Some job.number)) ∷ (calls ++ more))
+    × Serves wants worker job.number [] (slots_of job.acts) calls
+    × DoesJobs wants worker jobs more
 
 -- no two have one number
 abbrev pub AreApart : List DoneJob → Type 0
@@ -64,10 +68,15 @@ HasNumber j (job ∷ jobs) = (job.number ≡ j) ⊎ HasNumber j jobs
 -- none, and the reports have these jobs of it and no others.
 abbrev pub WorkerLaw : Type 0
 WorkerLaw = (h : ℕ) (l : Limits h) (r : Reports) (wants : Wants) (worker : ℕ) (jobs : List DoneJob) (es : List CallEntry)
-    → DoesJobs wants worker jobs es → AreApart jobs → Each (IsReported r worker) jobs → ((j : ℕ) → j < l.jobs → r.worker j ≡ worker → HasNumber j jobs)
+    → DoesJobs wants worker jobs es → AreApart jobs → Each (IsReported r worker) jobs
+    → ((j : ℕ) → j < l.jobs → r.worker j ≡ worker → HasNumber j jobs)
     → OwnAgrees l r wants worker (es ++ entry worker Draw (Drawn None) ∷ [])
 
--- The law of one call more: where the calls so far serve a job's slot events so far, so do they with one event more, the refused takes before it included.
+-- The law of one call more: where the calls so far serve a job's slot events so far, they do so with one event more, and with the refused
+-- takes before it and the call that is it.
 abbrev pub ServesMoreLaw : Type 0
 ServesMoreLaw = (wants : Wants) (worker j : ℕ) (past xs : List SlotEvent) (x : SlotEvent) (es refused : List CallEntry) (e : CallEntry)
-    → Serves wants worker j past xs es → AreRefused wants worker j (past ++ xs) x refused → Serves wants worker j (past ++ xs) (x ∷ []) (e ∷ []) → Serves wants worker j past (xs ++ x ∷ []) (es ++ (refused ++ e ∷ []))
+    → Serves wants worker j past xs es
+    → AreRefused wants worker j (past ++ xs) x refused
+    → Serves wants worker j (past ++ xs) (x ∷ []) (e ∷ [])
+    → Serves wants worker j past (xs ++ x ∷ []) (es ++ (refused ++ e ∷ []))

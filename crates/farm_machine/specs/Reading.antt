@@ -49,7 +49,11 @@ end_at (Some report) = report.end
 
 -- the reports without their deeds, as they can be read without entries
 abbrev pub unread : List Report → Reports
-unread list = record { worker = λ j. worker_at (slice_get list j); acts = λ j. map Met (slots_at (slice_get list j)); ends = λ j. end_at (slice_get list j) }
+unread list = record {
+  worker = λ j. worker_at (slice_get list j);
+  acts = λ j. map Met (slots_at (slice_get list j));
+  ends = λ j. end_at (slice_get list j);
+}
 
 -- Whether calls agree with reports that were read can be tested before they are.
 abbrev pub ReadingLaw : Type 0

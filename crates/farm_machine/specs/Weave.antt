@@ -27,7 +27,8 @@ no_progress r = record { current = λ worker. None; past = λ j. []; rest = r.ac
 
 abbrev pub progress_after : Progress → ℕ → JobCall → Progress
 progress_after p worker (Draws job) = record { current = set_at p.current worker job; past = p.past; rest = p.rest }
-progress_after p worker (Adds j mask x) = record { current = p.current; past = set_at p.past j (p.past j ++ x ∷ []); rest = set_at p.rest j (after_met (p.rest j)) }
+progress_after p worker (Adds j mask x) =
+    record { current = p.current; past = set_at p.past j (p.past j ++ x ∷ []); rest = set_at p.rest j (after_met (p.rest j)) }
 progress_after p worker (Waits j mask kind) = p
 progress_after p worker Mismatched = p
 
@@ -50,7 +51,9 @@ abbrev pub Follows : Reports → Wants → Progress → ℕ → JobCall → Type
 Follows r wants p worker (Draws None) = Unit {0}
 Follows r wants p worker (Draws (Some j)) = r.worker j ≡ worker
 Follows r wants p worker (Adds j mask x) = (p.current worker ≡ Some j) × MaskIs mask (wants (p.past j)) × (next_met (p.rest j) ≡ Some x)
-Follows r wants p worker (Waits j mask kind) = (p.current worker ≡ Some j) × MaskIs mask (wants (p.past j)) × ((x : SlotEvent) × (next_met (p.rest j) ≡ Some x) × IsWaitedFor kind x)
+Follows r wants p worker (Waits j mask kind) =
+    (p.current worker ≡ Some j) × MaskIs mask (wants (p.past j))
+    × ((x : SlotEvent) × (next_met (p.rest j) ≡ Some x) × IsWaitedFor kind x)
 Follows r wants p worker Mismatched = ⊥
 
 -- every call follows those before it
@@ -118,4 +121,5 @@ pub record HasAll {h : ℕ} (l : Limits h) (r : Reports) (es : List CallEntry) (
   pub acts : (j : ℕ) → j < l.jobs → acts_in j steps ≡ r.acts j
 
 abbrev pub NothingLostLaw : Type 0
-NothingLostLaw = (h : ℕ) (l : Limits h) (r : Reports) (wants : Wants) (calls : List CallEntry) → Agrees l r wants calls → HasAll l r calls (weave calls r)
+NothingLostLaw = (h : ℕ) (l : Limits h) (r : Reports) (wants : Wants) (calls : List CallEntry)
+    → Agrees l r wants calls → HasAll l r calls (weave calls r)

@@ -18,7 +18,7 @@ use Rattle.farm_machine.specs.Own.{DoneJob, Each, DoesJobs, AreApart, IsReported
 use Rattle.farm_machine.specs.Driver.{WorkersRunLaw}
 use Rattle.worker_laws.proofs.Drivers.{DrawsIt, IsDrawnIn, AscBy, Ascend, asc-less, asc-legal, asc-by, jobs-apart, driver}
 use Rattle.worker_laws.proofs.Worker.{each-map, each-both}
-use Rattle.farm_laws.proofs.Farms.{weave-law}
+use Rattle.farm_laws.proofs.Farms.{weave-law, all-back}
 
 -- whether the call drew this job, and the caller of the first call that did
 abbrev draws_it : ℕ → JobCall → Bool
@@ -147,7 +147,7 @@ at-number P j (job ∷ jobs) each (inl here) = (job, here, each.0)
 at-number P j (job ∷ jobs) each (inr there) = at-number P j jobs each.1 there
 
 pub workers-run : WorkersRunLaw
-workers-run h l jobs n done calls of legal worked did = record { reports = r; reported = reported; courses = courses; agrees = agrees; run = weave-law h l jobs r calls of courses agrees }
+workers-run h l jobs n done calls of legal worked did = record { reports = r; reported = reported; courses = courses; agrees = agrees; run = weave-law h l jobs r calls of courses agrees; back = all-back h l jobs r calls of courses agrees }
   where
     r : Reports
     r = reports_of done calls
