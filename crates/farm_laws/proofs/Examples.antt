@@ -13,7 +13,7 @@ and-true true = refl
 and-true false = refl
 
 -- the mask has all entries, and no job took one before
-mask-is : MaskIs (Some all_hosts) (wanted limits [])
+pub mask-is : MaskIs (Some all_hosts) (wanted limits [])
 mask-is i = mask-all 1 i (omega arith) ∙ and-true (nat_lt i 1)
 
 used : (j : ℕ) → j < 3 → IsUsedUp (last_progress (no_progress reports) calls) j

@@ -1,3 +1,4 @@
 pub mod Worker
 pub mod Drivers
 pub mod Reported
+pub mod Examples
