@@ -8,5 +8,3 @@ pub mod Below
 pub mod Grants
 pub mod Kept
 pub mod Farms
-pub mod Examples
-pub mod ExampleCourses

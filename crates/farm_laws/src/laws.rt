@@ -1,12 +1,7 @@
 //! The laws, one function each.
-ghost use Rattle.std.specs.Prelude.{◌≡◌, ℕ, ◌<◌};
-ghost use Rattle.farm_machine.specs.Course.{Course};
-ghost use Rattle.farm_machine.specs.Example.{calls, jobs, limits};
-ghost use Rattle.farm_machine.specs.ExampleRun.{reports, steps};
-ghost use Rattle.farm_machine.specs.Farm.{farm_of, wanted, AllBackLaw, KeptLaw, PrefixLaw, RunLaw, WeaveLaw};
-ghost use Rattle.farm_machine.specs.Machine.{FarmRun};
+ghost use Rattle.farm_machine.specs.Farm.{AllBackLaw, KeptLaw, PrefixLaw, RunLaw, WeaveLaw};
 ghost use Rattle.farm_machine.specs.Reading.{ReadingLaw};
-ghost use Rattle.farm_machine.specs.Weave.{Agrees, CallersLaw, NothingLostLaw, UnreadLaw, weave};
+ghost use Rattle.farm_machine.specs.Weave.{CallersLaw, NothingLostLaw, UnreadLaw};
 
 /// The farm machine: after every list of steps that it may make, and so at every front of one, the calls are
 /// a legal history, the jobs drawn are those begun or returned, a worker has at most one begun job, a begun
@@ -19,7 +14,7 @@ pub fn machine_law()
 {}
 
 /// The law of the weave: where calls agree with reports that are courses, what is woven of them is a run, and
-/// every grant was given back. The weave has all calls and all that each job does, and nothing else.
+/// every grant was given back. The weave has all calls, all that each job does, and its return, and nothing else.
 pub fn weave_law()
     ensures run { WeaveLaw }
     ensures back { AllBackLaw }
@@ -37,14 +32,4 @@ pub fn callers_law()
 pub fn unread_law()
     ensures alike { UnreadLaw }
     ensures read { ReadingLaw }
-{}
-
-/// An example that computes: two workers, one host with one slot, three jobs and one refused take. Its reports
-/// are courses of its jobs' commands, its calls agree with them, and what is woven of both is the list of steps
-/// that docs/farm.md shows, which is a run.
-pub fn example()
-    ensures courses { (j : ℕ) → j < limits.jobs → Course (jobs j) (reports.acts j) (reports.ends j) }
-    ensures agrees { Agrees limits reports (wanted limits) calls }
-    ensures woven { weave calls reports ≡ steps }
-    ensures run { FarmRun (farm_of limits jobs) limits steps }
 {}

@@ -95,6 +95,13 @@ acts_in j (Calls e ∷ steps) = met_by j (job_call_of e) ++ acts_in j steps
 acts_in j (Does i d ∷ steps) = cond (nat_eq i j) (Did d ∷ []) [] ++ acts_in j steps
 acts_in j (Returns i end ∷ steps) = acts_in j steps
 
+-- the ends with which this job returns in the steps
+abbrev pub ends_in : ℕ → List FarmStep → List End
+ends_in j [] = []
+ends_in j (Calls e ∷ steps) = ends_in j steps
+ends_in j (Does i d ∷ steps) = ends_in j steps
+ends_in j (Returns i end ∷ steps) = cond (nat_eq i j) (end ∷ []) [] ++ ends_in j steps
+
 -- a begun job has one act more
 abbrev pub with_act : JobState → Act → JobState
 with_act NotBegun act = NotBegun

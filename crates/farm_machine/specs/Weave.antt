@@ -6,7 +6,7 @@ use Rattle.slot_table.specs.declared.calls.CallEntry.{CallEntry}
 use Rattle.slot_table.specs.History.{IsLegal, calls_by, jobs_drawn}
 use Rattle.farm_machine.specs.declared.reports.End.{End}
 use Rattle.farm_machine.specs.Acts.{SlotEvent, Takes, FindsDown, TakesLocal, Act, Did, Met, slots_of, next_met, after_met}
-use Rattle.farm_machine.specs.Machine.{SlotKind, HostSlot, LocalSlot, JobCall, Draws, Adds, Waits, Mismatched, job_call_of, Wants, MaskIs, set_at, FarmStep, Calls, Does, Returns, calls_in, acts_in}
+use Rattle.farm_machine.specs.Machine.{SlotKind, HostSlot, LocalSlot, JobCall, Draws, Adds, Waits, Mismatched, job_call_of, Wants, MaskIs, set_at, FarmStep, Calls, Does, Returns, calls_in, acts_in, ends_in}
 
 -- the reports of all jobs, as they are read: of each job its worker, its acts and its end
 pub record Reports : Type 0 where
@@ -115,10 +115,12 @@ weave_from r p (e ∷ es) = Calls e ∷ (steps_behind r (next_progress p e) (job
 abbrev pub weave : List CallEntry → Reports → List FarmStep
 weave calls r = weave_from r (no_progress r) calls
 
--- The weave leaves out nothing and adds nothing: its calls are the calls, and in it each job does exactly its report's acts, in order.
+-- The weave leaves out nothing and adds nothing: its calls are the calls, and in it each job does exactly its report's acts, in order, and
+-- returns once, with its report's end.
 pub record HasAll {h : ℕ} (l : Limits h) (r : Reports) (es : List CallEntry) (steps : List FarmStep) : Type 0 where
   pub calls : calls_in steps ≡ es
   pub acts : (j : ℕ) → j < l.jobs → acts_in j steps ≡ r.acts j
+  pub ends : (j : ℕ) → j < l.jobs → ends_in j steps ≡ r.ends j ∷ []
 
 abbrev pub NothingLostLaw : Type 0
 NothingLostLaw = (h : ℕ) (l : Limits h) (r : Reports) (wants : Wants) (calls : List CallEntry)

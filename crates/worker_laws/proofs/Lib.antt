@@ -1,4 +1,6 @@
 pub mod Worker
 pub mod Drivers
 pub mod Reported
-pub mod Examples
+pub mod ExampleCalls
+pub mod ExampleCourses
+pub mod ExampleWorkers

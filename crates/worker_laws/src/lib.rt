@@ -1,10 +1,15 @@
 //! What the calls of one worker say of its jobs, and those of all workers of the farm.
 #![tactic(auto)]
 
+ghost use Rattle.std.specs.Prelude.{◌≡◌, ℕ, ◌<◌};
+ghost use Rattle.farm_machine.specs.Course.{Course};
 ghost use Rattle.farm_machine.specs.Driver.{AllWorked, DriverLaw, WorkersRun, WorkersRunLaw};
 ghost use Rattle.farm_machine.specs.Example.{calls, jobs, limits};
-ghost use Rattle.farm_machine.specs.Farm.{wanted};
+ghost use Rattle.farm_machine.specs.ExampleRun.{reports, steps};
+ghost use Rattle.farm_machine.specs.Farm.{farm_of, wanted};
+ghost use Rattle.farm_machine.specs.Machine.{FarmRun};
 ghost use Rattle.farm_machine.specs.Own.{ServesMoreLaw, WorkerLaw};
+ghost use Rattle.farm_machine.specs.Weave.{Agrees, weave};
 ghost use Rattle.worker_laws.specs.Example.{done_by};
 
 /// One worker: where its calls are its jobs, one after another until a draw answers none, they agree with its
@@ -22,9 +27,15 @@ pub fn driver_law()
     ensures run { WorkersRunLaw }
 {}
 
-/// The example of `farm_laws` once more: each of its two workers did one job after another until a draw answered
-/// none, and so they leave a run.
+/// An example that computes: two workers, one host with one slot, three jobs and one refused take. Its reports
+/// are courses of its jobs' commands, its calls agree with them, and what is woven of both is the list of steps
+/// that docs/farm.md shows, which is a run. Each worker did one job after another until a draw answered none, so
+/// that the laws above lead to a run too.
 pub fn example()
+    ensures courses { (j : ℕ) → j < limits.jobs → Course (jobs j) (reports.acts j) (reports.ends j) }
+    ensures agrees { Agrees limits reports (wanted limits) calls }
+    ensures woven { weave calls reports ≡ steps }
+    ensures run { FarmRun (farm_of limits jobs) limits steps }
     ensures worked { AllWorked (wanted limits) 2 done_by calls }
-    ensures run { WorkersRun limits jobs 2 done_by calls }
+    ensures workers { WorkersRun limits jobs 2 done_by calls }
 {}

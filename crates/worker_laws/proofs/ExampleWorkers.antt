@@ -7,8 +7,8 @@ use Rattle.slot_table.specs.History.{entry, calls_by}
 use Rattle.farm_machine.specs.Driver.{AllWorked, WorkedOff, DidCourses, WorkersRun}
 use Rattle.farm_machine.specs.Farm.{wanted}
 use Rattle.farm_machine.specs.Example.{limits, jobs, all_hosts, calls}
-use Rattle.farm_laws.proofs.Examples.{mask-is, agrees}
-use Rattle.farm_laws.proofs.ExampleCourses.{is-of, courses}
+use Rattle.worker_laws.proofs.ExampleCalls.{mask-is, agrees}
+use Rattle.worker_laws.proofs.ExampleCourses.{is-of, courses}
 use Rattle.worker_laws.specs.Example.{done_by}
 use Rattle.worker_laws.proofs.Reported.{workers-run}
 

@@ -21,7 +21,7 @@ use Rattle.farm_machine.specs.Course.{Send, Lent, Sent, Finish, Over, IsBegunWit
 use Rattle.farm_machine.specs.Farm.{farm_of, IsOf}
 use Rattle.farm_machine.specs.Example.{limits, jobs, not_preprocessed, answered, outcome, compiled, acts_of, end_of, calls}
 use Rattle.farm_machine.specs.ExampleRun.{reports, steps}
-use Rattle.farm_laws.proofs.Examples.{agrees}
+use Rattle.worker_laws.proofs.ExampleCalls.{agrees}
 use Rattle.farm_laws.proofs.Farms.{weave-law}
 
 pub is-of : IsOf limits jobs
