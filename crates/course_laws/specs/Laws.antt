@@ -5,17 +5,16 @@ use Rattle.edge_traits.specs.declared.entries.Run.{Run}
 use Rattle.edge_traits.specs.declared.entries.Exchange.{Exchange}
 use Rattle.edge_traits.specs.declared.entries.Put.{Put}
 use Rattle.edge_traits.specs.Deeds.{Deed, ran, exchanged, put}
-use Rattle.arg_strip.specs.Words.{stripped}
-use Rattle.farm_machine.specs.declared.plans.RemotePlan.{RemotePlan}
 use Rattle.farm_machine.specs.declared.reports.By.{By}
 use Rattle.farm_machine.specs.declared.reports.Why5.TheVariants.{Memory}
 use Rattle.farm_machine.specs.declared.reports.End.{End}
 use Rattle.farm_machine.specs.declared.reports.End.TheVariants.{Done, Failed}
 use Rattle.farm_machine.specs.Acts.{SlotEvent, Takes, Gives, GivesBad, FindsDown, Act, Did, Met, slots_of, took, IsOrderly}
-use Rattle.farm_machine.specs.Jobs.{Job, CanRequest, may_be_sent, is_source_ready, output_name, preprocessing_command, compile_command, host_count, host_at, is_local_host}
+use Rattle.farm_machine.specs.Jobs.{Job, CanRequest, may_be_sent, is_source_ready, output_name, compile_command, host_count, host_at, is_local_host}
 use Rattle.farm_machine.specs.Course.{IsRunOf, IsWholeWith, outcome_of, Course}
 use Rattle.farm_machine.specs.Table.{IsSource}
 use Rattle.farm_machine.specs.Numbered.{untimed}
+use Rattle.farm_machine.specs.Plans.{plan_for}
 use Rattle.farm_machine.specs.RemoteCourse.{RemoteCourse}
 
 -- each slot event of a course comes in its turn, and at the end nothing is out
@@ -30,10 +29,6 @@ DownLaw = (j : Job) (host : ℕ) (acts rest : List Act) (end : End) → host < h
 -- No course has a look at the clock: so its events, numbered on, read as its acts.
 abbrev pub UntimedLaw : Type 0
 UntimedLaw = (j : Job) (acts : List Act) (end : End) → Course j acts end → untimed acts ≡ acts
-
--- the plan of a job whose source is preprocessed here and compiled by a host
-abbrev pub plan_for : Job → RemotePlan
-plan_for j = record { preprocess = preprocessing_command j; words = stripped j.words; output = output_name j }
 
 -- A job that asks this one host, which isn't local: its command may be sent, its source isn't preprocessed yet, it has
 -- one try, and no compile here stands in for a host's.
@@ -64,7 +59,7 @@ GivesBack host give = (give ≡ Gives host) ⊎ ((until : ℕ) × (give ≡ Give
 -- The courses by one host and no compile here are exactly the deeds of the courses in which the slots are used so.
 abbrev pub RemoteCourseLaw : Type 0
 RemoteCourseLaw = (j : Job) (host : ℕ) (deeds : List Deed) (end : End) → AsksOneHost j host → RunsFit j deeds
-    → RemoteCourse (plan_for j) (host_at j host) host deeds end
+    → RemoteCourse (plan_for j.words) (host_at j host) host deeds end
     ↔ ((give : SlotEvent) × GivesBack host give × Course j (with_slots host give deeds) end)
 
 -- this act is among these

@@ -9,7 +9,7 @@ use Rattle.farm_types.specs.declared.placed.Word.TheVariants.{Text}
 use Rattle.edge_traits.specs.FileMaps.{IsStaged}
 use Rattle.edge_traits.proofs.StagedPaths.{staged_to}
 use Rattle.farm_machine.specs.declared.plans.RemotePlan.{RemotePlan}
-use Rattle.farm_machine.specs.Plans.{IsReady}
+use Rattle.farm_machine.specs.Plans.{IsReady, plan_for}
 use Rattle.arg_scan.specs.declared.why.Why.TheVariants as why
 use Rattle.arg_scan.specs.Names.{is_reserved}
 use Rattle.arg_scan.specs.Roles.{part_at, word_at}
@@ -18,7 +18,7 @@ use Rattle.arg_scan.specs.Class.{IsRemote}
 use Rattle.arg_strip.specs.Words.{gather, output_of, preprocessing_word, preprocessing_words}
 use Rattle.arg_strip.proofs.Laws.{calm_is, output_calm}
 use Rattle.job_plan.specs.Lines.{IsPlainLine}
-use Rattle.job_plan.specs.Plans.{AsksFor, IsDistributable, plan_for}
+use Rattle.job_plan.specs.Plans.{AsksFor, IsDistributable}
 use Rattle.job_plan.proofs.Reading.{one_reading}
 
 -- what is gathered isn't empty where the first place gives something

@@ -1,11 +1,11 @@
 -- What is to be done for the command that a text asks for.
-use Rattle.std.specs.Prelude.{◌≡◌, ℕ, false, List, [], map}
-use Rattle.farm_types.specs.declared.placed.Word.TheVariants.{Text}
+use Rattle.std.specs.Prelude.{◌≡◌, ℕ, false, List, []}
 use Rattle.farm_types.specs.Fits.{RequestFits}
 use Rattle.farm_machine.specs.declared.plans.RemotePlan.{RemotePlan}
+use Rattle.farm_machine.specs.Plans.{plan_for}
 use Rattle.arg_scan.specs.Names.{is_preprocessed}
 use Rattle.arg_scan.specs.Class.{IsRemote, plan_of}
-use Rattle.arg_strip.specs.Words.{output_of, preprocessing_words, stripped}
+use Rattle.arg_strip.specs.Words.{stripped}
 use Rattle.job_plan.specs.Lines.{IsPlainLine}
 
 -- A host can do the command's compile: the command may be sent, its source is still to be preprocessed, and the words that are
@@ -14,15 +14,6 @@ pub record IsDistributable (words : List (List ℕ)) : Type 0 where
   pub remote : IsRemote words
   pub source : is_preprocessed (plan_of words).ending ≡ false
   pub fits : RequestFits (stripped words) []
-
--- The command's source is preprocessed here, the words that the compile uses are sent, and the object gets the name of the
--- command's output.
-abbrev pub plan_for : List (List ℕ) → RemotePlan
-plan_for words = record {
-  preprocess = map Text (preprocessing_words words);
-  words = stripped words;
-  output = output_of words;
-}
 
 -- the text is one plain line, a host can do its command's compile, and this is its plan
 pub record AsksFor (text : List ℕ) (plan : RemotePlan) : Type 0 where

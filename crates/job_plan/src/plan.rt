@@ -4,8 +4,8 @@ ghost use Rattle.std.specs.Prelude.{◌≡◌, [], map, IfOk, IfNone, IfSome, Ma
 ghost use Rattle.farm_types.specs.declared.placed.Word.TheVariants.{Text};
 ghost use Rattle.farm_types.specs.Fits.{RequestFits};
 ghost use Rattle.farm_machine.specs.declared.plans.RemotePlan.{RemotePlan};
-ghost use Rattle.farm_machine.specs.Plans.{IsReady};
-ghost use Rattle.job_plan.specs.Plans.{AsksFor, IsDistributable, plan_for};
+ghost use Rattle.farm_machine.specs.Plans.{IsReady, plan_for};
+ghost use Rattle.job_plan.specs.Plans.{AsksFor, IsDistributable};
 
 use crate::line::read_line;
 use arg_scan::{output_name, remote_plan};
