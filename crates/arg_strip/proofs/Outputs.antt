@@ -3,7 +3,7 @@ use Rattle.std.proofs.Common.{◌≡◌, ℕ, zero, suc, ◌+◌, ◌-◌, ◌<�
 use Rattle.std.specs.Prelude.{bytes_eq}
 use Rattle.std.specs.List.{slice_get, list_all, ends_with}
 use Rattle.std.proofs.lemmas.List.{same_from_push}
-use Rattle.std.proofs.lemmas.Bool.{false≢true}
+use Rattle.std.proofs.lemmas.Bool.{false≢true, and_parts}
 use Rattle.std.proofs.lemmas.Bool.Decides.{Decides-eqb}
 use Rattle.std.proofs.lemmas.Slice.Eq.{bytes_eq-Decides, ends_is}
 use Rattle.option_table.specs.declared.row.Form.{Form}
@@ -14,7 +14,7 @@ use Rattle.option_table.specs.declared.row.OptionRow.{OptionRow}
 use Rattle.option_table.specs.declared.table.Found.{Found}
 use Rattle.option_table.specs.Rows.{found, row_at}
 use Rattle.option_table.specs.Gcc.{gcc_rows}
-use Rattle.option_table.proofs.Positions.{and_parts, fails_by}
+use Rattle.option_table.proofs.Positions.{fails_by}
 use Rattle.arg_scan.specs.declared.names.Ending.{Ending}
 use Rattle.arg_scan.specs.declared.why.Why.{Why}
 use Rattle.arg_scan.specs.declared.why.Why.TheVariants as why

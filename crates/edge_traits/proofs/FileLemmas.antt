@@ -18,7 +18,7 @@ abbrev made : Listed → Files
 made files = from_entries files
 
 -- two maps that have the same content at each path are one
-same_files : (a b : Files) → ((path : List ℕ) → get a path ≡ get b path) → a ≡ b
+pub same_files : (a b : Files) → ((path : List ℕ) → get a path ≡ get b path) → a ≡ b
 same_files = same_map nat_list_cmp_total (slice_cmp-IsAntisymmetric nat_cmp-IsAntisymmetric)
 
 at_put : (files : Files) (path bytes q : List ℕ) → get (insert files path bytes) q ≡ cond (pointwise nat_eq q path) (Some bytes) (get files q)
@@ -29,7 +29,7 @@ twice_chosen true x y z = refl
 twice_chosen false x y z = refl
 
 -- a second put at a path takes the first one's place
-put-put : (files : Files) (path first second : List ℕ) → insert (insert files path first) path second ≡ insert files path second
+pub put-put : (files : Files) (path first second : List ℕ) → insert (insert files path first) path second ≡ insert files path second
 put-put files path first second = same_files _ _ (λ q.
     at_put _ path second q ∙ ap (λ other. cond (pointwise nat_eq q path) (Some second) other) (at_put files path first q)
     ∙ twice_chosen (pointwise nat_eq q path) _ _ _ ∙ sym (at_put files path second q))

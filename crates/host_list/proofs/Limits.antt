@@ -2,7 +2,7 @@
 use Rattle.std.proofs.Common.{◌≡◌, ℕ, ◌≤◌, Bool, true, false, cond, List, [], ◌∷◌, length, Option, Some, None, Result, Ok, Err, refl, ap, sym, subst, inl, inr, arith}
 use Rattle.std.specs.Prelude.{codes, IfOk, All, unwrap_or}
 use Rattle.std.specs.Str.{bytes_eq}
-use Rattle.std.proofs.lemmas.Bool.{false≢true}
+use Rattle.std.proofs.lemmas.Bool.{false≢true, and_parts}
 use Rattle.std.proofs.lemmas.Slice.Eq.{bytes_eq-Decides}
 use Rattle.std.proofs.lemmas.List.Elements.{All-nil, All-cons}
 use Rattle.farm_types.specs.declared.hosts.Host.{Host}
@@ -14,7 +14,6 @@ use Rattle.host_list.specs.Names.{IsHostName, IsNumber}
 use Rattle.host_list.specs.TextWords.{TextWord}
 use Rattle.host_list.specs.HostWords.{SpellsHost, SpellsParts, host_of, is_local}
 use Rattle.host_list.specs.HostLists.{HostWords, entries_of, last_slots, last_cpp, hosts_of, HostListOf, IsHost, AreHosts}
-use Rattle.host_list.proofs.PartReading.{both_true}
 
 abbrev InRange : ℕ → Option ℕ → Type 0
 InRange most None = Unit {0}
@@ -35,8 +34,8 @@ default_limit true = (omega arith, omega arith)
 default_limit false = (omega arith, omega arith)
 
 local_name : (name : List ℕ) (port : Option ℕ) → is_local name port ≡ true → (name ≡ codes "localhost") × (port ≡ None)
-local_name name None h = let two = both_true (bytes_eq name (codes "localhost")) true h in ((bytes_eq-Decides name (codes "localhost")).0 two.0, refl)
-local_name name (Some port) h = let two = both_true (bytes_eq name (codes "localhost")) false h in absurd (false≢true two.1)
+local_name name None h = let two = and_parts (bytes_eq name (codes "localhost")) true h in ((bytes_eq-Decides name (codes "localhost")).0 two.0, refl)
+local_name name (Some port) h = let two = and_parts (bytes_eq name (codes "localhost")) false h in absurd (false≢true two.1)
 
 port_of : (port : Option ℕ) → InRange 65535 port → (1 ≤ unwrap_or port 3632) × (unwrap_or port 3632 ≤ 65535)
 port_of None h = (omega arith, omega arith)

@@ -4,7 +4,7 @@ use Rattle.std.specs.Prelude.{◌==◌, nat_lt, nat_le, MatchBool, IsSome, ◌�
 use Rattle.std.specs.Char.{digit_value}
 use Rattle.std.specs.List.{AllPass}
 use Rattle.std.specs.Str.Parse.{AllDigits, digits_value}
-use Rattle.std.proofs.lemmas.Bool.{cases_Bool, false≢true}
+use Rattle.std.proofs.lemmas.Bool.{cases_Bool, false≢true, and_parts}
 use Rattle.std.proofs.lemmas.Bool.Decides.{nat_tests}
 use Rattle.std.proofs.lemmas.List.{append_assoc, append-nil, length-append}
 use Rattle.std.proofs.lemmas.List.Elements.{All-head, All-tail, All-from_get_or}
@@ -15,10 +15,6 @@ use Rattle.host_list.specs.HostWords.{SpellsParts, SpellsPort, SpellsLimit, Part
 use Rattle.host_list.proofs.Numbers.{digit_at}
 
 -- ---- tests
-
-pub both_true : (a b : Bool) → (a && b) ≡ true → (a ≡ true) × (b ≡ true)
-both_true true b h = (refl, h)
-both_true false b h = absurd (false≢true h)
 
 -- a choice by a test
 pub chosen : {A : Type 0} (b : Bool) (P Q : Type 0) (x y r : A) → MatchBool b P Q → (b ≡ true → P → x ≡ r) → (Q → y ≡ r) → cond b x y ≡ r
@@ -40,7 +36,7 @@ all_digits-true (c ∷ cs) h =
 true-all_digits : (cs : List ℕ) → all_digits cs ≡ true → AllDigits 10 cs
 true-all_digits [] h = tt
 true-all_digits (c ∷ cs) h =
-    let two = both_true (nat_lt (digit_value c) 10) (all_digits cs) h in
+    let two = and_parts (nat_lt (digit_value c) 10) (all_digits cs) h in
     let here = two.0 in
     (grind (arith, nat_tests), true-all_digits cs two.1)
 
@@ -74,10 +70,10 @@ number_none most greatest digits wrong =
     let v : ℕ = digits_value 10 digits in
     ⊎_elim
     (λ yes.
-    let a = both_true (nat_le 1 (length digits)) _ yes in
-    let b = both_true (nat_le (length digits) most) _ a.1 in
-    let c = both_true (all_digits digits) _ b.1 in
-    let d = both_true (nat_le 1 v) (nat_le v greatest) c.1 in
+    let a = and_parts (nat_le 1 (length digits)) _ yes in
+    let b = and_parts (nat_le (length digits) most) _ a.1 in
+    let c = and_parts (all_digits digits) _ b.1 in
+    let d = and_parts (nat_le 1 v) (nat_le v greatest) c.1 in
     absurd (wrong v (record { some = true_le 1 (length digits) a.0; few = true_le (length digits) most b.0; each = true-all_digits digits c.0; value = refl; low = true_le 1 v d.0; high = true_le v greatest d.1 })))
     (λ none. rw none refl)
     (cases_Bool (is_number most greatest digits))

@@ -5,7 +5,7 @@ use Rattle.std.specs.List.{AllPass, list_all, flat_map}
 use Rattle.std.specs.Fmt.{decimal}
 use Rattle.std.specs.Char.{digit_value}
 use Rattle.std.specs.Str.{bytes_eq}
-use Rattle.std.proofs.lemmas.Bool.{cases_Bool}
+use Rattle.std.proofs.lemmas.Bool.{cases_Bool, and_parts}
 use Rattle.std.proofs.lemmas.Bool.Decides.{nat_tests}
 use Rattle.std.proofs.lemmas.Fmt.{decimal_is_IsNumeral, decimal-digits_of}
 use Rattle.std.proofs.lemmas.Int.Digits.{length-digits_of-le}
@@ -23,7 +23,6 @@ use Rattle.host_list.specs.HostWords.{HostWord, SpellsHost, is_local}
 use Rattle.host_list.specs.HostLists.{HostWords, entries_of, last_slots, last_cpp, asks_randomize, hosts_of, HostListOf, IsHost, AreHosts, host_line, slots_line, options_text, printed}
 use Rattle.host_list.proofs.Numbers.{digit_at}
 use Rattle.host_list.proofs.Cutting.{in_word, word_cut, are_words}
-use Rattle.host_list.proofs.PartReading.{both_true}
 use Rattle.host_list.proofs.WordReading.{is_host_byte, host_bytes}
 
 -- ---- numbers
@@ -118,7 +117,7 @@ digit_in_word c h = grind (arith, nat_tests)
 
 all_test : (p : ℕ → Bool) (xs : List ℕ) → list_all p xs ≡ true → AllPass p xs
 all_test p [] h = All-nil (λ c. p c ≡ true)
-all_test p (x ∷ xs) h = let two = both_true (p x) (list_all p xs) h in All-cons (λ c. p c ≡ true) x xs two.0 (all_test p xs two.1)
+all_test p (x ∷ xs) h = let two = and_parts (p x) (list_all p xs) h in All-cons (λ c. p c ≡ true) x xs two.0 (all_test p xs two.1)
 
 decimal_in_word : (n : ℕ) → n < 2 ^ 64 → AllPass in_word (decimal n)
 decimal_in_word n fits =

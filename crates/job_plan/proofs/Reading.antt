@@ -3,7 +3,7 @@ use Rattle.std.proofs.Common.{◌≡◌, ℕ, ◌<◌, ◌≤◌, ◌==◌, Bool
 use Rattle.std.specs.Prelude.{All}
 use Rattle.std.specs.List.{join_with_byte, list_all, slice_split}
 use Rattle.std.specs.Str.{IsUtf8}
-use Rattle.std.proofs.lemmas.Bool.{false≢true}
+use Rattle.std.proofs.lemmas.Bool.{false≢true, and_parts}
 use Rattle.std.proofs.lemmas.Bool.Decides.{eqb_tells}
 use Rattle.std.proofs.lemmas.List.{same_from_push}
 use Rattle.std.proofs.lemmas.List.Elements.{All-nil, All-cons}
@@ -17,10 +17,6 @@ is_space b = b == 32
 abbrev pub parts : List ℕ → List (List ℕ)
 parts line = slice_split is_space line
 
-both : (a b : Bool) → (a && b) ≡ true → (a ≡ true) × (b ≡ true)
-both true b h = (refl, h)
-both false b h = cc
-
 plain_differs : (b : ℕ) → is_plain_byte b ≡ true → is_space b ≡ false
 plain_differs b plain = elim (eqb_tells b 32) [
   | inl h ↦ absurd (false≢true (subst (λ x. is_plain_byte x ≡ true) h.1 plain))
@@ -30,20 +26,20 @@ plain_differs b plain = elim (eqb_tells b 32) [
 plain_bytes : (word : List ℕ) → list_all is_plain_byte word ≡ true → All (λ b. is_space b ≡ false) word
 plain_bytes [] h = All-nil (λ b. is_space b ≡ false)
 plain_bytes (b ∷ word) h =
-    let k = both (is_plain_byte b) (list_all is_plain_byte word) h in
+    let k = and_parts (is_plain_byte b) (list_all is_plain_byte word) h in
     All-cons (λ b. is_space b ≡ false) b word (plain_differs b k.0) (plain_bytes word k.1)
 
 -- a plain word has no space
 plain_word : (word : List ℕ) → is_plain_word word ≡ true → All (λ b. is_space b ≡ false) word
-plain_word word h = plain_bytes word (both (not (length word == 0)) (list_all is_plain_byte word) h).1
+plain_word word h = plain_bytes word (and_parts (not (length word == 0)) (list_all is_plain_byte word) h).1
 
 -- plain words are the parts of the text that they are joined to
 parts-join : (words : List (List ℕ)) → 0 < length words → list_all is_plain_word words ≡ true → parts (join_with_byte 32 words) ≡ words
 parts-join [] some plain = absurd (omega arith)
 parts-join (word ∷ []) some plain =
-    slice_split_none is_space word (plain_word word (both (is_plain_word word) true plain).0)
+    slice_split_none is_space word (plain_word word (and_parts (is_plain_word word) true plain).0)
 parts-join (word ∷ next ∷ more) some plain =
-    let k = both (is_plain_word word) (list_all is_plain_word (next ∷ more)) plain in
+    let k = and_parts (is_plain_word word) (list_all is_plain_word (next ∷ more)) plain in
     slice_split_at is_space word 32 (join_with_byte 32 (next ∷ more)) (plain_word word k.0) refl
     ∙ ap (λ l. word ∷ l) (parts-join (next ∷ more) (omega arith) k.1)
 

@@ -1,4 +1,4 @@
--- Files as a map: two that answer alike are one, and what one write after another gives.
+-- Files as a map: what one write or removal after another gives.
 use Rattle.std.proofs.Common.{◌≡◌, ℕ, Bool, true, false, cond, not, List, refl, ◌∙◌, sym, ap}
 use lib.Pointwise.{pointwise}
 use Rattle.std.specs.Prelude.{nat_eq, Option, Some, None, ◌++◌, [], unwrap_or}
@@ -6,8 +6,9 @@ use Rattle.std.specs.Ordering.{nat_cmp, eq_by_cmp, is_eq}
 use Rattle.std.specs.declared.cmp.Ordering.TheVariants.{Less, Equal, Greater}
 use Rattle.std.specs.Cmp.{eq_by_cmp_equiv}
 use Rattle.std.specs.Cmp.Lexicographic.{slice_cmp, nat_list_cmp_total, texts_ties}
-use Rattle.std.specs.FinMap.{get, insert, remove, retain_keys, same_map, get-insert, get-remove, get-retain_keys, slice_cmp-IsAntisymmetric, nat_cmp-IsAntisymmetric}
+use Rattle.std.specs.FinMap.{get, insert, remove, retain_keys, get-insert, get-remove, get-retain_keys, slice_cmp-IsAntisymmetric, nat_cmp-IsAntisymmetric}
 use Rattle.edge_traits.specs.FileMaps.{Files}
+use Rattle.edge_traits.proofs.FileLemmas.{same_files, put-put}
 use Rattle.object_delivery.specs.FileViews.{appended, with_moved, moved_file}
 
 -- the names are one
@@ -17,9 +18,6 @@ is_name q name = eq_by_cmp (slice_cmp nat_cmp) q name
 -- of a value that is dropped where a test holds
 abbrev pub unless : Bool → Option (List ℕ) → Option (List ℕ)
 unless test content = cond test None content
-
-pub same_files : (a b : Files) → ((q : List ℕ) → get a q ≡ get b q) → a ≡ b
-same_files a b is = same_map nat_list_cmp_total (slice_cmp-IsAntisymmetric nat_cmp-IsAntisymmetric) a b is
 
 pub one_name : (q name : List ℕ) → is_name q name ≡ true → q ≡ name
 one_name q name is =
@@ -45,14 +43,6 @@ at_retain files test q = get-retain_keys files test q (λ x tie. ap test (sym (s
 pub at_written : (files : Files) (name bytes : List ℕ) → get (insert files name bytes) name ≡ Some bytes
 at_written files name bytes = at_insert files name bytes name ∙ ap (λ b. cond b (Some bytes) (get files name)) (same_name name)
 
--- the last of two writes counts
-pub insert-insert : (files : Files) (name first second : List ℕ) → insert (insert files name first) name second ≡ insert files name second
-insert-insert files name first second = same_files _ _ (λ q.
-    at_insert (insert files name first) name second q
-    ∙ ap (λ content. cond (is_name q name) (Some second) content) (at_insert files name first q)
-    ∙ elim (is_name q name) as (λ b. cond b (Some second) (cond b (Some first) (get files q)) ≡ cond b (Some second) (get files q)) [ true ↦ refl | false ↦ refl ]
-    ∙ sym (at_insert files name second q))
-
 -- a removal after a write
 pub remove-insert : (files : Files) (name bytes : List ℕ) → remove (insert files name bytes) name ≡ remove files name
 remove-insert files name bytes = same_files _ _ (λ q.
@@ -72,7 +62,7 @@ remove-remove files name = same_files _ _ (λ q.
 pub appended-insert : (files : Files) (name first second : List ℕ) → appended (insert files name first) name second ≡ insert files name (first ++ second)
 appended-insert files name first second =
     ap (λ content. insert (insert files name first) name (unwrap_or content [] ++ second)) (at_written files name first)
-    ∙ insert-insert files name first (first ++ second)
+    ∙ put-put files name first (first ++ second)
 
 -- a file that was just written gets another name
 pub moved_file-insert : (files : Files) (from to bytes : List ℕ) → moved_file (insert files from bytes) from to ≡ insert (remove files from) to bytes

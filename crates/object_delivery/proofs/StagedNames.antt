@@ -6,7 +6,8 @@ use Rattle.std.proofs.lemmas.Bool.Decides.{Decides-eqb}
 use Rattle.std.specs.FinMap.{get, insert, remove}
 use Rattle.edge_traits.specs.FileMaps.{Files, IsStaged}
 use Rattle.object_delivery.specs.Staging.{staged, ending, is_staged, finished, delivered}
-use Rattle.object_delivery.proofs.FileMapLemmas.{is_name, unless, same_files, one_name, at_insert, at_remove, at_retain}
+use Rattle.edge_traits.proofs.FileLemmas.{same_files}
+use Rattle.object_delivery.proofs.FileMapLemmas.{is_name, unless, one_name, at_insert, at_remove, at_retain}
 
 pub is_staged-staged : (path : List ℕ) → is_staged (staged path) ≡ true
 is_staged-staged path = (ends_is Decides-eqb (staged path) ending _ refl).1 path refl

@@ -4,7 +4,7 @@ use Rattle.std.specs.Option.{option_or}
 use Rattle.std.proofs.lemmas.Grind.{common_steps}
 use Rattle.std.specs.Prelude.{bytes_eq, IsNone}
 use Rattle.std.specs.List.{list_all, list_any, position}
-use Rattle.std.proofs.lemmas.Bool.{false≢true}
+use Rattle.std.proofs.lemmas.Bool.{false≢true, and_parts, and_from}
 use Rattle.std.proofs.lemmas.Bool.Decides.{Decides-eqb, leb_tells}
 use Rattle.std.proofs.lemmas.List.Folds.{list_any_at, list_any_none, list_all_at}
 use Rattle.std.proofs.lemmas.List.Elements.{All-get_or, All-from_get_or}
@@ -14,7 +14,7 @@ use Rattle.option_table.specs.declared.row.Form.TheVariants as form
 use Rattle.option_table.specs.declared.row.Effect.TheVariants as effect
 use Rattle.option_table.specs.declared.row.OptionRow.{OptionRow}
 use Rattle.option_table.specs.Rows.{row, row_at, is_used, fits_equal, fits_begin, fits_longest, fits_not, place_of, are_distinct, FitsAt}
-use Rattle.option_table.proofs.Positions.{and_parts, position_passes, position_fails}
+use Rattle.option_table.proofs.Positions.{position_passes, position_fails}
 
 abbrev nowhere : OptionRow
 nowhere = row [] form.None effect.Keep
@@ -22,10 +22,7 @@ nowhere = row [] form.None effect.Keep
 later_differs : (r : OptionRow) (rows : List OptionRow) (j : ℕ) → not (is_used r && list_any (λ other. bytes_eq r.spelling other.spelling) rows) ≡ true → is_used r ≡ true → j < length rows → bytes_eq r.spelling (get_or rows j nowhere).spelling ≡ true → ⊥
 later_differs r rows j apart used within same =
     let any = list_any_at (λ other. bytes_eq r.spelling other.spelling) rows j nowhere within same in
-    false≢true (sym (ap not (both _ _ used any)) ∙ apart)
-  where
-    both : (a b : Bool) → a ≡ true → b ≡ true → (a && b) ≡ true
-    both a b h k = cc
+    false≢true (sym (ap not (and_from _ _ used any)) ∙ apart)
 
 swapped : (x y : List ℕ) → bytes_eq x y ≡ true → bytes_eq y x ≡ true
 swapped x y h = (bytes_eq-Decides y x).1 (sym ((bytes_eq-Decides x y).0 h))

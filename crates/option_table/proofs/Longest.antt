@@ -4,13 +4,13 @@ use Rattle.std.specs.List.{list_all, position}
 use Rattle.std.proofs.lemmas.List.Sums.{list_all-from_AllPass}
 use Rattle.std.proofs.lemmas.List.Folds.{list_all_at}
 use Rattle.std.proofs.lemmas.List.Elements.{All-from_get_or}
-use Rattle.std.proofs.lemmas.Bool.{false≢true}
+use Rattle.std.proofs.lemmas.Bool.{false≢true, and_parts}
 use Rattle.std.proofs.lemmas.Bool.Decides.{Decides-ltb, nat_tests}
 use Rattle.option_table.specs.declared.row.Form.TheVariants as form
 use Rattle.option_table.specs.declared.row.Effect.TheVariants as effect
 use Rattle.option_table.specs.declared.row.OptionRow.{OptionRow}
 use Rattle.option_table.specs.Rows.{fits_begin, fits_longest, row, row_at}
-use Rattle.option_table.proofs.Positions.{and_parts, fails_by, position_is, position_none}
+use Rattle.option_table.proofs.Positions.{fails_by, position_is, position_none}
 
 -- the length of the spelling at a place
 abbrev pub len_at : List OptionRow → ℕ → ℕ
