@@ -1,1 +1,5 @@
 mod ChildLemmas
+mod KitLemmas
+mod KnownLemmas
+mod ReadLemmas
+mod WordLemmas

@@ -1,10 +1,20 @@
--- What a run of a program that came to nothing may answer.
-use Rattle.std.specs.Prelude.{◌≡◌, ℕ, ◌<◌}
+-- What a program is given, and what a run of it that came to nothing may answer.
+use Rattle.std.specs.Prelude.{◌≡◌, ℕ, ◌<◌, ◌==◌, Bool, true, false, List, [], ◌∷◌, map, Option, None, Some, codes, if◌then◌else◌}
+use Rattle.std.specs.List.{list_any}
+use Rattle.std.specs.Option.{option_map}
+use Rattle.std.specs.Str.{IsUtf8}
+use Rattle.std.specs.Process.{command_program, command_args, command_var, command_dir, clears_env}
+use Rattle.std.specs.declared.process.command.Command.{Command}
+use Rattle.farm_types.specs.declared.placed.Ext.{Ext}
+use Rattle.farm_types.specs.declared.placed.Ext.TheVariants.{I, Ii}
+use Rattle.farm_types.specs.declared.placed.Word.{Word}
+use Rattle.farm_types.specs.declared.placed.Word.TheVariants.{Text, Input, Output}
 use Rattle.edge_traits.specs.declared.faults.Bounds.{Bounds}
 use Rattle.edge_traits.specs.declared.faults.Stream.{Stream}
 use Rattle.edge_traits.specs.declared.faults.StationFault.{StationFault}
 use Rattle.edge_traits.specs.declared.faults.StationFault.TheVariants.{Failed, TooMuch, Memory}
 use Rattle.edge_traits.specs.Stations.{bound_of}
+use Rattle.edge_real.specs.OwnNames.{NamesView, own_name}
 
 -- a stream that is named is above its bound
 abbrev pub IsRunFault : Bounds → StationFault → Type 0
@@ -23,3 +33,50 @@ abbrev pub NamesNoStream : StationFault → Type 0
 NamesNoStream Failed = Unit {0}
 NamesNoStream (TooMuch stream bytes) = ⊥
 NamesNoStream Memory = Unit {0}
+
+-- a word as the program is given it: its text, or the name of the file that it stands for
+abbrev pub given_word : List ℕ → List ℕ → Word → List ℕ
+given_word source object (Text bytes) = bytes
+given_word source object (Input ext) = source
+given_word source object Output = object
+
+-- A text can be given that is UTF-8 and has no zero byte.
+abbrev pub CanBeGiven : Word → Type 0
+CanBeGiven (Text bytes) = IsUtf8 bytes × (list_any (λ b. b == 0) bytes ≡ false)
+CanBeGiven (Input ext) = Unit {0}
+CanBeGiven Output = Unit {0}
+
+-- the words' program with their arguments, in this process's environment and folder
+pub record IsCommandOf {A : Type 0} (words : List Word) (source object : List ℕ) (command : Command A) : Type 0 where
+  pub words_given : command_program command ∷ command_args command ≡ map (given_word source object) words
+  pub environment : clears_env command ≡ false
+  pub variables : (name : List ℕ) → command_var command name ≡ None
+  pub folder : command_dir command ≡ None
+
+-- the first of the words that stands for the input
+abbrev pub first_input : List Word → Option Ext
+first_input [] = None
+first_input (Text bytes ∷ words) = first_input words
+first_input (Input ext ∷ words) = Some ext
+first_input (Output ∷ words) = first_input words
+
+abbrev pub is_output : Word → Bool
+is_output (Text bytes) = false
+is_output (Input ext) = false
+is_output Output = true
+
+-- one of the words stands for the object
+abbrev pub has_output : List Word → Bool
+has_output words = list_any is_output words
+
+-- the ending of a name
+abbrev pub ending_text : Ext → List ℕ
+ending_text I = codes "i"
+ending_text Ii = codes "ii"
+
+-- the name of the file that stands for the input, if one does, and so of the file that stands for the object
+abbrev pub input_name : NamesView → List Word → Option (List ℕ)
+input_name names words = option_map (λ ext. own_name names (ending_text ext)) (first_input words)
+
+abbrev pub output_name : NamesView → List Word → Option (List ℕ)
+output_name names words = if has_output words then Some (own_name names (codes "o")) else None

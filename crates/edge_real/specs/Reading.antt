@@ -1,5 +1,5 @@
 -- What reading a stream to its end gave.
-use Rattle.std.specs.Prelude.{ℕ, ◌<◌, ◌≤◌, length}
+use Rattle.std.specs.Prelude.{◌≡◌, ℕ, ◌-◌, ◌^◌, ◌<◌, ◌≤◌, min, List, length, Option, IfSome}
 use Rattle.edge_traits.specs.declared.faults.FetchFault.{FetchFault}
 use Rattle.edge_traits.specs.declared.faults.FetchFault.TheVariants.{Failed as LoadFailed, Absent, TooMuch, Memory}
 use Rattle.edge_real.specs.declared.reading.Reading.{Reading}
@@ -10,6 +10,12 @@ abbrev pub IsReadWithin : ℕ → Reading → Type 0
 IsReadWithin bound (Whole bytes) = length bytes ≤ bound
 IsReadWithin bound (Over bytes) = bound < bytes
 IsReadWithin bound Failed = Unit {0}
+
+-- Where the stream's bytes are known, these are its bytes, or so many are its bytes, up to the greatest u64.
+abbrev pub IsReadOf : Option (List ℕ) → Reading → Type 0
+IsReadOf known (Whole bytes) = IfSome known (λ all. bytes ≡ all)
+IsReadOf known (Over bytes) = IfSome known (λ all. bytes ≡ min (length all) (2 ^ 64 - 1))
+IsReadOf known Failed = Unit {0}
 
 -- a load that came to nothing for the file's length names one above the bound
 abbrev pub IsLoadFault : ℕ → FetchFault → Type 0

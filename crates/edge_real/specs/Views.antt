@@ -1,18 +1,26 @@
 -- What the devices of the system show: how they stand and their counts, but no content.
 use Rattle.std.specs.Prelude.{ℕ, Bool, []}
 use Rattle.std.specs.FinMap.{empty}
+use Rattle.std.specs.Option.{is_some}
+use Rattle.std.specs.Net.Addr.{ipv4_bits}
+use Rattle.std.specs.Net.Socket.{v4_ip}
+use Rattle.std.specs.declared.net.socket_addr.SocketAddr.{SocketAddr}
+use Rattle.std.specs.declared.net.socket_addr.SocketAddr.TheVariants.{V4, V6}
 use Rattle.edge_traits.specs.Told.{untold}
 use Rattle.edge_traits.specs.Links.{LinkView}
 use Rattle.edge_traits.specs.Dialers.{DialerView}
 use Rattle.edge_traits.specs.Doors.{DoorView}
 use Rattle.edge_traits.specs.Stations.{StationView}
+use Rattle.edge_traits.specs.Clocks.{ClockView}
 use Rattle.edge_traits.specs.Sources.{SourceView}
 use Rattle.edge_traits.specs.Sinks.{SinkView}
 use Rattle.object_delivery.specs.FileViews.{FilesView}
 use Rattle.edge_real.specs.declared.tcp.TcpLink.{TcpLink}
 use Rattle.edge_real.specs.declared.tcp.TcpDialer.{TcpDialer}
 use Rattle.edge_real.specs.declared.door.TcpDoor.{TcpDoor}
+use Rattle.edge_real.specs.OwnNames.{NamesView, names_view}
 use Rattle.edge_real.specs.declared.child.ChildStation.{ChildStation}
+use Rattle.edge_real.specs.declared.clock.WallClock.{WallClock}
 use Rattle.edge_real.specs.declared.disk.DiskFiles.{DiskFiles}
 use Rattle.edge_real.specs.declared.stream.StdSource.{StdSource}
 use Rattle.edge_real.specs.declared.stream.StdSink.{StdSink}
@@ -41,17 +49,38 @@ counted_door faults = record { visits = untold []; peers = untold []; faults = f
 abbrev pub door_view : {L : Type 0} → TcpDoor L → DoorView
 door_view door = counted_door door.faults
 
+-- the door has a listener
+abbrev pub is_listening : {L : Type 0} → TcpDoor L → Bool
+is_listening door = is_some door.listener
+
+-- the peer's IPv4 address as a number, and 0 for another kind of address
+abbrev pub peer_bits : SocketAddr → ℕ
+peer_bits (V4 peer) = ipv4_bits (v4_ip peer)
+peer_bits (V6 peer) = 0
+
 abbrev pub counted_station : ℕ → ℕ → StationView
 counted_station faults overruns = record { runs = untold []; faults = faults; overruns = overruns }
 
 abbrev pub station_view : {R : Type 0} → ChildStation R → StationView
 station_view station = counted_station station.faults station.overruns
 
+-- the names of a station's own files
+abbrev pub names_of : {R : Type 0} → ChildStation R → NamesView
+names_of station = names_view station.names
+
 abbrev pub counted_files : ℕ → ℕ → FilesView
 counted_files faults overruns = record { files = untold empty; faults = faults; overruns = overruns }
 
 abbrev pub files_view : {R : Type 0} → DiskFiles R → FilesView
 files_view files = counted_files files.faults files.overruns
+
+-- a clock doesn't tell what moments it gave
+abbrev pub clock_view : {R : Type 0} → WallClock R → ClockView
+clock_view clock = record { moments = untold [] }
+
+-- what it asks for the time
+abbrev pub runtime_of : {R : Type 0} → WallClock R → R
+runtime_of clock = clock.rt
 
 abbrev pub counted_source : Bool → ℕ → SourceView
 counted_source ended faults = record { read = untold []; left = untold []; ended = ended; faults = faults }
@@ -64,3 +93,15 @@ counted_sink stopped faults = record { written = untold []; stopped = stopped; f
 
 abbrev pub sink_view : {W : Type 0} → StdSink W → SinkView
 sink_view sink = counted_sink sink.stopped sink.faults
+
+-- what a link reads and writes
+abbrev pub stream_of : {S : Type 0} → TcpLink S → S
+stream_of link = link.stream
+
+-- what a source reads
+abbrev pub reader_of : {R : Type 0} → StdSource R → R
+reader_of source = source.reader
+
+-- what a sink writes
+abbrev pub writer_of : {W : Type 0} → StdSink W → W
+writer_of sink = sink.writer

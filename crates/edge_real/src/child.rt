@@ -1,7 +1,11 @@
-ghost use Rattle.std.specs.Prelude.{◌≡◌, ◌≤◌, ⊤, length, IfOk, IfErr};
+ghost use Rattle.std.specs.Process.{command_program, command_args, SameEnv, SameDir};
+ghost use Rattle.std.specs.Prelude.{◌≡◌, ◌≤◌, ◌∷◌, ◌++◌, [], ⊤, false, length, map, IfSome, IfOk, IfErr, OnOk, MatchResult, All, string_bytes};
 ghost use Rattle.edge_traits.specs.Stations.{IsWithin};
-ghost use Rattle.edge_real.specs.Views.{station_view, counted_station};
-ghost use Rattle.edge_real.specs.Children.{IsRunFault, IsStreamFault, NamesNoStream};
+ghost use Rattle.std.specs.Option.{unwrap_or};
+ghost use Rattle.edge_real.specs.Counts.{run_faults, run_overruns};
+ghost use Rattle.edge_real.specs.OwnNames.{names_view, first_names, name_if, SameOwner};
+ghost use Rattle.edge_real.specs.Views.{station_view, counted_station, names_of};
+ghost use Rattle.edge_real.specs.Children.{IsRunFault, IsStreamFault, NamesNoStream, given_word, CanBeGiven, IsCommandOf, first_input, has_output, ending_text, input_name, output_name};
 
 use crate::counting::raise;
 use crate::disk::load;
@@ -9,7 +13,6 @@ use crate::own_files::{OwnFile, OwnNames};
 use crate::reading::{Reading, read_to_end};
 use edge_traits::{Bounds, FetchFault, Station, StationFault, Stream};
 use farm_types::{Bytes, Ext, Ran, Word};
-use memchr::memchr;
 use std::alloc::Global;
 use std::fs::File;
 use std::io::{Read, Write};
@@ -34,7 +37,8 @@ impl<R: Processes + rt::Files<File = File>> ChildStation<R> {
     /// A station whose own files are in `folder`. Stations of one process, and of others, with one folder use names of their own: `process` is the
     /// number of this process, and a name that is there already is passed over.
     pub fn new(rt: R, folder: String, process: u32) -> ChildStation<R>
-        ensures { station_view result ≡ counted_station 0 0 }
+        ensures view { station_view result ≡ counted_station 0 0 }
+        ensures names { names_of result ≡ first_names (string_bytes folder) process }
     {
         ChildStation {
             rt,
@@ -56,7 +60,15 @@ impl<R: Processes + rt::Files<File = File>> Station for ChildStation<R> {
         words: &[Word],
         input: &[u8],
         bounds: &Bounds,
-    ) -> Result<Ran, StationFault> {
+    ) -> Result<Ran, StationFault>
+        ensures within { IfOk result (IsWithin bounds.now) }
+        ensures fault { IfErr result (IsRunFault bounds.now) }
+        ensures given { OnOk result (All CanBeGiven words.now) }
+        ensures no_object { IfOk result (λ ran. has_output words.now ≡ false → ran.object ≡ []) }
+        ensures names { SameOwner (names_of self.old) (names_of self.new) }
+        ensures faults { (station_view self.new).faults ≡ run_faults result (station_view self.old).faults }
+        ensures overruns { (station_view self.new).overruns ≡ run_overruns result (station_view self.old).overruns }
+    {
         let ran = run_child(&self.rt, &mut self.names, alloc, words, input, bounds);
         match ran {
             Ok(_) => {}
@@ -78,6 +90,9 @@ fn run_child<R: Processes + rt::Files<File = File>>(
 ) -> Result<Ran, StationFault>
     ensures within { IfOk result (IsWithin bounds.now) }
     ensures fault { IfErr result (IsRunFault bounds.now) }
+    ensures given { OnOk result (All CanBeGiven words.now) }
+    ensures no_object { IfOk result (λ ran. has_output words.now ≡ false → ran.object ≡ []) }
+    ensures owner { SameOwner (names_view names.old) (names_view names.new) }
 {
     let source = input_file(rt, names, alloc, words, input)?;
     let object = output_file(rt, names, alloc, words)?;
@@ -105,7 +120,9 @@ fn input_file<'a, R: rt::Files>(
     words: &[Word],
     input: &[u8],
 ) -> Result<Option<OwnFile<'a, R>>, StationFault>
-    ensures { IfErr result NamesNoStream }
+    ensures name { IfOk result (λ file. name_if file ≡ input_name (names_view names.new) words.now) }
+    ensures owner { SameOwner (names_view names.old) (names_view names.new) }
+    ensures fault { IfErr result NamesNoStream }
 {
     let Some(ext) = input_ext(words) else {
         return Ok(None);
@@ -124,16 +141,32 @@ fn output_file<'a, R: rt::Files>(
     alloc: Global,
     words: &[Word],
 ) -> Result<Option<OwnFile<'a, R>>, StationFault>
-    ensures { IfErr result NamesNoStream }
+    ensures name { IfOk result (λ file. name_if file ≡ output_name (names_view names.new) words.now) }
+    ensures owner { SameOwner (names_view names.old) (names_view names.new) }
+    ensures fault { IfErr result NamesNoStream }
 {
-    if !words.iter().any(|word| matches!(word, Word::Output)) {
+    if !stands_output(words) {
         return Ok(None);
     }
     let (object, _file) = OwnFile::create(rt, names, alloc, "o")?;
     Ok(Some(object))
 }
 
-fn input_ext(words: &[Word]) -> Option<Ext> {
+fn stands_output(words: &[Word]) -> bool
+    ensures { result ≡ has_output words.now }
+{
+    for word in words {
+        if matches!(word, Word::Output) {
+            return true;
+        }
+    }
+    false
+}
+
+#[tactic(auto, using(crate::proofs::WordLemmas::inputs))]
+fn input_ext(words: &[Word]) -> Option<Ext>
+    ensures { result ≡ first_input words.now }
+{
     for word in words {
         if let Word::Input(ext) = word {
             return Some(*ext);
@@ -142,14 +175,19 @@ fn input_ext(words: &[Word]) -> Option<Ext> {
     None
 }
 
-fn ending_of(ext: Ext) -> &'static str {
+fn ending_of(ext: Ext) -> &'static str
+    ensures { result.now ≡ ending_text ext }
+{
     match ext {
         Ext::I => "i",
         Ext::Ii => "ii",
     }
 }
 
-fn path_of<'a, R: rt::Files>(file: &'a Option<OwnFile<'_, R>>) -> &'a str {
+/// The name of the file, and nothing where there is none.
+fn path_of<'a, R: rt::Files>(file: &'a Option<OwnFile<'_, R>>) -> &'a str
+    ensures { result.now ≡ unwrap_or (name_if file.now) [] }
+{
     match file {
         Some(file) => file.path(),
         None => "",
@@ -162,27 +200,62 @@ fn command_of(
     source: &str,
     object: &str,
 ) -> Result<Command, StationFault>
-    ensures { IfErr result NamesNoStream }
+    ensures command { IfOk result (IsCommandOf words.now source.now object.now) }
+    ensures given { OnOk result (All CanBeGiven words.now) }
+    ensures fault { IfErr result NamesNoStream }
 {
     let Some((program, arguments)) = words.split_first() else {
         return Err(StationFault::Failed);
     };
     let mut command = Command::new(alloc, text_of(program, source, object)?)?;
-    for word in arguments {
-        command.arg(text_of(word, source, object)?)?;
-    }
+    give_all(&mut command, arguments, source, object)?;
     Ok(command)
+}
+
+/// Gives a command these words more, and changes nothing else of it.
+fn give_all(
+    command: &mut Command,
+    words: &[Word],
+    source: &str,
+    object: &str,
+) -> Result<(), StationFault>
+    ensures program { OnOk result (command_program command.new ≡ command_program command.old) }
+    ensures arguments { OnOk result (command_args command.new ≡ command_args command.old ++ map (given_word source.now object.now) words.now) }
+    ensures environment { OnOk result (SameEnv command.old command.new) }
+    ensures folder { OnOk result (SameDir command.old command.new) }
+    ensures given { OnOk result (All CanBeGiven words.now) }
+    ensures fault { IfErr result NamesNoStream }
+{
+    for word in words {
+        give(command, word, source, object)?;
+    }
+    Ok(())
+}
+
+/// Gives a command this word more, and changes nothing else of it.
+fn give(command: &mut Command, word: &Word, source: &str, object: &str) -> Result<(), StationFault>
+    ensures program { OnOk result (command_program command.new ≡ command_program command.old) }
+    ensures arguments { OnOk result (command_args command.new ≡ command_args command.old ++ given_word source.now object.now word.now ∷ []) }
+    ensures environment { OnOk result (SameEnv command.old command.new) }
+    ensures folder { OnOk result (SameDir command.old command.new) }
+    ensures given { OnOk result (CanBeGiven word.now) }
+    ensures fault { IfErr result NamesNoStream }
+{
+    let text = text_of(word, source, object)?;
+    command.arg(text)?;
+    Ok(())
 }
 
 /// A word as the program is given it. One that isn't UTF-8 or holds a zero byte can't be given.
 fn text_of<'a>(word: &'a Word, source: &'a str, object: &'a str) -> Result<&'a str, StationFault>
-    ensures { IfErr result NamesNoStream }
+    ensures text { IfOk result (λ text. text.now ≡ given_word source.now object.now word.now) }
+    ensures cases { MatchResult result (λ text. CanBeGiven word.now) (λ fault. (fault ≡ StationFault.Failed) × ¬ (CanBeGiven word.now)) }
 {
     match word {
         Word::Input(_) => Ok(source),
         Word::Output => Ok(object),
         Word::Text(bytes) => {
-            if memchr(0, bytes.as_slice()).is_some() {
+            if bytes.as_slice().contains(&0) {
                 return Err(StationFault::Failed);
             }
             match str::from_utf8(bytes.as_slice()) {
@@ -226,6 +299,7 @@ fn read_pipe<S: Read + Drop>(
 ) -> Result<Bytes, StationFault>
     ensures within { IfOk result (λ bytes. length bytes ≤ bound) }
     ensures fault { IfErr result (IsStreamFault Stream.Out bound) }
+    ensures read { IfOk result (λ bytes. IfSome pipe (λ stream. IfSome (S.remaining stream) (λ all. bytes ≡ all))) }
 {
     let Some(mut pipe) = pipe else {
         return Err(StationFault::Failed);

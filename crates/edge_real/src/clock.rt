@@ -1,5 +1,6 @@
-ghost use Rattle.std.specs.Prelude.{[]};
-ghost use Rattle.edge_traits.specs.Told.{untold};
+ghost use Rattle.std.specs.Prelude.{◌≡◌, ◌/◌};
+ghost use Rattle.std.specs.Time.{system_time_nanos};
+ghost use Rattle.edge_real.specs.Views.{clock_view, runtime_of};
 
 use edge_traits::Clock;
 use std::time::{Duration, SystemTime, UNIX_EPOCH};
@@ -12,25 +13,33 @@ pub struct WallClock<R> {
 }
 
 impl<R: rt::Clock> WallClock<R> {
-    pub fn new(rt: R) -> WallClock<R> {
+    /// A clock of this system.
+    pub fn new(rt: R) -> WallClock<R>
+        ensures { runtime_of result ≡ rt }
+    {
         WallClock { rt }
     }
 }
 
 impl<R: rt::Clock> Clock for WallClock<R> {
-    ghost shows = { λ c. record { moments = untold [] } };
+    ghost shows = { clock_view };
 
     fn now(&mut self) -> u64 {
-        match SystemTime::now(&self.rt) {
-            Ok(now) => now
-                .duration_since(UNIX_EPOCH)
-                .map_or(0, |since| since.as_secs()),
-            Err(_) => 0,
-        }
+        SystemTime::now(&self.rt).map_or(0, seconds_since_1970)
     }
 
     fn pause(&mut self) {
         thread::sleep(&self.rt, Duration::from_millis(PAUSE_MILLIS));
+    }
+}
+
+/// Whole seconds since 1970, which the time is not before.
+fn seconds_since_1970(time: SystemTime) -> u64
+    ensures { result ≡ system_time_nanos time / 1_000_000_000 }
+{
+    match time.duration_since(UNIX_EPOCH) {
+        Ok(since) => since.as_secs(),
+        Err(_) => 0,
     }
 }
 

@@ -1,10 +1,11 @@
-ghost use Rattle.std.specs.Prelude.{◌≤◌};
-ghost use Rattle.edge_traits.specs.Causes.{Rose};
+ghost use Rattle.std.specs.Prelude.{◌≡◌};
+ghost use Rattle.edge_traits.specs.Calls.{one_more};
+
+use edge_traits::raised;
 
 /// Counts one more, up to the greatest u64.
 pub fn raise(count: &mut u64)
-    ensures later { count.old ≤ count.new }
-    ensures rose { Rose count.old count.new }
+    ensures { count.new ≡ one_more count.old }
 {
-    *count = count.saturating_add(1);
+    *count = raised(*count);
 }

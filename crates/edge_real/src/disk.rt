@@ -1,4 +1,6 @@
-ghost use Rattle.std.specs.Prelude.{◌≡◌, ◌≤◌, length, IfOk, IfErr};
+ghost use Rattle.std.specs.Prelude.{◌≡◌, ◌≢◌, ◌≤◌, length, IfOk, IfErr, OnOk, MatchResult, Err};
+ghost use Rattle.std.specs.Str.{IsUtf8};
+ghost use Rattle.edge_real.specs.Counts.{counted, append_faults, load_faults, load_overruns};
 ghost use Rattle.edge_real.specs.Reading.{IsLoadFault};
 ghost use Rattle.edge_real.specs.Views.{files_view, counted_files};
 
@@ -37,7 +39,11 @@ impl<R: rt::Files> DiskFiles<R> {
 impl<R: rt::Files> Files for DiskFiles<R> {
     ghost shows = { files_view };
 
-    fn create(&mut self, _alloc: Global, name: &Bytes) -> Result<(), EdgeFault> {
+    fn create(&mut self, _alloc: Global, name: &Bytes) -> Result<(), EdgeFault>
+        ensures name { OnOk result (IsUtf8 name.now) }
+        ensures overruns { (files_view self.new).overruns ≡ (files_view self.old).overruns }
+        ensures faults { (files_view self.new).faults ≡ counted result (files_view self.old).faults }
+    {
         let created = create_file(&self.rt, name);
         if created.is_err() {
             raise(&mut self.faults);
@@ -45,10 +51,15 @@ impl<R: rt::Files> Files for DiskFiles<R> {
         created.map_err(|_| EdgeFault::Failed)
     }
 
-    fn append(&mut self, _alloc: Global, name: &Bytes, piece: &[u8]) -> Result<usize, EdgeFault> {
+    fn append(&mut self, _alloc: Global, name: &Bytes, piece: &[u8]) -> Result<usize, EdgeFault>
+        ensures bound { IfOk result (λ n. n ≤ length piece.now) }
+        ensures name { OnOk result (IsUtf8 name.now) }
+        ensures overruns { (files_view self.new).overruns ≡ (files_view self.old).overruns }
+        ensures faults { (files_view self.new).faults ≡ append_faults result piece.now (files_view self.old).faults }
+    {
         match append_piece(&self.rt, name, piece) {
             Ok(taken) => {
-                if taken == 0 {
+                if taken == 0 && !piece.is_empty() {
                     raise(&mut self.faults);
                 }
                 Ok(taken)
@@ -60,7 +71,11 @@ impl<R: rt::Files> Files for DiskFiles<R> {
         }
     }
 
-    fn rename(&mut self, _alloc: Global, from: &Bytes, to: &Bytes) -> Result<(), EdgeFault> {
+    fn rename(&mut self, _alloc: Global, from: &Bytes, to: &Bytes) -> Result<(), EdgeFault>
+        ensures name { OnOk result (IsUtf8 from.now × IsUtf8 to.now) }
+        ensures overruns { (files_view self.new).overruns ≡ (files_view self.old).overruns }
+        ensures faults { (files_view self.new).faults ≡ counted result (files_view self.old).faults }
+    {
         let renamed = rename_file(&self.rt, from, to);
         if renamed.is_err() {
             raise(&mut self.faults);
@@ -68,7 +83,12 @@ impl<R: rt::Files> Files for DiskFiles<R> {
         renamed.map_err(|_| EdgeFault::Failed)
     }
 
-    fn remove(&mut self, name: &Bytes) -> Result<(), EdgeFault> {
+    fn remove(&mut self, name: &Bytes) -> Result<(), EdgeFault>
+        ensures name { OnOk result (IsUtf8 name.now) }
+        ensures overruns { (files_view self.new).overruns ≡ (files_view self.old).overruns }
+        ensures memory { result ≢ Err EdgeFault.Memory }
+        ensures faults { (files_view self.new).faults ≡ counted result (files_view self.old).faults }
+    {
         let removed = remove_file(&self.rt, name);
         if removed.is_err() {
             raise(&mut self.faults);
@@ -76,7 +96,13 @@ impl<R: rt::Files> Files for DiskFiles<R> {
         removed.map_err(|_| EdgeFault::Failed)
     }
 
-    fn load(&mut self, alloc: Global, name: &Bytes, bound: u32) -> Result<Bytes, FetchFault> {
+    fn load(&mut self, alloc: Global, name: &Bytes, bound: u32) -> Result<Bytes, FetchFault>
+        ensures within { IfOk result (λ bytes. length bytes ≤ bound) }
+        ensures cause { IfErr result (IsLoadFault bound) }
+        ensures name { OnOk result (IsUtf8 name.now) }
+        ensures faults { (files_view self.new).faults ≡ load_faults result (files_view self.old).faults }
+        ensures overruns { (files_view self.new).overruns ≡ load_overruns result (files_view self.old).overruns }
+    {
         let loaded = load_file(&self.rt, alloc, name, bound);
         match loaded {
             Ok(_) => {}
@@ -87,27 +113,36 @@ impl<R: rt::Files> Files for DiskFiles<R> {
     }
 }
 
-fn text_of(name: &Bytes) -> io::Result<&str> {
+fn text_of(name: &Bytes) -> io::Result<&str>
+    ensures { MatchResult result (λ text. (text.now ≡ name.now) × IsUtf8 name.now) (λ error. ¬ (IsUtf8 name.now)) }
+{
     str::from_utf8(name.as_slice()).map_err(|_| io::Error::from(ErrorKind::InvalidInput))
 }
 
-fn create_file<R: rt::Files>(rt: &R, name: &Bytes) -> io::Result<()> {
+fn create_file<R: rt::Files>(rt: &R, name: &Bytes) -> io::Result<()>
+    ensures { OnOk result (IsUtf8 name.now) }
+{
     fs::create(rt, text_of(name)?)?;
     Ok(())
 }
 
 fn append_piece<R: rt::Files>(rt: &R, name: &Bytes, piece: &[u8]) -> io::Result<usize>
-    ensures { IfOk result (λ n. n ≤ length piece.now) }
+    ensures bound { IfOk result (λ n. n ≤ length piece.now) }
+    ensures name { OnOk result (IsUtf8 name.now) }
 {
     let mut file = OpenOptions::new().append(true).open(rt, text_of(name)?)?;
     write_once(&mut file, piece)
 }
 
-fn rename_file<R: rt::Files>(rt: &R, from: &Bytes, to: &Bytes) -> io::Result<()> {
+fn rename_file<R: rt::Files>(rt: &R, from: &Bytes, to: &Bytes) -> io::Result<()>
+    ensures { OnOk result (IsUtf8 from.now × IsUtf8 to.now) }
+{
     fs::rename(rt, text_of(from)?, text_of(to)?)
 }
 
-fn remove_file<R: rt::Files>(rt: &R, name: &Bytes) -> io::Result<()> {
+fn remove_file<R: rt::Files>(rt: &R, name: &Bytes) -> io::Result<()>
+    ensures { OnOk result (IsUtf8 name.now) }
+{
     fs::remove_file(rt, text_of(name)?)
 }
 
@@ -119,6 +154,7 @@ fn load_file<R: rt::Files>(
 ) -> Result<Bytes, FetchFault>
     ensures within { IfOk result (λ bytes. length bytes ≤ bound) }
     ensures cause { IfErr result (IsLoadFault bound) }
+    ensures name { OnOk result (IsUtf8 name.now) }
 {
     let Ok(path) = text_of(name) else {
         return Err(FetchFault::Failed);

@@ -1,16 +1,19 @@
-ghost use Rattle.std.specs.Prelude.{◌≡◌, ◌↔◌, ⊤, IsTrue, IsSome};
-ghost use Rattle.edge_real.specs.Views.{door_view, counted_door};
+ghost use Rattle.std.specs.Prelude.{◌≡◌, ◌≢◌, ⊤, false, IsTrue, IsSome, IfOk, IfErr, OnOk, Err};
+ghost use Rattle.std.specs.IoError.{error_kind};
+ghost use Rattle.std.specs.Net.Addr.{IsIpv4OfBits};
+ghost use Rattle.std.specs.Net.Socket.{v4_ip, v4_port};
+ghost use Rattle.edge_traits.specs.Links.{IsNew};
+ghost use Rattle.edge_real.specs.Counts.{counted};
+ghost use Rattle.edge_real.specs.Views.{link_view, door_view, counted_door, is_listening, peer_bits};
 
 use crate::counting::raise;
-use crate::retrying::read_once;
 use crate::tcp::TcpLink;
 use edge_traits::{Door, EdgeFault};
 use farm_types::{Bytes, HostName};
 use std::alloc::Global;
 use std::io;
 use std::io::{ErrorKind, Read, Write};
-use std::net::{Ipv4Addr, Net, OpenListener, OpenStream, Shutdown, SocketAddr, TcpListener};
-use std::time::Duration;
+use std::net::{Ipv4Addr, Net, OpenListener, OpenStream, SocketAddr, SocketAddrV4, TcpListener};
 
 /// Takes connections in over TCP. Without a listener, each `accept` counts as a fault.
 #[derive(Drop)]
@@ -24,16 +27,16 @@ impl<L: OpenListener> TcpDoor<L> {
     pub fn open<R: Net<Listener = L>>(rt: &R, address: u32, port: u16) -> TcpDoor<L>
         ensures { door_view result ≡ counted_door 0 }
     {
-        let place = (Ipv4Addr::from_bits(address), port);
         TcpDoor {
-            listener: TcpListener::bind(rt, place).ok(),
+            listener: TcpListener::bind(rt, place_of(address, port)).ok(),
             faults: 0,
         }
     }
 
-    /// Another door on the same listener.
+    /// Another door on the same listener. It has none where this one has none, or where the system refuses another.
     pub fn share(&self) -> TcpDoor<L>
-        ensures { door_view result ≡ counted_door 0 }
+        ensures view { door_view result ≡ counted_door 0 }
+        ensures listener { IsTrue (is_listening result) → IsTrue (is_listening self.now) }
     {
         TcpDoor {
             listener: match &self.listener {
@@ -45,18 +48,25 @@ impl<L: OpenListener> TcpDoor<L> {
     }
 
     /// Whether there is a listener.
-    pub fn is_open(&self) -> bool {
+    pub fn is_open(&self) -> bool
+        ensures { result ≡ is_listening self.now }
+    {
         self.listener.is_some()
     }
 
     /// The port of the listener, where the system tells it.
-    pub fn port(&self) -> Option<u16> {
+    pub fn port(&self) -> Option<u16>
+        ensures { IsSome result → IsTrue (is_listening self.now) }
+    {
         let place = self.listener.as_ref()?.local_addr().ok()?;
         Some(place.port())
     }
 
     /// One connection, with the peer's address. An accept that a signal interrupted, or whose peer has gone by then, is made again.
-    fn accept_one(&self) -> io::Result<(L::Stream, SocketAddr)> {
+    fn accept_one(&self) -> io::Result<(L::Stream, SocketAddr)>
+        ensures listener { OnOk result (IsTrue (is_listening self.now)) }
+        ensures retried { IfErr result (λ error. (error_kind error ≢ ErrorKind.Interrupted) × (error_kind error ≢ ErrorKind.ConnectionAborted)) }
+    {
         let Some(listener) = &self.listener else {
             return Err(io::Error::from(ErrorKind::NotConnected));
         };
@@ -73,7 +83,7 @@ impl<L: OpenListener> TcpDoor<L> {
                 }
             }
         }
-        Err(io::Error::from(ErrorKind::Interrupted))
+        Err(io::Error::from(ErrorKind::Other))
     }
 }
 
@@ -89,7 +99,12 @@ where
 
     ghost came_stays = { λ d a b came f. came };
 
-    fn accept(&mut self, alloc: Global) -> Result<(TcpLink<L::Stream>, u32), EdgeFault> {
+    fn accept(&mut self, alloc: Global) -> Result<(TcpLink<L::Stream>, u32), EdgeFault>
+        ensures new { IfOk result (λ accepted. IsNew (link_view accepted.0)) }
+        ensures listener { is_listening self.new ≡ is_listening self.old }
+        ensures closed { is_listening self.old ≡ false → result ≡ Err EdgeFault.Failed }
+        ensures faults { (door_view self.new).faults ≡ counted result (door_view self.old).faults }
+    {
         match self.accept_one() {
             Ok((stream, peer)) => {
                 let nobody = HostName {
@@ -104,13 +119,26 @@ where
         }
     }
 
-    fn leave(&mut self, link: TcpLink<L::Stream>) {
+    fn leave(&mut self, link: TcpLink<L::Stream>)
+        ensures listener { is_listening self.new ≡ is_listening self.old }
+        ensures faults { (door_view self.new).faults ≡ (door_view self.old).faults }
+    {
         link.linger();
     }
 }
 
+/// The IPv4 address and port to listen on.
+fn place_of(address: u32, port: u16) -> SocketAddrV4
+    ensures address { IsIpv4OfBits (v4_ip result) address }
+    ensures port { v4_port result ≡ port }
+{
+    SocketAddrV4::new(Ipv4Addr::from_bits(address), port)
+}
+
 /// The IPv4 address as a number. A listener on an IPv4 address has no other peers.
-fn ipv4_of(peer: SocketAddr) -> u32 {
+fn ipv4_of(peer: SocketAddr) -> u32
+    ensures { result ≡ peer_bits peer }
+{
     match peer {
         SocketAddr::V4(peer) => peer.ip().to_bits(),
         SocketAddr::V6(_) => 0,

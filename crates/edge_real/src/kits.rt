@@ -1,4 +1,5 @@
-ghost use Rattle.std.specs.Prelude.{◌≡◌, IfOk, vec_len};
+ghost use Rattle.std.specs.Prelude.{◌≡◌, IfOk, All, vec_len, string_bytes};
+ghost use Rattle.edge_real.specs.Kits.{IsSystemKit};
 
 use crate::{ChildStation, DiskFiles, TcpDialer, WallClock};
 use edge_traits::Kit;
@@ -17,7 +18,9 @@ pub fn system_kit<R: Net + Processes + rt::Files<File = File> + rt::Clock + Copy
     rt: R,
     folder: String,
     process: u32,
-) -> SystemKit<R> {
+) -> SystemKit<R>
+    ensures { IsSystemKit rt (string_bytes folder) process result }
+{
     Kit {
         dialer: TcpDialer::new(rt),
         station: ChildStation::new(rt, folder, process),
@@ -34,7 +37,8 @@ pub fn system_kits<R: Net + Processes + rt::Files<File = File> + rt::Clock + Cop
     process: u32,
     count: usize,
 ) -> Result<Vec<SystemKit<R>>, AllocError>
-    ensures { IfOk result (λ kits. vec_len kits ≡ count) }
+    ensures count { IfOk result (λ kits. vec_len kits ≡ count) }
+    ensures kits { IfOk result (λ kits. All (IsSystemKit rt folder.now process) kits.items) }
 {
     let mut kits = Vec::with_capacity(alloc, count)?;
     for _ in 0..count {

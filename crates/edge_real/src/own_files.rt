@@ -1,5 +1,7 @@
-ghost use Rattle.std.specs.Prelude.{IfErr};
+ghost use Rattle.std.specs.Prelude.{◌≡◌, true, IfOk, IfErr, string_bytes};
+ghost use Rattle.std.specs.Fs.{asks_write, asks_create_new};
 ghost use Rattle.edge_real.specs.Children.{NamesNoStream};
+ghost use Rattle.edge_real.specs.OwnNames.{names_view, first_names, next_names, own_name, name_of, SameOwner};
 
 use edge_traits::StationFault;
 use std::alloc::{AllocError, Global};
@@ -17,7 +19,10 @@ pub struct OwnNames {
 }
 
 impl OwnNames {
-    pub fn new(folder: String, process: u32) -> OwnNames {
+    /// Names in this folder, for the process of this number. The first serial is 1.
+    pub fn new(folder: String, process: u32) -> OwnNames
+        ensures { names_view result ≡ first_names (string_bytes folder) process }
+    {
         OwnNames {
             folder,
             process,
@@ -25,12 +30,25 @@ impl OwnNames {
         }
     }
 
-    fn next(&mut self, alloc: Global, ending: &str) -> Result<String, AllocError> {
-        self.serial = self.serial.wrapping_add(1);
-        let folder = self.folder.as_str();
+    /// The name with the last serial.
+    fn current(&self, alloc: Global, ending: &str) -> Result<String, AllocError>
+        ensures { IfOk result (λ name. string_bytes name ≡ own_name (names_view self.now) ending.now) }
+    {
         let process = self.process;
         let serial = self.serial;
-        format!(in alloc; "{folder}/farm-{process}-{serial}.{ending}")
+        let mut name = String::from_str(alloc, self.folder.as_str())?;
+        let number = format!(in alloc; "/farm-{process}-{serial}.")?;
+        name.push_str(number.as_str())?;
+        name.push_str(ending)?;
+        Ok(name)
+    }
+
+    fn next(&mut self, alloc: Global, ending: &str) -> Result<String, AllocError>
+        ensures names { names_view self.new ≡ next_names (names_view self.old) }
+        ensures text { IfOk result (λ name. string_bytes name ≡ own_name (names_view self.new) ending.now) }
+    {
+        self.serial = self.serial.wrapping_add(1);
+        self.current(alloc, ending)
     }
 }
 
@@ -48,16 +66,13 @@ impl<'a, R: rt::Files> OwnFile<'a, R> {
         alloc: Global,
         ending: &str,
     ) -> Result<(OwnFile<'a, R>, R::File), StationFault>
-        ensures { IfErr result NamesNoStream }
+        ensures name { IfOk result (λ made. name_of made.0 ≡ own_name (names_view names.new) ending.now) }
+        ensures owner { SameOwner (names_view names.old) (names_view names.new) }
+        ensures fault { IfErr result NamesNoStream }
     {
         for _ in 0..NAMES_TRIED {
             let path = names.next(alloc, ending)?;
-            let opened = OpenOptions::new()
-                .write(true)
-                .create_new(true)
-                .mode(OWNER_ALONE)
-                .open(rt, path.as_str());
-            match opened {
+            match for_owner_alone().open(rt, path.as_str()) {
                 Ok(file) => return Ok((OwnFile { rt, path }, file)),
                 Err(error) => {
                     if error.kind() != ErrorKind::AlreadyExists {
@@ -69,7 +84,9 @@ impl<'a, R: rt::Files> OwnFile<'a, R> {
         Err(StationFault::Failed)
     }
 
-    pub fn path(&self) -> &str {
+    pub fn path(&self) -> &str
+        ensures { result.now ≡ name_of self.now }
+    {
         self.path.as_str()
     }
 }
@@ -80,6 +97,17 @@ impl<R: rt::Files> Drop for OwnFile<'_, R> {
         let OwnFile { rt: _, path } = self;
         drop(path);
     }
+}
+
+/// How a file of a station's own is opened: it is new, it is written, and its owner alone may read it.
+fn for_owner_alone() -> OpenOptions
+    ensures written { asks_write result ≡ true }
+    ensures is_new { asks_create_new result ≡ true }
+{
+    let mut options = OpenOptions::new();
+    options.mode(OWNER_ALONE);
+    options.write(true).create_new(true);
+    options
 }
 
 /// How many names are tried before a file is given up.

@@ -1,6 +1,6 @@
 // Files and pipes that are read to their ends, within a bound.
-ghost use Rattle.std.specs.Prelude.{ℕ, ◌<◌, ◌≤◌, length, IfOk};
-ghost use Rattle.edge_real.specs.Reading.{IsReadWithin};
+ghost use Rattle.std.specs.Prelude.{◌≡◌, ◌+◌, ◌-◌, ◌^◌, ◌≤◌, ◌++◌, min, length, IfOk};
+ghost use Rattle.edge_real.specs.Reading.{IsReadWithin, IsReadOf};
 
 use crate::retrying::read_once;
 use farm_types::Bytes;
@@ -19,12 +19,14 @@ pub enum Reading {
 }
 
 /// Reads a stream to its end. Past the bound it counts the bytes and keeps none.
+#[tactic(auto, using(crate::proofs::ReadLemmas::reading))]
 pub fn read_to_end<S: Read>(
     stream: &mut S,
     alloc: Global,
     bound: u32,
 ) -> Result<Reading, AllocError>
-    ensures { IfOk result (IsReadWithin bound) }
+    ensures within { IfOk result (IsReadWithin bound) }
+    ensures read { IfOk result (IsReadOf (S.remaining stream.old)) }
 {
     let mut bytes = Bytes::new(alloc);
     let mut total = 0u64;
@@ -37,16 +39,23 @@ pub fn read_to_end<S: Read>(
                 }
                 return Ok(Reading::Whole(bytes));
             }
-            Ok(count) => {
-                total = total.saturating_add(count as u64);
-                if total <= u64::from(bound) {
-                    bytes.try_extend(&piece[..count])?;
-                }
-            }
+            Ok(count) => total = count_in(&mut bytes, total, bound, &piece[..count])?,
             Err(_) => return Ok(Reading::Failed),
         }
     }
     Ok(Reading::Failed)
+}
+
+/// Counts a piece in, and keeps it within the bound.
+fn count_in(bytes: &mut Bytes, total: u64, bound: u32, piece: &[u8]) -> Result<u64, AllocError>
+    ensures counted { IfOk result (λ next. next ≡ min (total + length piece.now) (2 ^ 64 - 1)) }
+    ensures kept { IfOk result (λ next. next ≤ bound → bytes.new ≡ bytes.old ++ piece.now) }
+{
+    let next = total.saturating_add(piece.len() as u64);
+    if next <= u64::from(bound) {
+        bytes.try_extend(piece)?;
+    }
+    Ok(next)
 }
 
 /// How many bytes one read asks for.

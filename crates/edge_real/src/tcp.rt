@@ -1,7 +1,10 @@
-ghost use Rattle.std.specs.Prelude.{◌≡◌, ⊤, refl, IfOk};
+ghost use Rattle.std.specs.Prelude.{◌≡◌, ◌<◌, ◌≤◌, ◌||◌, ⊤, refl, length, IfOk};
+ghost use Rattle.std.specs.Str.{IsUtf8};
+ghost use Rattle.std.specs.Io.KnownBytes.{ReadConsumes, WriteAppends};
 ghost use Rattle.std.proofs.Common.{◌∙◌, sym};
-ghost use Rattle.edge_traits.specs.Links.{IsFresh};
-ghost use Rattle.edge_real.specs.Views.{link_view, dialer_view, counted_dialer};
+ghost use Rattle.edge_traits.specs.Links.{IsFresh, moved_none};
+ghost use Rattle.edge_real.specs.Counts.{counted};
+ghost use Rattle.edge_real.specs.Views.{link_view, stream_of, dialer_view, counted_dialer};
 
 use crate::counting::raise;
 use crate::retrying::{read_once, write_once};
@@ -27,7 +30,8 @@ pub struct TcpLink<S> {
 impl<S: OpenStream> TcpLink<S> {
     /// A link on which nothing has happened yet. Small pieces are sent at once, where the system allows it.
     pub(crate) fn new(stream: S, host: HostName, port: u16) -> TcpLink<S>
-        ensures { IsFresh host port (link_view result) }
+        ensures fresh { IsFresh host port (link_view result) }
+        ensures stream { stream_of result ≡ stream }
     {
         let _ = stream.set_nodelay(true);
         TcpLink {
@@ -73,19 +77,27 @@ const LINGER_ROOM: usize = 16_384;
 impl<S: Read + Write> Link for TcpLink<S> {
     ghost shows = { link_view };
 
-    ghost follows = { λ a b. (a.host ≡ b.host) × (a.port ≡ b.port) };
+    ghost follows = { λ a b. (link_view a).origin ≡ (link_view b).origin };
 
     ghost may_give = { λ l sent given. ⊤ };
 
-    ghost follows_itself = { λ l. (refl, refl) };
+    ghost follows_itself = { λ l. refl };
 
-    ghost follows_on = { λ a b c first second. (first.0 ∙ second.0, first.1 ∙ second.1) };
+    ghost follows_on = { λ a b c first second. first ∙ second };
 
-    ghost origin_stays = { λ a b f i. record { host = sym f.0 i; port = sym f.1 i } };
+    ghost origin_stays = { λ a b f. sym f };
 
     ghost may_give_stays = { λ a b f. record { kept = λ sent given may. may; back = λ sent given may. may } };
 
-    fn send(&mut self, piece: &[u8]) -> Result<usize, EdgeFault> {
+    fn send(&mut self, piece: &[u8]) -> Result<usize, EdgeFault>
+        requires { 0 < length piece.now }
+        ensures bound { IfOk result (λ n. n ≤ length piece.now) }
+        ensures bytes { WriteAppends (S.Write.contents (stream_of self.old)) (S.Write.contents (stream_of self.new)) result piece.now }
+        ensures origin { (link_view self.new).origin ≡ (link_view self.old).origin }
+        ensures stopped { (link_view self.new).stopped ≡ ((link_view self.old).stopped || moved_none result) }
+        ensures ended { (link_view self.new).ended ≡ (link_view self.old).ended }
+        ensures faults { (link_view self.new).faults ≡ counted result (link_view self.old).faults }
+    {
         match write_once(&mut self.stream, piece) {
             Ok(count) => {
                 self.stopped |= count == 0;
@@ -98,7 +110,15 @@ impl<S: Read + Write> Link for TcpLink<S> {
         }
     }
 
-    fn recv(&mut self, room: &mut [u8]) -> Result<usize, EdgeFault> {
+    fn recv(&mut self, room: &mut [u8]) -> Result<usize, EdgeFault>
+        requires { 0 < length room.old }
+        ensures bound { IfOk result (λ n. n ≤ length room.old) }
+        ensures bytes { ReadConsumes (S.Read.remaining (stream_of self.old)) (S.Read.remaining (stream_of self.new)) result room.new }
+        ensures origin { (link_view self.new).origin ≡ (link_view self.old).origin }
+        ensures ended { (link_view self.new).ended ≡ ((link_view self.old).ended || moved_none result) }
+        ensures stopped { (link_view self.new).stopped ≡ (link_view self.old).stopped }
+        ensures faults { (link_view self.new).faults ≡ counted result (link_view self.old).faults }
+    {
         match read_once(&mut self.stream, room) {
             Ok(count) => {
                 self.ended |= count == 0;
@@ -128,7 +148,8 @@ impl<R: Net> TcpDialer<R> {
     }
 
     fn connect(&self, host: &HostName, port: u16) -> Result<TcpLink<R::Stream>, EdgeFault>
-        ensures { IfOk result (λ link. IsFresh host.now port (link_view link)) }
+        ensures fresh { IfOk result (λ link. IsFresh host.now port (link_view link)) }
+        ensures name { IfOk result (λ link. IsUtf8 host.now.text) }
     {
         let name = host.copy()?;
         let text = str::from_utf8(host.text.as_slice()).map_err(|_| EdgeFault::Failed)?;
@@ -153,7 +174,11 @@ impl<R: Net> Dialer for TcpDialer<R> {
         _alloc: Global,
         host: &HostName,
         port: u16,
-    ) -> Result<TcpLink<R::Stream>, EdgeFault> {
+    ) -> Result<TcpLink<R::Stream>, EdgeFault>
+        ensures fresh { IfOk result (λ link. IsFresh host.now port (link_view link)) }
+        ensures name { IfOk result (λ link. IsUtf8 host.now.text) }
+        ensures faults { (dialer_view self.new).faults ≡ counted result (dialer_view self.old).faults }
+    {
         let link = self.connect(host, port);
         if link.is_err() {
             raise(&mut self.faults);
@@ -161,7 +186,9 @@ impl<R: Net> Dialer for TcpDialer<R> {
         link
     }
 
-    fn hang_up(&mut self, link: TcpLink<R::Stream>) {
+    fn hang_up(&mut self, link: TcpLink<R::Stream>)
+        ensures { dialer_view self.new ≡ dialer_view self.old }
+    {
         drop(link);
     }
 }

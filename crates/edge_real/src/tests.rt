@@ -1,6 +1,7 @@
 // Each device against a peer, a file or a child of its own.
 ghost use Rattle.std.specs.Prelude.{◌<◌, length, IfOk};
 
+use super::reading::{Reading, read_to_end};
 use super::{
     ChildStation, DiskFiles, StdSink, StdSource, TcpDialer, TcpDoor, WallClock, system_kits,
 };
@@ -90,8 +91,18 @@ fn a_host_that_is_not_there_is_a_fault(rt: HostRuntime) -> Result<(), Fail> {
         assert!(rt; matches!(dialer.dial(alloc, &name, 1), Err(EdgeFault::Failed)));
     }
     let mut closed = TcpDoor::open(&rt, 0x0102_0304, 1);
-    assert!(rt; !closed.is_open());
+    assert!(rt; !closed.is_open() && !closed.share().is_open());
+    assert_eq!(rt; closed.port(), None);
     assert!(rt; matches!(closed.accept(alloc), Err(EdgeFault::Failed)));
+    Ok(())
+}
+
+#[test]
+fn a_shared_door_is_at_the_same_port(rt: HostRuntime) -> Result<(), Fail> {
+    let door = TcpDoor::open(&rt, LOCALHOST, 0);
+    let shared = door.share();
+    assert!(rt; door.is_open() && shared.is_open());
+    assert_eq!(rt; shared.port(), door.port());
     Ok(())
 }
 
@@ -185,6 +196,39 @@ fn a_file_is_put_and_fetched(rt: HostRuntime) -> Result<(), Fail> {
 }
 
 #[test]
+fn files_are_written_piece_by_piece(rt: HostRuntime) -> Result<(), Fail> {
+    let alloc = rt.alloc();
+    let mut files = DiskFiles::new(rt);
+    let first = Bytes::from_slice(alloc, b"first")?;
+    let second = Bytes::from_slice(alloc, b"second")?;
+    files.create(alloc, &first)?;
+    assert_eq!(rt; files.append(alloc, &first, b"ab"), Ok(2));
+    assert_eq!(rt; files.append(alloc, &first, b""), Ok(0));
+    assert_eq!(rt; files.append(alloc, &first, b"c"), Ok(1));
+    files.rename(alloc, &first, &second)?;
+    assert!(rt; matches!(files.load(alloc, &first, 3), Err(FetchFault::Absent)));
+    let loaded = files.load(alloc, &second, 3)?;
+    assert_eq!(rt; loaded.as_slice(), b"abc".as_slice());
+    files.remove(&second)?;
+    Ok(())
+}
+
+#[test]
+fn a_name_that_is_not_utf8_is_a_fault(rt: HostRuntime) -> Result<(), Fail> {
+    let alloc = rt.alloc();
+    let mut files = DiskFiles::new(rt);
+    let name = Bytes::from_slice(alloc, b"\xff")?;
+    let good = Bytes::from_slice(alloc, b"good")?;
+    assert_eq!(rt; files.create(alloc, &name), Err(EdgeFault::Failed));
+    assert_eq!(rt; files.append(alloc, &name, b"ab"), Err(EdgeFault::Failed));
+    assert_eq!(rt; files.rename(alloc, &name, &good), Err(EdgeFault::Failed));
+    assert_eq!(rt; files.rename(alloc, &good, &name), Err(EdgeFault::Failed));
+    assert_eq!(rt; files.remove(&name), Err(EdgeFault::Failed));
+    assert!(rt; matches!(files.load(alloc, &name, 9), Err(FetchFault::Failed)));
+    Ok(())
+}
+
+#[test]
 fn the_clock_goes_on(rt: HostRuntime) {
     let mut clock = WallClock::new(rt);
     let first = clock.now();
@@ -205,5 +249,33 @@ fn streams_end_and_break(rt: HostRuntime) -> Result<(), Fail> {
     let (reader, writer) = pipe(&rt)?;
     drop(writer);
     assert_eq!(rt; StdSource::new(reader).read(&mut room), Ok(0));
+    Ok(())
+}
+
+#[test]
+fn streams_in_memory_give_and_keep_their_bytes(rt: HostRuntime) -> Result<(), Fail> {
+    let alloc = rt.alloc();
+    let mut source = StdSource::new(b"abc".as_slice());
+    let mut room = [0u8; 2];
+    assert_eq!(rt; source.read(&mut room), Ok(2));
+    assert_eq!(rt; &room, b"ab");
+    assert_eq!(rt; source.read(&mut room), Ok(1));
+    assert_eq!(rt; &room, b"cb");
+    assert_eq!(rt; source.read(&mut room), Ok(0));
+    let mut sink = StdSink::new(Vec::new(alloc));
+    assert_eq!(rt; sink.write(b"ab"), Ok(2));
+    Ok(())
+}
+
+#[test]
+fn a_stream_is_kept_within_its_bound(rt: HostRuntime) -> Result<(), Fail> {
+    let alloc = rt.alloc();
+    let mut whole = b"abc".as_slice();
+    match read_to_end(&mut whole, alloc, 3)? {
+        Reading::Whole(bytes) => assert_eq!(rt; bytes.as_slice(), b"abc".as_slice()),
+        Reading::Over(_) | Reading::Failed => assert!(rt; false, "it is within the bound"),
+    }
+    let mut long = b"abcd".as_slice();
+    assert!(rt; matches!(read_to_end(&mut long, alloc, 3)?, Reading::Over(4)));
     Ok(())
 }

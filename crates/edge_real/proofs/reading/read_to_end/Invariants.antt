@@ -1,6 +1,5 @@
-use Rattle.std.proofs.Common.{◌≡◌, ◌≤◌, length}
+use Rattle.edge_real.proofs.ReadLemmas.{HasRead}
 use Rattle.edge_real.proofs.reading.read_to_end.Given as goal
 
--- while the bytes are within the bound, all are kept
 abbrev pub invariant-loop : goal.invariant-loop
-invariant-loop g l = l.total ≤ l.bound → length l.bytes ≡ l.total
+invariant-loop g l = HasRead (g.S.Read.remaining l.fn.stream) (g.S.Read.remaining l.stream) l.bound l.total l.bytes

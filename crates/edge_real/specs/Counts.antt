@@ -1,0 +1,57 @@
+-- How a call changes the counts of a device.
+use Rattle.std.specs.Prelude.{ℕ, ◌==◌, ◌&&◌, not, List, length, Result, Ok, Err, if◌then◌else◌}
+use Rattle.edge_traits.specs.declared.faults.FetchFault.{FetchFault}
+use Rattle.edge_traits.specs.declared.faults.FetchFault.TheVariants.{Failed, Absent, TooMuch, Memory}
+use Rattle.edge_traits.specs.declared.faults.StationFault.{StationFault}
+use Rattle.edge_traits.specs.declared.faults.StationFault.TheVariants.{Failed as RunFailed, TooMuch as RunTooMuch, Memory as RunMemory}
+use Rattle.edge_traits.specs.Calls.{one_more}
+
+-- one more where the call came to nothing
+abbrev pub counted : {T E : Type 0} → Result T E → ℕ → ℕ
+counted (Ok value) count = count
+counted (Err fault) count = one_more count
+
+-- one more for an append that came to nothing, or that took none of a piece with bytes
+abbrev pub append_faults : {E : Type 0} → Result ℕ E → List ℕ → ℕ → ℕ
+append_faults (Ok taken) piece count = if (taken == 0) && not (length piece == 0) then one_more count else count
+append_faults (Err fault) piece count = one_more count
+
+-- a file that isn't there or is too long is no fault of the files, but an overrun
+abbrev pub fault_of_load : FetchFault → ℕ → ℕ
+fault_of_load Failed count = one_more count
+fault_of_load Absent count = count
+fault_of_load (TooMuch bytes) count = count
+fault_of_load Memory count = one_more count
+
+abbrev pub overrun_of_load : FetchFault → ℕ → ℕ
+overrun_of_load Failed count = count
+overrun_of_load Absent count = one_more count
+overrun_of_load (TooMuch bytes) count = one_more count
+overrun_of_load Memory count = count
+
+abbrev pub load_faults : {T : Type 0} → Result T FetchFault → ℕ → ℕ
+load_faults (Ok bytes) count = count
+load_faults (Err fault) count = fault_of_load fault count
+
+abbrev pub load_overruns : {T : Type 0} → Result T FetchFault → ℕ → ℕ
+load_overruns (Ok bytes) count = count
+load_overruns (Err fault) count = overrun_of_load fault count
+
+-- a stream that is too long is no fault of the station, but an overrun
+abbrev pub fault_of_run : StationFault → ℕ → ℕ
+fault_of_run RunFailed count = one_more count
+fault_of_run (RunTooMuch stream bytes) count = count
+fault_of_run RunMemory count = one_more count
+
+abbrev pub overrun_of_run : StationFault → ℕ → ℕ
+overrun_of_run RunFailed count = count
+overrun_of_run (RunTooMuch stream bytes) count = one_more count
+overrun_of_run RunMemory count = count
+
+abbrev pub run_faults : {T : Type 0} → Result T StationFault → ℕ → ℕ
+run_faults (Ok ran) count = count
+run_faults (Err fault) count = fault_of_run fault count
+
+abbrev pub run_overruns : {T : Type 0} → Result T StationFault → ℕ → ℕ
+run_overruns (Ok ran) count = count
+run_overruns (Err fault) count = overrun_of_run fault count

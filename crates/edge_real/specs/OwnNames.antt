@@ -1,0 +1,40 @@
+-- The names of a station's own files.
+use Rattle.std.specs.Prelude.{◌≡◌, ℕ, ◌+◌, ◌%◌, ◌^◌, List, ◌++◌, codes, Option, string_bytes}
+use Rattle.std.specs.Option.{option_map}
+use Rattle.std.specs.Fmt.{decimal}
+use Rattle.edge_real.specs.declared.own_files.OwnNames.{OwnNames}
+use Rattle.edge_real.specs.declared.own_files.OwnFile.{OwnFile}
+
+-- the folder, the number of the process, and the serial of the last name that was made
+pub record NamesView : Type 0 where
+  pub folder : List ℕ
+  pub process : ℕ
+  pub serial : ℕ
+
+abbrev pub names_view : OwnNames → NamesView
+names_view names = record { folder = string_bytes names.folder; process = names.process; serial = names.serial }
+
+-- before the first name
+abbrev pub first_names : List ℕ → ℕ → NamesView
+first_names folder process = record { folder = folder; process = process; serial = 0 }
+
+-- after one name more
+abbrev pub next_names : NamesView → NamesView
+next_names names = record { folder = names.folder; process = names.process; serial = (names.serial + 1) % 2 ^ 64 }
+
+-- `FOLDER/farm-PROCESS-SERIAL.ENDING`, with the serial of the last name
+abbrev pub own_name : NamesView → List ℕ → List ℕ
+own_name names ending = names.folder ++ (codes "/farm-" ++ decimal names.process ++ codes "-" ++ decimal names.serial ++ codes ".") ++ ending
+
+-- the names are of one folder and one process
+pub record SameOwner (old new : NamesView) : Type 0 where
+  pub folder : new.folder ≡ old.folder
+  pub process : new.process ≡ old.process
+
+-- the name of a file of a station's own
+abbrev pub name_of : {R F D : Type 0} → OwnFile R F D → List ℕ
+name_of file = string_bytes file.path
+
+-- the name of a file that may be there or not
+abbrev pub name_if : {R F D : Type 0} → Option (OwnFile R F D) → Option (List ℕ)
+name_if file = option_map name_of file
