@@ -82,6 +82,62 @@ fn a_dialer_and_a_door_carry_bytes_both_ways(rt: HostRuntime) -> Result<(), Fail
     Ok(())
 }
 
+/// Sends 1,000 bytes over and over, and answers how many were taken in all.
+fn send_often<L: Link>(link: &mut L, times: u32) -> u64 {
+    let mut sent = 0u64;
+    for _ in 0..times {
+        if let Ok(count) = link.send(&[b'r'; 1000]) {
+            sent = sent.saturating_add(count as u64);
+        }
+    }
+    sent
+}
+
+/// How many bytes the link gives until its end.
+fn count_given<L: Link>(link: &mut L) -> u64 {
+    let mut given = 0u64;
+    for _ in 0..1_000_000 {
+        match link.recv(&mut [0u8; 1000]) {
+            Ok(count) if count > 0 => given = given.saturating_add(count as u64),
+            _ => return given,
+        }
+    }
+    given
+}
+
+#[test]
+fn a_client_that_sent_too_much_gets_the_whole_reply(rt: HostRuntime) -> Result<(), Fail> {
+    let alloc = rt.alloc();
+    let mut door = TcpDoor::open(&rt, LOCALHOST, 0);
+    let port = door.port().ok_or("port")?;
+    let mut dialer = TcpDialer::new(rt);
+    let name = host(alloc, b"127.0.0.1")?;
+    let (given, sent) = thread::join(
+        &rt,
+        move || {
+            let Ok(mut link) = dialer.dial(alloc, &name, port) else {
+                return 0;
+            };
+            send_often(&mut link, 100);
+            let given = count_given(&mut link);
+            dialer.hang_up(link);
+            given
+        },
+        || {
+            let Ok((mut link, _)) = door.accept(alloc) else {
+                return 0;
+            };
+            let _ = link.recv(&mut [0u8; 1]);
+            let sent = send_often(&mut link, 8000);
+            door.leave(link);
+            sent
+        },
+    );
+    assert!(rt; sent > 7_000_000);
+    assert_eq!(rt; given, sent);
+    Ok(())
+}
+
 #[test]
 fn a_host_that_is_not_there_is_a_fault(rt: HostRuntime) -> Result<(), Fail> {
     let alloc = rt.alloc();
@@ -151,8 +207,26 @@ fn a_child_that_fails_is_told_from_one_that_ends(rt: HostRuntime) -> Result<(), 
         let ended = station.run(alloc, &words, b"", &BOUNDS);
         assert!(rt; ended.err() == Some(StationFault::Failed));
     }
+    let mut files = DiskFiles::new(rt);
+    for name in OWN_FILES_OF_8 {
+        let name = Bytes::from_slice(alloc, name)?;
+        assert!(rt; matches!(files.load(alloc, &name, 9), Err(FetchFault::Absent)));
+    }
     Ok(())
 }
+
+/// The station's own files of two runs with a file for each stream, and of three that had only the one of their messages.
+const OWN_FILES_OF_8: [&[u8]; 9] = [
+    b"farm-8-1.ii",
+    b"farm-8-2.o",
+    b"farm-8-3.err",
+    b"farm-8-4.ii",
+    b"farm-8-5.o",
+    b"farm-8-6.err",
+    b"farm-8-7.err",
+    b"farm-8-8.err",
+    b"farm-8-9.err",
+];
 
 fn put_file<K: Keeper>(
     alloc: Global,
