@@ -1,11 +1,11 @@
-ghost use Rattle.std.specs.Process.{command_program, command_args, SameEnv, SameDir};
 ghost use Rattle.std.specs.Prelude.{◌≡◌, ◌≤◌, ◌∷◌, ◌++◌, [], ⊤, false, length, map, IfSome, IfOk, IfErr, OnOk, MatchResult, All, string_bytes};
-ghost use Rattle.edge_traits.specs.Stations.{IsWithin};
 ghost use Rattle.std.specs.Option.{unwrap_or};
+ghost use Rattle.std.specs.Process.{command_program, command_args, SameEnv, SameDir};
+ghost use Rattle.edge_traits.specs.Stations.{IsWithin};
 ghost use Rattle.edge_real.specs.Counts.{run_faults, run_overruns};
+ghost use Rattle.edge_real.specs.Children.{IsRunFault, IsStreamFault, NamesNoStream, given_word, CanBeGiven, IsCommandOf, first_input, has_output, ending_text, input_name, output_name};
 ghost use Rattle.edge_real.specs.OwnNames.{names_view, first_names, name_if, SameOwner};
 ghost use Rattle.edge_real.specs.Views.{station_view, counted_station, names_of};
-ghost use Rattle.edge_real.specs.Children.{IsRunFault, IsStreamFault, NamesNoStream, given_word, CanBeGiven, IsCommandOf, first_input, has_output, ending_text, input_name, output_name};
 
 use crate::counting::raise;
 use crate::disk::load;
