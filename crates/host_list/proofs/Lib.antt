@@ -7,7 +7,9 @@ pub mod NameLemmas
 pub mod Reading
 pub mod PartReading
 pub mod WordReading
+pub mod EveryWord
 pub mod TextReading
+pub mod EveryText
 pub mod Answering
 pub mod Limits
 pub mod PrintedText

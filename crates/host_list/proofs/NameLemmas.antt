@@ -1,5 +1,5 @@
 -- Names of hosts.
-use Rattle.std.proofs.Common.{◌≡◌, ℕ, ◌<◌, true, false, eqb, List, length, get_or, take, min, refl, sym, ◌∙◌, ⊎_elim, arith}
+use Rattle.std.proofs.Common.{◌≡◌, ℕ, ◌<◌, ◌≤◌, true, false, eqb, List, length, get_or, take, min, refl, sym, ◌∙◌, ⊎_elim, arith}
 use Rattle.std.specs.Prelude.{slice_index}
 use Rattle.std.specs.List.{prefix_len}
 use Rattle.std.proofs.lemmas.Bool.{cases_Bool, false≢true, eq-eqb}
@@ -18,6 +18,12 @@ no_dash word h = ⊎_elim (λ yes. absurd (let none : name_reach word ≡ 0 = rw
 
 pub reach_is : (word : List ℕ) → 0 < name_reach word → name_reach word ≡ min 255 (prefix_len is_name_byte word)
 reach_is word h = let no = no_dash word h in rw no refl
+
+-- a name doesn't reach behind the word
+pub reach_within : (word : List ℕ) → name_reach word ≤ length word
+reach_within word =
+    let low = prefix_len-le-length is_name_byte word in
+    ⊎_elim (λ dash. let none : name_reach word ≡ 0 = rw dash refl in omega arith) (λ other. let is : name_reach word ≡ min 255 (prefix_len is_name_byte word) = rw other refl in omega arith) (cases_Bool (eqb (slice_index word 0) 45))
 
 -- what a name reaches to is one
 pub name_front : (word : List ℕ) → begins_with_name word ≡ true → IsHostName (take (name_reach word) word)

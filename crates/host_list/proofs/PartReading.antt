@@ -1,5 +1,5 @@
 -- One reading of what stands behind a name.
-use Rattle.std.proofs.Common.{◌≡◌, ℕ, suc, ◌+◌, ◌<◌, ◌≤◌, Bool, true, false, not, ◌&&◌, cond, List, [], ◌∷◌, ◌++◌, length, get_or, Option, Some, None, Result, Ok, Err, refl, ap, sym, subst, ◌∙◌, ⊎_elim, arith}
+use Rattle.std.proofs.Common.{◌≡◌, ℕ, suc, ◌+◌, ◌<◌, ◌≤◌, Bool, true, false, not, ◌&&◌, cond, List, [], ◌∷◌, ◌++◌, length, get_or, Option, Some, None, Result, Ok, Err, refl, ap, sym, subst, ◌∙◌, ⊎_elim, inl, inr, arith}
 use Rattle.std.specs.Prelude.{◌==◌, nat_lt, nat_le, MatchBool, IsSome, ◌⊎◌}
 use Rattle.std.specs.Char.{digit_value}
 use Rattle.std.specs.List.{AllPass}
@@ -64,18 +64,33 @@ number_found most greatest digits n h =
     let high : nat_le (digits_value 10 digits) greatest ≡ true = le_true (digits_value 10 digits) greatest (let l = h.high in omega arith) in
     rw (some, few, each, low, high) (ap Some value)
 
-pub number_none : (most greatest : ℕ) (digits : List ℕ) → ((n : ℕ) → IsNumber most greatest digits n → ⊥) → number_at most greatest digits ≡ None
-unfolding number_at
-number_none most greatest digits wrong =
+-- digits that pass the test are a number
+pub number_of : (most greatest : ℕ) (digits : List ℕ) → is_number most greatest digits ≡ true → IsNumber most greatest digits (digits_value 10 digits)
+number_of most greatest digits passes =
     let v : ℕ = digits_value 10 digits in
-    ⊎_elim
-    (λ yes.
-    let a = and_parts (nat_le 1 (length digits)) _ yes in
+    let a = and_parts (nat_le 1 (length digits)) _ passes in
     let b = and_parts (nat_le (length digits) most) _ a.1 in
     let c = and_parts (all_digits digits) _ b.1 in
     let d = and_parts (nat_le 1 v) (nat_le v greatest) c.1 in
-    absurd (wrong v (record { some = true_le 1 (length digits) a.0; few = true_le (length digits) most b.0; each = true-all_digits digits c.0; value = refl; low = true_le 1 v d.0; high = true_le v greatest d.1 })))
+    record { some = true_le 1 (length digits) a.0; few = true_le (length digits) most b.0; each = true-all_digits digits c.0; value = refl; low = true_le 1 v d.0; high = true_le v greatest d.1 }
+
+pub number_none : (most greatest : ℕ) (digits : List ℕ) → ((n : ℕ) → IsNumber most greatest digits n → ⊥) → number_at most greatest digits ≡ None
+unfolding number_at
+number_none most greatest digits wrong =
+    ⊎_elim
+    (λ yes. absurd (wrong (digits_value 10 digits) (number_of most greatest digits yes)))
     (λ none. rw none refl)
+    (cases_Bool (is_number most greatest digits))
+
+no_number_at : (most greatest : ℕ) (digits : List ℕ) → is_number most greatest digits ≡ false → number_at most greatest digits ≡ None
+unfolding number_at
+no_number_at most greatest digits fails = rw fails refl
+
+-- digits are a number or none
+pub number_or_none : (most greatest : ℕ) (digits : List ℕ) → ((n : ℕ) × IsNumber most greatest digits n) ⊎ ((n : ℕ) → IsNumber most greatest digits n → ⊥)
+number_or_none most greatest digits = ⊎_elim
+    (λ yes. inl (digits_value 10 digits, number_of most greatest digits yes))
+    (λ no. inr (λ n is. let found = number_found most greatest digits n is in let none = no_number_at most greatest digits no in cc))
     (cases_Bool (is_number most greatest digits))
 
 -- ---- parts

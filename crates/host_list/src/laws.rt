@@ -1,6 +1,6 @@
 //! Laws of the host list's grammar.
 
-ghost use Rattle.std.specs.Prelude.{ℕ, ◌≡◌, List};
+ghost use Rattle.std.specs.Prelude.{ℕ, ◌≡◌, ◌⊎◌, List};
 ghost use Rattle.farm_types.specs.declared.hosts.Hosts.{Hosts};
 ghost use Rattle.host_list.specs.declared.meaning.Meaning.{Meaning};
 ghost use Rattle.host_list.specs.declared.fault.HostFault.{HostFault};
@@ -17,6 +17,12 @@ pub fn one_reading_of_words()
         → WordFault word at fault → WordFault word there other → (at ≡ there) × (fault ≡ other) }
 {}
 
+/// Each word has a meaning or a fault.
+pub fn every_word_is_read()
+    ensures { (word : List ℕ)
+        → ((meaning : Meaning) × HostWord word meaning) ⊎ ((at : ℕ) × (fault : HostFault) × WordFault word at fault) }
+{}
+
 /// A text has one meaning at most, or one fault at one place, and not both.
 pub fn one_reading_of_texts()
     ensures list { (text : List ℕ) (one other : Hosts)
@@ -26,4 +32,10 @@ pub fn one_reading_of_texts()
     ensures fault { (text : List ℕ) (at there : ℕ) (fault other : HostFault)
         → HostFaultStands text at fault → HostFaultStands text there other
         → (at ≡ there) × (fault ≡ other) }
+{}
+
+/// Each text is a host list or has a fault.
+pub fn every_text_is_read()
+    ensures { (text : List ℕ)
+        → ((hosts : Hosts) × HostListOf text hosts) ⊎ ((at : ℕ) × (fault : HostFault) × HostFaultStands text at fault) }
 {}
