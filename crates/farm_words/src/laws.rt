@@ -1,10 +1,12 @@
 //! Laws of the grammar.
 
-ghost use Rattle.std.specs.Prelude.{ℕ, ◌≡◌, List};
+ghost use Rattle.std.specs.Prelude.{ℕ, ◌≡◌, ◌⊎◌, List};
 ghost use Rattle.farm_words.specs.Commands.{BadAt, IsCommand, Meaning};
 
-/// Words are one command at most, or bad at one place, and not both.
+/// Words are one command, or bad at one place, and not both.
 pub fn one_reading()
+    ensures some { (words : List (List ℕ))
+        → ((meant : Meaning) × IsCommand words meant) ⊎ ((place : ℕ) × BadAt words place) }
     ensures meaning { (words : List (List ℕ)) (one other : Meaning)
         → IsCommand words one → IsCommand words other → one ≡ other }
     ensures apart { (words : List (List ℕ)) (meant : Meaning) (place : ℕ)

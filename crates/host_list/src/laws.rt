@@ -7,8 +7,10 @@ ghost use Rattle.host_list.specs.declared.fault.HostFault.{HostFault};
 ghost use Rattle.host_list.specs.HostWords.{HostWord, WordFault};
 ghost use Rattle.host_list.specs.HostLists.{HostListOf, HostFaultStands};
 
-/// A word has one meaning at most, or one fault at one place, and not both.
+/// A word has one meaning, or one fault at one place, and not both.
 pub fn one_reading_of_words()
+    ensures some { (word : List ℕ)
+        → ((meaning : Meaning) × HostWord word meaning) ⊎ ((at : ℕ) × (fault : HostFault) × WordFault word at fault) }
     ensures meaning { (word : List ℕ) (one other : Meaning)
         → HostWord word one → HostWord word other → one ≡ other }
     ensures apart { (word : List ℕ) (meaning : Meaning) (at : ℕ) (fault : HostFault)
@@ -17,14 +19,10 @@ pub fn one_reading_of_words()
         → WordFault word at fault → WordFault word there other → (at ≡ there) × (fault ≡ other) }
 {}
 
-/// Each word has a meaning or a fault.
-pub fn every_word_is_read()
-    ensures { (word : List ℕ)
-        → ((meaning : Meaning) × HostWord word meaning) ⊎ ((at : ℕ) × (fault : HostFault) × WordFault word at fault) }
-{}
-
-/// A text has one meaning at most, or one fault at one place, and not both.
+/// A text is one host list, or has one fault at one place, and not both.
 pub fn one_reading_of_texts()
+    ensures some { (text : List ℕ)
+        → ((hosts : Hosts) × HostListOf text hosts) ⊎ ((at : ℕ) × (fault : HostFault) × HostFaultStands text at fault) }
     ensures list { (text : List ℕ) (one other : Hosts)
         → HostListOf text one → HostListOf text other → one ≡ other }
     ensures apart { (text : List ℕ) (hosts : Hosts) (at : ℕ) (fault : HostFault)
@@ -32,10 +30,4 @@ pub fn one_reading_of_texts()
     ensures fault { (text : List ℕ) (at there : ℕ) (fault other : HostFault)
         → HostFaultStands text at fault → HostFaultStands text there other
         → (at ≡ there) × (fault ≡ other) }
-{}
-
-/// Each text is a host list or has a fault.
-pub fn every_text_is_read()
-    ensures { (text : List ℕ)
-        → ((hosts : Hosts) × HostListOf text hosts) ⊎ ((at : ℕ) × (fault : HostFault) × HostFaultStands text at fault) }
 {}

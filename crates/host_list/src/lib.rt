@@ -13,9 +13,7 @@ mod text;
 mod word;
 
 pub use fault::{HostError, HostFault};
-pub use laws::{
-    every_text_is_read, every_word_is_read, one_reading_of_texts, one_reading_of_words,
-};
+pub use laws::{one_reading_of_texts, one_reading_of_words};
 pub use list::parse;
 pub use meaning::Meaning;
 pub use number::read_port;

@@ -1,5 +1,8 @@
-use Rattle.farm_words.proofs.Reading.{one_meaning, no_both, one_place}
+use Rattle.farm_words.proofs.Reading.{some_reading, one_meaning, no_both, one_place}
 use Rattle.farm_words.proofs.laws.one_reading.Goals as goal
+
+pub returns-clause-some : goal.returns-clause-some
+returns-clause-some c = some_reading
 
 pub returns-clause-meaning : goal.returns-clause-meaning
 returns-clause-meaning c = one_meaning

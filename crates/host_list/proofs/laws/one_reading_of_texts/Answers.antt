@@ -1,5 +1,9 @@
+use Rattle.host_list.proofs.EveryText.{every_text}
 use Rattle.host_list.proofs.TextReading.{one_hosts, no_both, one_fault}
 use Rattle.host_list.proofs.laws.one_reading_of_texts.Goals as goal
+
+pub returns-clause-some : goal.returns-clause-some
+returns-clause-some c = every_text
 
 pub returns-clause-list : goal.returns-clause-list
 returns-clause-list c = one_hosts

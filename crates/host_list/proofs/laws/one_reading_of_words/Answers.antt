@@ -1,5 +1,9 @@
+use Rattle.host_list.proofs.EveryWord.{every_word}
 use Rattle.host_list.proofs.WordReading.{one_meaning, no_both, one_fault}
 use Rattle.host_list.proofs.laws.one_reading_of_words.Goals as goal
+
+pub returns-clause-some : goal.returns-clause-some
+returns-clause-some c = every_word
 
 pub returns-clause-meaning : goal.returns-clause-meaning
 returns-clause-meaning c = one_meaning
