@@ -145,14 +145,14 @@ fn output_file<'a, R: rt::Files>(
     ensures owner { SameOwner (names_view names.old) (names_view names.new) }
     ensures fault { IfErr result NamesNoStream }
 {
-    if !stands_output(words) {
+    if !has_output(words) {
         return Ok(None);
     }
     let (object, _file) = OwnFile::create(rt, names, alloc, "o")?;
     Ok(Some(object))
 }
 
-fn stands_output(words: &[Word]) -> bool
+fn has_output(words: &[Word]) -> bool
     ensures { result ≡ has_output words.now }
 {
     for word in words {
