@@ -166,13 +166,13 @@ fn a_shared_door_is_at_the_same_port(rt: HostRuntime) -> Result<(), Fail> {
 fn a_child_gives_its_status_outputs_and_object(rt: HostRuntime) -> Result<(), Fail> {
     let alloc = rt.alloc();
     let mut station = ChildStation::new(rt, String::from_str(alloc, ".")?, 7);
-    let script = b"cat $0 > $1; cat; echo $0; echo no >&2; exit 3";
+    let script = b"cat $0 > $1; cat; echo $0; stat -c %a $0 $1; echo no >&2; exit 3";
     let words = shell(alloc, script)?;
     let ran = station
         .run(alloc, words.as_slice(), b"int a;\n", &BOUNDS)
         .map_err(|_| "run")?;
     assert_eq!(rt; ran.status, 768);
-    assert_eq!(rt; ran.out.as_slice(), b"./farm-7-1.ii\n".as_slice());
+    assert_eq!(rt; ran.out.as_slice(), b"./farm-7-1.ii\n600\n600\n".as_slice());
     assert_eq!(rt; ran.err.as_slice(), b"no\n".as_slice());
     assert_eq!(rt; ran.object.as_slice(), b"int a;\n".as_slice());
     let mut files = DiskFiles::new(rt);
@@ -180,6 +180,25 @@ fn a_child_gives_its_status_outputs_and_object(rt: HostRuntime) -> Result<(), Fa
         let name = Bytes::from_slice(alloc, name)?;
         assert!(rt; matches!(files.load(alloc, &name, 9), Err(FetchFault::Absent)));
     }
+    Ok(())
+}
+
+#[test]
+fn a_name_that_is_there_is_passed_over(rt: HostRuntime) -> Result<(), Fail> {
+    let alloc = rt.alloc();
+    let mut files = DiskFiles::new(rt);
+    let there = Bytes::from_slice(alloc, b"farm-6-1.ii")?;
+    files.create(alloc, &there)?;
+    files.append(alloc, &there, b"mine")?;
+    let mut station = ChildStation::new(rt, String::from_str(alloc, ".")?, 6);
+    let words = shell(alloc, b"echo $0")?;
+    let ran = station
+        .run(alloc, words.as_slice(), b"int a;\n", &BOUNDS)
+        .map_err(|_| "run")?;
+    assert_eq!(rt; ran.out.as_slice(), b"./farm-6-2.ii\n".as_slice());
+    let kept = files.load(alloc, &there, 9)?;
+    assert_eq!(rt; kept.as_slice(), b"mine".as_slice());
+    files.remove(&there)?;
     Ok(())
 }
 
