@@ -99,16 +99,16 @@ module _ (may : List ℕ → List ℕ → Type 0) (plan : RemotePlan) (host : Ho
         may = λ k. (adds.may k, tt);
       }
 
--- the request of a copy of the plan's words is the plan's
-module _ (plan : RemotePlan) (words : List (List ℕ)) (same : words ≡ plan.words) (r : Ran) (host : Host) (x : Exchange) where
-  pub begun_by : IsBegun x (record { words = words; source = r.out }) host → IsBegun x (request_of plan r) host
-  begun_by is = subst (λ w. IsBegun x (record { words = w; source = r.out }) host) same is
+-- what is so of the request that was made is so of the plan's
+module _ (plan : RemotePlan) (request : Request) (r : Ran) (same : request ≡ request_of plan r) (host : Host) (x : Exchange) where
+  pub begun_by : IsBegun x request host → IsBegun x (request_of plan r) host
+  begun_by is = subst (λ q. IsBegun x q host) same is
 
-  pub whole_by : (o : Outcome) → IsWhole x (record { words = words; source = r.out }) host o → IsWhole x (request_of plan r) host o
-  whole_by o is = subst (λ w. IsWhole x (record { words = w; source = r.out }) host o) same is
+  pub whole_by : (o : Outcome) → IsWhole x request host o → IsWhole x (request_of plan r) host o
+  whole_by o is = subst (λ q. IsWhole x q host o) same is
 
-  pub broken_by : (c : Cause) → IsBroken x (record { words = words; source = r.out }) host c → IsBroken x (request_of plan r) host c
-  broken_by c is = subst (λ w. IsBroken x (record { words = w; source = r.out }) host c) same is
+  pub broken_by : (c : Cause) → IsBroken x request host c → IsBroken x (request_of plan r) host c
+  broken_by c is = subst (λ q. IsBroken x q host c) same is
 
 -- a preprocessor that failed
 pub ends_early : (plan : RemotePlan) (host : Host) (at : ℕ) (r : Ran) (end : End) → end ≡ Done r.status [] r.err [] Cpp → r.status ≢ 0 → RemoteCourse plan host at (preprocessed plan r ∷ []) end

@@ -1,6 +1,6 @@
 //! The course of one job.
 
-ghost use Rattle.std.specs.Prelude.{◌≡◌, ◌≤◌, [], false, vec_capacity};
+ghost use Rattle.std.specs.Prelude.{◌≡◌, ◌≤◌, [], false, vec_capacity, IfOk};
 ghost use Rattle.edge_traits.specs.Told.{SameRelation};
 ghost use Rattle.edge_traits.specs.Kits.{kit_view};
 ghost use Rattle.farm_machine.specs.declared.reports.By.TheVariants.{Cpp, Remote};
@@ -15,7 +15,7 @@ use farm_machine::{By, End, Event, EventList, RemotePlan, Report, Why5};
 use farm_types::limits::CHILD_ERR_MAX;
 use farm_types::{Bytes, Host, Outcome, Ran, Request};
 use remote_transfer::{Attempt, attempt};
-use std::alloc::Global;
+use std::alloc::{AllocError, Global};
 
 // What a preprocessor may give: a source of a request, and the messages of a child.
 const BOUNDS: Bounds = Bounds {
@@ -60,6 +60,14 @@ fn done_by_host(at: u32, note: Bytes, outcome: Outcome) -> End
     }
 }
 
+// The request of the plan's words with this source.
+fn request_for(plan: &RemotePlan, source: Bytes) -> Result<Request, AllocError>
+    ensures { IfOk result (λ request. request ≡ record { words = plan.now.words; source = source }) }
+{
+    let words = plan.words.copy()?;
+    Ok(Request { words, source })
+}
+
 // Carries out the plan, and tells of each deed by an event.
 fn carry_out<D: Dialer, S: Station, K: Keeper, C: Clock>(
     alloc: Global,
@@ -78,10 +86,8 @@ fn carry_out<D: Dialer, S: Station, K: Keeper, C: Clock>(
         (kit_view D.shows S.shows K.shows C.shows kit.new) }
     ensures may_give { SameRelation (D.may_give kit.old.dialer) (D.may_give kit.new.dialer) }
 {
-    let ran = match kit
-        .station
-        .run(alloc, plan.preprocess.as_slice(), &[], &BOUNDS)
-    {
+    let words = plan.preprocess.as_slice();
+    let ran = match kit.station.run(alloc, words, &[], &BOUNDS) {
         Ok(ran) => ran,
         Err(fault) => return End::Failed(why_not_run(fault)),
     };
@@ -89,13 +95,8 @@ fn carry_out<D: Dialer, S: Station, K: Keeper, C: Clock>(
     if ran.status != 0 {
         return done_by_preprocessor(alloc, ran);
     }
-    let words = match plan.words.copy() {
-        Ok(words) => words,
-        Err(_) => return End::Failed(Why5::Memory),
-    };
-    let request = Request {
-        words,
-        source: ran.out,
+    let Ok(request) = request_for(plan, ran.out) else {
+        return End::Failed(Why5::Memory);
     };
     let outcome = match attempt(alloc, &request, host, &mut kit.dialer) {
         Attempt::Memory { dialed: false } => return End::Failed(Why5::Memory),
@@ -113,10 +114,8 @@ fn carry_out<D: Dialer, S: Station, K: Keeper, C: Clock>(
     if outcome.status != 0 {
         return done_by_host(at, ran.err, outcome);
     }
-    match kit
-        .keeper
-        .put(alloc, &plan.output, outcome.object.as_slice())
-    {
+    let object = outcome.object.as_slice();
+    match kit.keeper.put(alloc, &plan.output, object) {
         Ok(()) => {
             events.push(Event::Put(0)).unwrap();
             done_by_host(at, ran.err, outcome)
