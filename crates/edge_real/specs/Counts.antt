@@ -7,9 +7,9 @@ use Rattle.edge_traits.specs.declared.faults.StationFault.TheVariants.{Failed as
 use Rattle.edge_traits.specs.Calls.{one_more}
 
 -- one more where the call came to nothing
-abbrev pub counted : {T E : Type 0} → Result T E → ℕ → ℕ
-counted (Ok value) count = count
-counted (Err fault) count = one_more count
+abbrev pub call_faults : {T E : Type 0} → Result T E → ℕ → ℕ
+call_faults (Ok value) count = count
+call_faults (Err fault) count = one_more count
 
 -- one more for an append that came to nothing, or that took none of a piece with bytes
 abbrev pub append_faults : {E : Type 0} → Result ℕ E → List ℕ → ℕ → ℕ

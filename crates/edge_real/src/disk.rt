@@ -1,6 +1,6 @@
 ghost use Rattle.std.specs.Prelude.{◌≡◌, ◌≢◌, ◌≤◌, length, IfOk, IfErr, OnOk, MatchResult, Err};
 ghost use Rattle.std.specs.Str.{IsUtf8};
-ghost use Rattle.edge_real.specs.Counts.{counted, append_faults, load_faults, load_overruns};
+ghost use Rattle.edge_real.specs.Counts.{call_faults, append_faults, load_faults, load_overruns};
 ghost use Rattle.edge_real.specs.Reading.{IsLoadFault};
 ghost use Rattle.edge_real.specs.Views.{files_view, counted_files};
 
@@ -42,7 +42,7 @@ impl<R: rt::Files> Files for DiskFiles<R> {
     fn create(&mut self, _alloc: Global, name: &Bytes) -> Result<(), EdgeFault>
         ensures name { OnOk result (IsUtf8 name.now) }
         ensures overruns { (files_view self.new).overruns ≡ (files_view self.old).overruns }
-        ensures faults { (files_view self.new).faults ≡ counted result (files_view self.old).faults }
+        ensures faults { (files_view self.new).faults ≡ call_faults result (files_view self.old).faults }
     {
         let created = create_file(&self.rt, name);
         if created.is_err() {
@@ -74,7 +74,7 @@ impl<R: rt::Files> Files for DiskFiles<R> {
     fn rename(&mut self, _alloc: Global, from: &Bytes, to: &Bytes) -> Result<(), EdgeFault>
         ensures name { OnOk result (IsUtf8 from.now × IsUtf8 to.now) }
         ensures overruns { (files_view self.new).overruns ≡ (files_view self.old).overruns }
-        ensures faults { (files_view self.new).faults ≡ counted result (files_view self.old).faults }
+        ensures faults { (files_view self.new).faults ≡ call_faults result (files_view self.old).faults }
     {
         let renamed = rename_file(&self.rt, from, to);
         if renamed.is_err() {
@@ -87,7 +87,7 @@ impl<R: rt::Files> Files for DiskFiles<R> {
         ensures name { OnOk result (IsUtf8 name.now) }
         ensures overruns { (files_view self.new).overruns ≡ (files_view self.old).overruns }
         ensures memory { result ≢ Err EdgeFault.Memory }
-        ensures faults { (files_view self.new).faults ≡ counted result (files_view self.old).faults }
+        ensures faults { (files_view self.new).faults ≡ call_faults result (files_view self.old).faults }
     {
         let removed = remove_file(&self.rt, name);
         if removed.is_err() {

@@ -3,7 +3,7 @@ ghost use Rattle.std.specs.IoError.{error_kind};
 ghost use Rattle.std.specs.Net.Addr.{IsIpv4OfBits};
 ghost use Rattle.std.specs.Net.Socket.{v4_ip, v4_port};
 ghost use Rattle.edge_traits.specs.Links.{IsNew};
-ghost use Rattle.edge_real.specs.Counts.{counted};
+ghost use Rattle.edge_real.specs.Counts.{call_faults};
 ghost use Rattle.edge_real.specs.Views.{link_view, door_view, counted_door, is_listening, peer_bits};
 
 use crate::counting::raise;
@@ -103,7 +103,7 @@ where
         ensures new { IfOk result (λ accepted. IsNew (link_view accepted.0)) }
         ensures listener { is_listening self.new ≡ is_listening self.old }
         ensures closed { is_listening self.old ≡ false → result ≡ Err EdgeFault.Failed }
-        ensures faults { (door_view self.new).faults ≡ counted result (door_view self.old).faults }
+        ensures faults { (door_view self.new).faults ≡ call_faults result (door_view self.old).faults }
     {
         match self.accept_one() {
             Ok((stream, peer)) => {

@@ -3,7 +3,7 @@ ghost use Rattle.std.specs.Str.{IsUtf8};
 ghost use Rattle.std.specs.Io.KnownBytes.{ReadConsumes, WriteAppends};
 ghost use Rattle.std.proofs.Common.{◌∙◌, sym};
 ghost use Rattle.edge_traits.specs.Links.{IsFresh, moved_none};
-ghost use Rattle.edge_real.specs.Counts.{counted};
+ghost use Rattle.edge_real.specs.Counts.{call_faults};
 ghost use Rattle.edge_real.specs.Views.{link_view, stream_of, dialer_view, counted_dialer};
 
 use crate::counting::raise;
@@ -96,7 +96,7 @@ impl<S: Read + Write> Link for TcpLink<S> {
         ensures origin { (link_view self.new).origin ≡ (link_view self.old).origin }
         ensures stopped { (link_view self.new).stopped ≡ ((link_view self.old).stopped || moved_none result) }
         ensures ended { (link_view self.new).ended ≡ (link_view self.old).ended }
-        ensures faults { (link_view self.new).faults ≡ counted result (link_view self.old).faults }
+        ensures faults { (link_view self.new).faults ≡ call_faults result (link_view self.old).faults }
     {
         match write_once(&mut self.stream, piece) {
             Ok(count) => {
@@ -117,7 +117,7 @@ impl<S: Read + Write> Link for TcpLink<S> {
         ensures origin { (link_view self.new).origin ≡ (link_view self.old).origin }
         ensures ended { (link_view self.new).ended ≡ ((link_view self.old).ended || moved_none result) }
         ensures stopped { (link_view self.new).stopped ≡ (link_view self.old).stopped }
-        ensures faults { (link_view self.new).faults ≡ counted result (link_view self.old).faults }
+        ensures faults { (link_view self.new).faults ≡ call_faults result (link_view self.old).faults }
     {
         match read_once(&mut self.stream, room) {
             Ok(count) => {
@@ -177,7 +177,7 @@ impl<R: Net> Dialer for TcpDialer<R> {
     ) -> Result<TcpLink<R::Stream>, EdgeFault>
         ensures fresh { IfOk result (λ link. IsFresh host.now port (link_view link)) }
         ensures name { IfOk result (λ link. IsUtf8 host.now.text) }
-        ensures faults { (dialer_view self.new).faults ≡ counted result (dialer_view self.old).faults }
+        ensures faults { (dialer_view self.new).faults ≡ call_faults result (dialer_view self.old).faults }
     {
         let link = self.connect(host, port);
         if link.is_err() {

@@ -32,13 +32,14 @@ record OneWrong (count : ℕ) (words : List TextWord) : Type 0 where
   few : count + length (entries_of meanings) ≤ 16
   wrong : IsWrongWord (count + length (entries_of meanings)) word at fault
 
-abbrev Told : ℕ → List TextWord → Type 0
-Told count words = AllRight count words ⊎ OneWrong count words
+-- all are right, or one is wrong
+abbrev AreRead : ℕ → List TextWord → Type 0
+AreRead count words = AllRight count words ⊎ OneWrong count words
 
 nothing_more : (count : ℕ) → count ≡ count + 0
 nothing_more count = omega arith
 
-wrong_first : (count : ℕ) (w : TextWord) (ws : List TextWord) (at : ℕ) (fault : HostFault) → count ≤ 16 → IsWrongWord count w at fault → Told count (w ∷ ws)
+wrong_first : (count : ℕ) (w : TextWord) (ws : List TextWord) (at : ℕ) (fault : HostFault) → count ≤ 16 → IsWrongWord count w at fault → AreRead count (w ∷ ws)
 wrong_first count w ws at fault few wrong = inr (record {
   before = [];
   word = w;
@@ -53,7 +54,7 @@ wrong_first count w ws at fault few wrong = inr (record {
 })
 
 -- a right word comes first, after which there are so many entries
-right_first : (count next : ℕ) (w : TextWord) (ws : List TextWord) (m : Meaning) → HostWord w.bytes m → ((ms : List Meaning) → next + length (entries_of ms) ≡ count + length (entries_of (m ∷ ms))) → Told next ws → Told count (w ∷ ws)
+right_first : (count next : ℕ) (w : TextWord) (ws : List TextWord) (m : Meaning) → HostWord w.bytes m → ((ms : List Meaning) → next + length (entries_of ms) ≡ count + length (entries_of (m ∷ ms))) → AreRead next ws → AreRead count (w ∷ ws)
 right_first count next w ws m here same (inl all) = inl (record {
   meanings = m ∷ all.meanings;
   each = (here, all.each);
@@ -72,7 +73,7 @@ right_first count next w ws m here same (inr one) = inr (record {
   wrong = subst (λ n. IsWrongWord n one.word one.at one.fault) (same one.meanings) one.wrong;
 })
 
-word_first : (count : ℕ) (w : TextWord) (ws : List TextWord) (m : Meaning) → count ≤ 16 → HostWord w.bytes m → ((n : ℕ) → n ≤ 16 → Told n ws) → Told count (w ∷ ws)
+word_first : (count : ℕ) (w : TextWord) (ws : List TextWord) (m : Meaning) → count ≤ 16 → HostWord w.bytes m → ((n : ℕ) → n ≤ 16 → AreRead n ws) → AreRead count (w ∷ ws)
 word_first count w ws (Entry host) few here on = ⊎_elim
     (λ more. right_first count (count + 1) w ws (Entry host) here (λ ms. omega arith) (on (count + 1) (omega arith)))
     (λ full. wrong_first count w ws w.at _ few (inr (host, here, omega arith, refl, refl)))
@@ -81,10 +82,10 @@ word_first count w ws (LocalSlots n) few here on = right_first count count w ws 
 word_first count w ws (LocalCpp n) few here on = right_first count count w ws (LocalCpp n) here (λ ms. refl) (on count few)
 word_first count w ws Randomize few here on = right_first count count w ws Randomize here (λ ms. refl) (on count few)
 
-told : (count : ℕ) (ws : List TextWord) → count ≤ 16 → Told count ws
-told count [] few = inl (record { meanings = []; each = tt; few = omega arith })
-told count (w ∷ ws) few = ⊎_elim
-    (λ meant. word_first count w ws meant.0 few meant.1 (λ n small. told n ws small))
+words_read : (count : ℕ) (ws : List TextWord) → count ≤ 16 → AreRead count ws
+words_read count [] few = inl (record { meanings = []; each = tt; few = omega arith })
+words_read count (w ∷ ws) few = ⊎_elim
+    (λ meant. word_first count w ws meant.0 few meant.1 (λ n small. words_read n ws small))
     (λ wrong. wrong_first count w ws (w.at + wrong.0) wrong.1 few (inl (wrong.0, wrong.2, refl)))
     (every_word w.bytes)
 
@@ -118,4 +119,4 @@ every_text text = ⊎_elim
         wrong = subst (λ n. IsWrongWord n one.word one.at one.fault) (no_entries (length (entries_of one.meanings))) one.wrong;
       },
     ))
-    (told 0 (words_of text) (omega arith))
+    (words_read 0 (words_of text) (omega arith))
