@@ -8,12 +8,13 @@ use crate::request::Words;
 pub type Jobs = Items<Words>;
 
 /// How jobs are run: on which hosts, whether a job that no host could do is compiled here, whether one that
-/// a host answered with a failure is compiled here once more, and for how many seconds a host that broke an
-/// exchange is left alone.
+/// a host answered with a failure is compiled here once more, for how many seconds a host that broke an
+/// exchange is left alone, and with how many hosts a job may make an exchange, 1 to 16.
 #[derive(Debug, Drop)]
 pub struct JobConfig {
     pub hosts: Hosts,
     pub fallback: bool,
     pub retry: bool,
     pub period: u32,
+    pub tries: u8,
 }

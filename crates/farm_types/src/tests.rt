@@ -130,5 +130,8 @@ fn a_trail_keeps_its_entries(rt: HostRuntime) -> Result<(), Fail> {
     let mut trail: Trail<u8> = Trail::new();
     trail.add(Room::new(rt.alloc())?, 1);
     trail.add(Room::new(rt.alloc())?, 2);
+    trail.add(Room::new(rt.alloc())?, 3);
+    assert_eq!(rt; trail.take_last(), Some(3));
+    assert_eq!(rt; trail.into_items(rt.alloc())?.as_slice(), [1, 2].as_slice());
     Ok(())
 }

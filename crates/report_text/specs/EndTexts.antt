@@ -3,8 +3,7 @@ use Rattle.std.specs.Prelude.{ℕ, ◌+◌, List, [], ◌++◌, Option, Some, No
 use Rattle.std.specs.Fmt.{decimal}
 use Rattle.farm_types.specs.declared.hosts.Host.{Host}
 use Rattle.wire_tokens.specs.Token.{lower_digits}
-use Rattle.wire_tokens.specs.declared.faults.ReplyFault.{ReplyFault}
-use Rattle.wire_tokens.specs.declared.faults.ReplyFault.TheVariants.{WrongName, BadDigit, BadVersion, TooLarge, ObjectWithFailure}
+use Rattle.wire_tokens.specs.Numbers.{reply_fault_number}
 use Rattle.edge_traits.specs.declared.cause.Cause.{Cause}
 use Rattle.edge_traits.specs.declared.cause.Cause.TheVariants.{Dial, Send, Recv, Truncated, BadReply, Stopped}
 use Rattle.farm_machine.specs.declared.reports.By.{By}
@@ -30,20 +29,12 @@ entry_text (Some host) = host_text host
 abbrev pub host_text_at : List Host → ℕ → List ℕ
 host_text_at hosts at = entry_text (slice_get hosts at)
 
--- the number of a fault of a reply; 4 is a fault of requests alone
-abbrev pub fault_number : ReplyFault → ℕ
-fault_number WrongName = 1
-fault_number BadDigit = 2
-fault_number (BadVersion n) = 3
-fault_number (TooLarge which len) = 5
-fault_number (ObjectWithFailure status len) = 6
-
 abbrev pub cause_text : Cause → List ℕ
 cause_text Dial = codes "dial"
 cause_text Send = codes "send"
 cause_text Recv = codes "recv"
 cause_text (Truncated have) = codes "cut " ++ decimal have
-cause_text (BadReply at fault) = codes "reply " ++ decimal (fault_number fault) ++ codes " at " ++ decimal at
+cause_text (BadReply at fault) = codes "reply " ++ decimal (reply_fault_number fault) ++ codes " at " ++ decimal at
 cause_text Stopped = codes "stopped"
 
 abbrev pub by_text : List Host → By → List ℕ

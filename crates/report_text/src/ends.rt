@@ -2,13 +2,13 @@
 
 ghost use Rattle.std.specs.Prelude.{◌≡◌, ◌++◌, OnOk};
 ghost use Rattle.std.specs.Fmt.{decimal};
-ghost use Rattle.report_text.specs.EndTexts.{status_text, host_text_at, fault_number, cause_text, by_text, why_text, end_text};
+ghost use Rattle.report_text.specs.EndTexts.{status_text, host_text_at, cause_text, by_text, why_text, end_text};
 
 use edge_traits::Cause;
 use farm_machine::{By, End, Why5};
 use farm_types::{Bytes, Hosts};
 use std::alloc::{AllocError, Global};
-use wire_tokens::{Name4, ReplyFault, write_token};
+use wire_tokens::{Name4, write_token};
 
 pub fn add_number(alloc: Global, text: &mut Bytes, number: u64) -> Result<(), AllocError>
     ensures { OnOk result (text.new ≡ text.old ++ decimal number) }
@@ -38,18 +38,6 @@ fn add_host(alloc: Global, text: &mut Bytes, hosts: &Hosts, at: u32) -> Result<(
     }
 }
 
-fn number_of(fault: ReplyFault) -> u64
-    ensures { result ≡ fault_number fault }
-{
-    match fault {
-        ReplyFault::WrongName => 1,
-        ReplyFault::BadDigit => 2,
-        ReplyFault::BadVersion { .. } => 3,
-        ReplyFault::TooLarge { .. } => 5,
-        ReplyFault::ObjectWithFailure { .. } => 6,
-    }
-}
-
 fn add_cause(alloc: Global, text: &mut Bytes, cause: Cause) -> Result<(), AllocError>
     ensures { OnOk result (text.new ≡ text.old ++ cause_text cause) }
 {
@@ -63,7 +51,7 @@ fn add_cause(alloc: Global, text: &mut Bytes, cause: Cause) -> Result<(), AllocE
         }
         Cause::BadReply { at, fault } => {
             text.try_extend(b"reply ")?;
-            add_number(alloc, text, number_of(fault))?;
+            add_number(alloc, text, u64::from(fault.number()))?;
             text.try_extend(b" at ")?;
             add_number(alloc, text, at)
         }

@@ -1,5 +1,5 @@
 //! Who hands out jobs and slots.
-ghost use Rattle.std.specs.Prelude.{◌≡◌, ◌≢◌, ℕ, ◌+◌, ◌≤◌, Bool, true, false, List, [], ◌∷◌, ◌++◌, is_some, IsSome};
+ghost use Rattle.std.specs.Prelude.{◌≡◌, ◌≢◌, ℕ, ◌+◌, ◌<◌, ◌≤◌, Bool, true, false, List, [], ◌∷◌, ◌++◌, is_some, IsSome, IfSome};
 ghost use Rattle.slot_table.specs.declared.limits.Limits.{Limits};
 ghost use Rattle.slot_table.specs.declared.calls.CallEntry.{CallEntry};
 ghost use Rattle.slot_table.specs.declared.calls.SlotCall.TheVariants.{Draw, Take as AskTake, Give, GiveBad, TakeLocal, GiveLocal};
@@ -58,7 +58,8 @@ pub trait Grants {
         ensures limits { limits self.new ≡ limits self.old }
         ensures number { number self.new ≡ number self.old }
         ensures spare { spare self.new + cost alone ≡ spare self.old }
-        ensures mine { mine self.new ≡ mine self.old ++ entry (number self.old) Draw (Drawn result) ∷ [] };
+        ensures mine { mine self.new ≡ mine self.old ++ entry (number self.old) Draw (Drawn result) ∷ [] }
+        ensures job { IfSome result (λ job. job < (limits self.old).jobs) };
 
     /// A slot of the first entry, in the order of the job's search, that is in the mask, has a free slot and
     /// isn't left alone at the moment `now`.

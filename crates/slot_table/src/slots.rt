@@ -43,6 +43,7 @@ impl<const H: usize> Slots<H> {
     pub fn draw(&mut self, _caller: u32) -> Option<u32>
         ensures limits { self.new.limits ≡ self.old.limits }
         ensures step { slot_step self.old.limits self.old.state Draw ≡ (self.new.state, Drawn result) }
+        ensures job { IfSome result (λ job. job < self.old.limits.jobs) }
     {
         let next = self.state.next;
         if next < self.limits.jobs {

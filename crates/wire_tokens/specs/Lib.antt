@@ -5,3 +5,4 @@ pub mod Texts
 pub mod Reply
 pub mod Step
 pub mod Request
+pub mod Numbers
