@@ -54,8 +54,9 @@ fn word_at(words: &Words, at: usize) -> &[u8]
     }
 }
 
-// The source's last name with the ending of what is made of it.
-fn derived_output(
+/// The output of a command that names none: the source's last name, its ending replaced by `.o` or `.s`
+/// (docs/command-words.md, "The output").
+pub fn derived_output(
     alloc: Global,
     action: Action,
     source: &[u8],

@@ -12,8 +12,8 @@ mod verdict;
 mod why;
 
 pub use class::Scan;
-pub use command::{output_name, scan};
-pub use names::Ending;
+pub use command::{derived_output, output_name, scan};
+pub use names::{Ending, ending_of, is_reserved, last_name};
 pub use part::{Operand, Part, Role, part_of};
 pub use verdict::{Action, OutputPlace, Plan, Verdict, classify, remote_plan};
 pub use why::Why;

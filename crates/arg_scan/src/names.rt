@@ -67,7 +67,7 @@ impl Ending {
 }
 
 /// The part of a path after its last `/`.
-pub(crate) fn last_name(path: &[u8]) -> &[u8]
+pub fn last_name(path: &[u8]) -> &[u8]
     ensures { result.now ≡ last_name path.now }
 {
     match memrchr(b'/', path) {
@@ -76,8 +76,9 @@ pub(crate) fn last_name(path: &[u8]) -> &[u8]
     }
 }
 
-/// The ending of a name that is a source's.
-pub(crate) fn ending_of(name: &[u8]) -> Option<Ending>
+/// The ending of a name that is a source's; None of any other. A path's last name is to be given
+/// (docs/command-words.md, "Sources").
+pub fn ending_of(name: &[u8]) -> Option<Ending>
     ensures { result ≡ ending_of name.now }
 {
     for ending in [
@@ -104,7 +105,7 @@ pub(crate) fn is_conftest(word: &[u8]) -> bool
 }
 
 /// Whether a name ends in `.farm~`: such names are kept for files of the farm's own.
-pub(crate) fn is_reserved(name: &[u8]) -> bool
+pub fn is_reserved(name: &[u8]) -> bool
     ensures { result ≡ is_reserved name.now }
 {
     name.ends_with(b".farm~")

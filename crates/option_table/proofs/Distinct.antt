@@ -7,57 +7,54 @@ use Rattle.std.specs.List.{list_all, list_any, position}
 use Rattle.std.proofs.lemmas.Bool.{false≢true, and_parts, and_from}
 use Rattle.std.proofs.lemmas.Bool.Decides.{Decides-eqb, leb_tells}
 use Rattle.std.proofs.lemmas.List.Folds.{list_any_at, list_any_none, list_all_at}
-use Rattle.std.proofs.lemmas.List.Elements.{All-get_or, All-from_get_or}
-use Rattle.std.proofs.lemmas.List.Sums.{list_all-from_AllPass, AllPass-from_list_all}
+use Rattle.std.proofs.lemmas.List.Elements.{All-from_get_or}
+use Rattle.std.proofs.lemmas.List.Sums.{list_all-from_AllPass}
 use Rattle.std.proofs.lemmas.Slice.Eq.{bytes_eq-Decides, starts_is}
 use Rattle.option_table.specs.declared.row.Form.TheVariants as form
 use Rattle.option_table.specs.declared.row.Effect.TheVariants as effect
 use Rattle.option_table.specs.declared.row.OptionRow.{OptionRow}
-use Rattle.option_table.specs.Rows.{row, row_at, is_used, fits_equal, fits_begin, fits_longest, fits_not, place_of, are_distinct, FitsAt}
-use Rattle.option_table.proofs.Positions.{position_passes, position_fails}
+use Rattle.option_table.specs.Rows.{row, row_at, fits_equal, fits_begin, fits_longest, fits_not, place_of, are_distinct, FitsAt}
+use Rattle.option_table.specs.Faults.{AreApart}
+use Rattle.option_table.proofs.Positions.{fails_by, position_passes, position_fails}
 
 abbrev nowhere : OptionRow
 nowhere = row [] form.None effect.Keep
 
-later_differs : (r : OptionRow) (rows : List OptionRow) (j : ℕ) → not (is_used r && list_any (λ other. bytes_eq r.spelling other.spelling) rows) ≡ true → is_used r ≡ true → j < length rows → bytes_eq r.spelling (get_or rows j nowhere).spelling ≡ true → ⊥
-later_differs r rows j apart used within same =
-    let any = list_any_at (λ other. bytes_eq r.spelling other.spelling) rows j nowhere within same in
-    false≢true (sym (ap not (and_from _ _ used any)) ∙ apart)
-
-swapped : (x y : List ℕ) → bytes_eq x y ≡ true → bytes_eq y x ≡ true
-swapped x y h = (bytes_eq-Decides y x).1 (sym ((bytes_eq-Decides x y).0 h))
-
-used_alike : (r s : OptionRow) → r.spelling ≡ s.spelling → is_used r ≡ true → is_used s ≡ true
-used_alike r s same used = ap (λ text. is_used (row text form.None effect.Keep)) (sym same) ∙ used
+later_differs : (r : OptionRow) (rows : List OptionRow) (j : ℕ) → not (list_any (λ other. bytes_eq r.spelling other.spelling) rows) ≡ true → j < length rows → bytes_eq r.spelling (get_or rows j nowhere).spelling ≡ true → ⊥
+later_differs r rows j apart within same =
+    false≢true (sym (ap not (list_any_at (λ other. bytes_eq r.spelling other.spelling) rows j nowhere within same)) ∙ apart)
 
 -- two places whose rows have one spelling are one place
-pub same_place : (rows : List OptionRow) (i j : ℕ) → are_distinct rows ≡ true → i < length rows → j < length rows → is_used (row_at rows i) ≡ true → (row_at rows i).spelling ≡ (row_at rows j).spelling → i ≡ j
-same_place [] i j distinct a b used same = absurd (omega arith)
-same_place (r ∷ rows) zero zero distinct a b used same = refl
-same_place (r ∷ rows) zero (suc j) distinct a b used same =
-    absurd (later_differs r rows j (and_parts _ _ distinct).0 used (omega arith) ((bytes_eq-Decides _ _).1 same))
-same_place (r ∷ rows) (suc i) zero distinct a b used same =
-    absurd (later_differs r rows i (and_parts _ _ distinct).0 (used_alike (row_at rows i) r same used) (omega arith) ((bytes_eq-Decides _ _).1 (sym same)))
-same_place (r ∷ rows) (suc i) (suc j) distinct a b used same =
-    ap suc (same_place rows i j (and_parts _ _ distinct).1 (omega arith) (omega arith) used same)
+pub same_place : (rows : List OptionRow) (i j : ℕ) → are_distinct rows ≡ true → i < length rows → j < length rows → (row_at rows i).spelling ≡ (row_at rows j).spelling → i ≡ j
+same_place [] i j distinct a b same = absurd (omega arith)
+same_place (r ∷ rows) zero zero distinct a b same = refl
+same_place (r ∷ rows) zero (suc j) distinct a b same =
+    absurd (later_differs r rows j (and_parts _ _ distinct).0 (omega arith) ((bytes_eq-Decides _ _).1 same))
+same_place (r ∷ rows) (suc i) zero distinct a b same =
+    absurd (later_differs r rows i (and_parts _ _ distinct).0 (omega arith) ((bytes_eq-Decides _ _).1 (sym same)))
+same_place (r ∷ rows) (suc i) (suc j) distinct a b same =
+    ap suc (same_place rows i j (and_parts _ _ distinct).1 (omega arith) (omega arith) same)
+
+-- rows of which no two have one spelling are distinct
+pub distinct_from : (rows : List OptionRow) → AreApart rows → are_distinct rows ≡ true
+distinct_from [] apart = refl
+distinct_from (r ∷ rows) apart =
+    and_from _ _
+    (ap not (list_any_none _ rows (All-from_get_or (λ other. bytes_eq r.spelling other.spelling ≡ false) rows nowhere (λ k within. fails_by _ (λ same. apart zero (suc k) record { before = omega arith; within = omega arith; alike = (bytes_eq-Decides _ _).0 same })))))
+    (distinct_from rows (λ i j alike. apart (suc i) (suc j) record { before = omega (arith, alike.before); within = omega (arith, alike.within); alike = alike.alike }))
 
 -- the spelling of a row that equals the word
-equal_spelt : (word : List ℕ) (r : OptionRow) → fits_equal word r ≡ true → (is_used r ≡ true) × (r.spelling ≡ word)
-equal_spelt word r h =
-    let parts = and_parts _ _ h in ((and_parts _ _ parts.0).0, (bytes_eq-Decides _ _).0 parts.1)
+pub equal_spelt : (word : List ℕ) (r : OptionRow) → fits_equal word r ≡ true → r.spelling ≡ word
+equal_spelt word r h = (bytes_eq-Decides _ _).0 (and_parts _ _ h).1
 
 -- the spelling of a row that the word begins with
-begin_spelt : (word : List ℕ) (r : OptionRow) → fits_begin word r ≡ true → (is_used r ≡ true) × (word ≡ r.spelling ++ drop (length r.spelling) word)
-begin_spelt word r h =
-    let parts = and_parts _ _ h in
-    ((and_parts _ _ parts.0).0, (starts_is Decides-eqb word r.spelling _ refl).0 parts.1)
+pub begin_spelt : (word : List ℕ) (r : OptionRow) → fits_begin word r ≡ true → word ≡ r.spelling ++ drop (length r.spelling) word
+begin_spelt word r h = (starts_is Decides-eqb word r.spelling _ refl).0 (and_parts _ _ h).1
 
 -- places of rows that equal the word
 equals_once : (rows : List OptionRow) (word : List ℕ) (i j : ℕ) → are_distinct rows ≡ true → i < length rows → j < length rows → fits_equal word (row_at rows i) ≡ true → fits_equal word (row_at rows j) ≡ true → i ≡ j
 equals_once rows word i j distinct a b at_i at_j =
-    let x = equal_spelt word (row_at rows i) at_i in
-    let y = equal_spelt word (row_at rows j) at_j in
-    same_place rows i j distinct a b x.0 (x.1 ∙ sym y.1)
+    same_place rows i j distinct a b (equal_spelt word (row_at rows i) at_i ∙ sym (equal_spelt word (row_at rows j) at_j))
 
 -- two beginnings of one length are one
 same_begin : (word a b rest more : List ℕ) → word ≡ a ++ rest → word ≡ b ++ more → length a ≡ length b → a ≡ b
@@ -86,7 +83,7 @@ longest_once rows word i j distinct a b at_i at_j =
     let y = begin_spelt word (row_at rows j) begins_j in
     let up = longest_le rows word i j a begins_i at_j in
     let down = longest_le rows word j i b begins_j at_i in
-    same_place rows i j distinct a b x.0 (same_begin word _ _ _ _ x.1 y.1 (omega arith))
+    same_place rows i j distinct a b (same_begin word _ _ _ _ x y (omega arith))
 
 either : (equal any longest : Bool) → (equal || (not any && longest)) ≡ true → (equal ≡ true) ⊎ ((any ≡ false) × (longest ≡ true))
 either true any longest h = inl refl
@@ -109,9 +106,6 @@ not_left a b h = cc
 not_right : (a b : Bool) → b ≡ true → not (a || b) ≡ false
 not_right true b h = refl
 not_right false b h = cc
-
-not_both : (a b : Bool) → a ≡ false → not b ≡ true → not (a || b) ≡ true
-not_both a b h k = cc
 
 any_equals : (rows : List OptionRow) (word : List ℕ) (i : ℕ) → i < length rows → fits_equal word (row_at rows i) ≡ true → list_any (fits_equal word) rows ≡ false → ⊥
 any_equals rows word i within equal none = false≢true (sym none ∙ list_any_at _ rows i nowhere within equal)
@@ -172,27 +166,52 @@ fits_some rows word at fits =
     list_all_at (fits_not word) rows at nowhere fits.within
     (elim (either_at rows word at fits) [ inl x ↦ equal_is_in word (row_at rows at) x | inr x ↦ begin_is_in word (row_at rows at) (and_parts _ _ x.1).0 ])
 
--- where no row equals the word, and it begins with none, no row fits
-pub none_of_both : (rows : List OptionRow) (word : List ℕ) → position (fits_equal word) rows ≡ None → list_all (λ r. not (fits_begin word r)) rows ≡ true → list_all (fits_not word) rows ≡ true
-none_of_both rows word equal begin =
+-- the place that fits is the one that `place_of` answers
+pub place_found : (rows : List OptionRow) (word : List ℕ) (at : ℕ) → are_distinct rows ≡ true → FitsAt rows word at → place_of rows word ≡ Some at
+place_found rows word at distinct fits = by_place (place_of rows word) refl
+  where
+    by_place : (place : Option ℕ) → place_of rows word ≡ place → place ≡ Some at
+    by_place None is = absurd (none_fits rows word at is fits)
+    by_place (Some k) is = ap Some (fits_once rows word k at distinct (place_fits rows word k is) fits)
+
+-- where no place fits, `place_of` answers none
+pub none_found : (rows : List OptionRow) (word : List ℕ) → ((at : ℕ) → FitsAt rows word at → ⊥) → place_of rows word ≡ None
+none_found rows word fails = by_place (place_of rows word) refl
+  where
+    by_place : (place : Option ℕ) → place_of rows word ≡ place → place ≡ None
+    by_place None is = refl
+    by_place (Some k) is = absurd (fails k (place_fits rows word k is))
+
+-- a row that equals the word fits it
+pub equal_fits : (rows : List OptionRow) (word : List ℕ) (at : ℕ) → at < length rows → fits_equal word (row_at rows at) ≡ true → FitsAt rows word at
+equal_fits rows word at within equal = record { within = within; fits = first _ _ equal }
+
+-- the longest row that the word begins with fits it, where none equals it
+pub longest_fits : (rows : List OptionRow) (word : List ℕ) (at : ℕ) → at < length rows → ((k : ℕ) → k < length rows → fits_equal word (row_at rows k) ≡ false) → fits_longest rows word (row_at rows at) ≡ true → FitsAt rows word at
+longest_fits rows word at within none longest = record {
+  within = within;
+  fits = second _ _ _ (list_any_none _ rows (All-from_get_or (λ r. fits_equal word r ≡ false) rows nowhere none)) longest;
+}
+
+-- a row that fits equals the word, or the word begins with it
+pub fits_either : (rows : List OptionRow) (word : List ℕ) (at : ℕ) → FitsAt rows word at → (fits_equal word (row_at rows at) ≡ true) ⊎ (fits_begin word (row_at rows at) ≡ true)
+fits_either rows word at fits =
+    elim (either_at rows word at fits) [ inl x ↦ inl x | inr x ↦ inr (and_parts _ _ x.1).0 ]
+
+-- rows that neither equal the word nor begin it don't fit it
+pub none_fit : (rows : List OptionRow) (word : List ℕ) → ((k : ℕ) → k < length rows → (fits_equal word (row_at rows k) ≡ false) × (fits_begin word (row_at rows k) ≡ false)) → list_all (fits_not word) rows ≡ true
+none_fit rows word none =
     list_all-from_AllPass _ rows
-    (All-from_get_or (λ r. fits_not word r ≡ true) rows nowhere (λ k within.
-    not_both _ _ (position_fails _ rows k nowhere equal within)
-    (All-get_or (λ r. not (fits_begin word r) ≡ true) rows k nowhere within (AllPass-from_list_all _ rows begin))))
+    (All-from_get_or (λ r. fits_not word r ≡ true) rows nowhere (λ k within. neither _ _ (none k within).0 (none k within).1))
+  where
+    neither : (a b : Bool) → a ≡ false → b ≡ false → not (a || b) ≡ true
+    neither a b h k = cc
 
 -- whether a place was found tells whether a row fits
-none_iff : (rows : List OptionRow) (word : List ℕ) (at : Option ℕ) → place_of rows word ≡ at → (IsNone at → (position (fits_equal word) rows ≡ None) × (list_all (λ r. not (fits_begin word r)) rows ≡ true)) → (IsNone at → list_all (fits_not word) rows ≡ true) × (list_all (fits_not word) rows ≡ true → IsNone at)
-none_iff rows word (Some k) h parts =
-    (λ e. absurd (false≢true (sym e)), λ all. absurd (false≢true (sym (fits_some rows word k (place_fits rows word k h)) ∙ all)))
-none_iff rows word None h parts = (λ _. none_of_both rows word (parts refl).0 (parts refl).1, λ _. refl)
-
-pub none_at_equal : (rows : List OptionRow) (word : List ℕ) (at : ℕ) → Some at ≡ position (fits_equal word) rows → (IsNone (Some at) → list_all (fits_not word) rows ≡ true) × (list_all (fits_not word) rows ≡ true → IsNone (Some at))
-none_at_equal rows word at h =
-    none_iff rows word (Some at) (ap (λ e. option_or e (position (fits_longest rows word) rows)) (sym h)) (λ e. absurd (false≢true (sym e)))
-
-pub none_at_longest : (rows : List OptionRow) (word : List ℕ) (at : Option ℕ) → None ≡ position (fits_equal word) rows → at ≡ position (fits_longest rows word) rows → (IsNone at → list_all (λ r. not (fits_begin word r)) rows ≡ true) → (IsNone at → list_all (fits_not word) rows ≡ true) × (list_all (fits_not word) rows ≡ true → IsNone at)
-none_at_longest rows word at equal longest none =
-    none_iff rows word at (ap (λ e. option_or e (position (fits_longest rows word) rows)) (sym equal) ∙ sym longest) (λ e. (sym equal, none e))
+pub none_iff : (rows : List OptionRow) (word : List ℕ) (place : Option ℕ) → place ≡ place_of rows word → (IsNone place → list_all (fits_not word) rows ≡ true) → (IsNone place → list_all (fits_not word) rows ≡ true) × (list_all (fits_not word) rows ≡ true → IsNone place)
+none_iff rows word (Some k) h none =
+    (none, λ all. absurd (false≢true (sym (fits_some rows word k (place_fits rows word k (sym h))) ∙ all)))
+none_iff rows word None h none = (none, λ _. refl)
 
 -- the place that was found is the only one that fits
 pub only_place : (rows : List OptionRow) (word : List ℕ) (at i : ℕ) → are_distinct rows ≡ true → Some at ≡ place_of rows word → FitsAt rows word i → at ≡ i

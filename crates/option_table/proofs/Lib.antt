@@ -1,5 +1,7 @@
 pub mod Distinct
-pub mod GccRows
-pub mod Longest
+pub mod Faulting
 pub mod Pieces
 pub mod Positions
+pub mod Searching
+pub mod Sorting
+pub mod TableRows

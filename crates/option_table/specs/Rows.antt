@@ -1,5 +1,5 @@
 -- Which row of a table of options fits a word.
-use Rattle.std.specs.Prelude.{ℕ, ◌<◌, Bool, true, false, ◌&&◌, ◌||◌, not, nat_le, nat_lt, nat_eq, List, [], ◌∷◌, length, Option, bytes_eq, IsTrue}
+use Rattle.std.specs.Prelude.{ℕ, ◌<◌, Bool, true, false, ◌&&◌, ◌||◌, not, nat_le, nat_eq, List, [], ◌∷◌, length, Option, bytes_eq, IsTrue}
 use Rattle.std.specs.List.{list_all, list_any, starts_with, position, slice_index_or}
 use Rattle.std.specs.Option.{option_map, option_or}
 use Rattle.option_table.specs.declared.row.Form.{Form}
@@ -15,10 +15,6 @@ row spelling form effect = record { spelling = spelling; form = form; effect = e
 -- the row at a place
 abbrev pub row_at : List OptionRow → ℕ → OptionRow
 row_at rows at = slice_index_or rows at (row [] form.None effect.Keep)
-
--- a row without a spelling is an unused place of a table, and fits no word
-abbrev pub is_used : OptionRow → Bool
-is_used row = nat_lt 0 (length row.spelling)
 
 -- whether the form lets a word fit that equals the spelling
 abbrev pub takes_equal : Form → Bool
@@ -36,11 +32,11 @@ takes_rest form.Either = true
 
 -- the word is the row's spelling, of a form that lets such a word fit
 abbrev pub fits_equal : List ℕ → OptionRow → Bool
-fits_equal word row = is_used row && takes_equal row.form && bytes_eq row.spelling word
+fits_equal word row = takes_equal row.form && bytes_eq row.spelling word
 
 -- the word begins with the row's spelling, of a form that lets such a word fit
 abbrev pub fits_begin : List ℕ → OptionRow → Bool
-fits_begin word row = is_used row && takes_rest row.form && starts_with nat_eq word row.spelling
+fits_begin word row = takes_rest row.form && starts_with nat_eq word row.spelling
 
 -- the word begins with the row's spelling, and with no longer one of such a form
 abbrev pub fits_longest : List OptionRow → List ℕ → OptionRow → Bool
@@ -71,5 +67,12 @@ pub record FitsAt (rows : List OptionRow) (word : List ℕ) (at : ℕ) : Type 0 
 -- no two rows have one spelling
 abbrev pub are_distinct : List OptionRow → Bool
 are_distinct [] = true
-are_distinct (row ∷ rows) =
-    not (is_used row && list_any (λ other. bytes_eq row.spelling other.spelling) rows) && are_distinct rows
+are_distinct (row ∷ rows) = not (list_any (λ other. bytes_eq row.spelling other.spelling) rows) && are_distinct rows
+
+-- the spelling has two bytes or more
+abbrev pub is_long : OptionRow → Bool
+is_long row = nat_le 2 (length row.spelling)
+
+-- rows that make a table
+abbrev pub is_table : List OptionRow → Bool
+is_table rows = are_distinct rows && list_all is_long rows

@@ -3,21 +3,20 @@
 ghost use Rattle.std.specs.Prelude.{◌≡◌};
 ghost use Rattle.option_table.specs.Gcc.{gcc_rows};
 
-use crate::row::{Effect, Form, OptionRow};
+use crate::row::{Effect, Form, OptionRow, rows};
 use crate::table::OptionTable;
-
-macro_rules! rows {
-    ($($spelling:literal $form:ident $effect:ident $(($why:literal))?;)*) => {
-        [$(OptionRow::new($spelling, Form::$form, Effect::$effect $(($why))?)),*]
-    };
-}
 
 /// The table of gcc's options, as docs/command-words.md lists them.
 pub fn gcc_table() -> OptionTable<64>
     ensures { result ≡ gcc_rows }
 {
-    OptionTable {
-        rows: rows! {
+    OptionTable::new(listed_rows()).unwrap()
+}
+
+fn listed_rows() -> [OptionRow; 64]
+    ensures { result ≡ gcc_rows }
+{
+    rows! {
         "-c" None Action;
         "-S" None Action;
         "-o" Either Output;
@@ -82,6 +81,5 @@ pub fn gcc_table() -> OptionTable<64>
         "-aux-info" Next Local(21);
         "-Xclang" Next Local(21);
         "-arch" Next Local(21);
-        },
     }
 }

@@ -1,16 +1,22 @@
 //! The options of the compiler's command line: which row of a table fits a word, and what the row does.
 #![tactic(auto)]
 
+mod fault;
 mod gcc;
+mod index;
 mod listing;
 mod row;
+mod scc;
+mod search;
 mod spelling;
 mod table;
 #[cfg(test)]
 mod tests;
 
+pub use fault::TableFault;
 pub use gcc::gcc_table;
 pub use listing::is_listing;
 pub use row::{Effect, Form, OptionRow};
+pub use scc::scc_table;
 pub use spelling::{SPELLING_MAX, Spelling};
 pub use table::{Found, OptionTable};

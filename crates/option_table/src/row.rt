@@ -70,3 +70,12 @@ impl OptionRow {
         }
     }
 }
+
+// The rows of a table, one a line: its spelling, its form, and its effect.
+macro_rules! rows {
+    ($($spelling:literal $form:ident $effect:ident $(($why:literal))?;)*) => {
+        [$(OptionRow::new($spelling, Form::$form, Effect::$effect $(($why))?)),*]
+    };
+}
+
+pub(crate) use rows;

@@ -1,42 +1,76 @@
 //! A table of options, and the row that fits a word.
 
-ghost use Rattle.std.specs.Prelude.{◌≡◌, ◌<◌, ◌↔◌, ℕ, length, Some, IfSome, IsNone, IsSomeAnd, IsTrue, not};
-ghost use Rattle.std.specs.List.{list_all, slice_get, position};
-ghost use Rattle.option_table.specs.Rows.{fits_equal, fits_begin, fits_longest, fits_not, place_of};
+ghost use Rattle.std.specs.Prelude.{◌≡◌, ◌<◌, ◌↔◌, ◌^◌, ℕ, length, Some, IfSome, IsNone, IsSomeAnd, IsOk, IfOk, IfErr, Err, IsTrue};
+ghost use Rattle.std.specs.List.{list_all, slice_get};
+ghost use Rattle.option_table.specs.Rows.{fits_not, is_table};
 
-use crate::row::{Form, OptionRow};
+use crate::fault::{TableFault, fault_of};
+use crate::index::{LETTERS, second_byte, sorted_places, spans};
+use crate::row::OptionRow;
+use crate::search::{equal_place, longest_place};
 use farm_types::Bytes;
 use std::marker::Model;
 
 /// The row that fits a word.
 #[derive(Clone, Copy, Debug, PartialEq, Eq)]
 pub struct Found {
-    /// The row's place in the table, from 0.
+    /// The row's place in the array that the table was made of, from 0.
     pub row: u32,
     /// Where the attached operand begins in the word: behind the spelling.
     pub joined: usize,
 }
 
-/// A table of N options. No two of its rows have one spelling; an empty row fits no word.
+/// A table of N options. No two of its rows have one spelling, and each spelling has two bytes or more.
+///
+/// Beside its rows it keeps their places, sorted by the spelling's second byte and then by the spelling,
+/// and for each byte the span of the places whose spelling has it there.
 #[derive(Debug, Drop)]
 pub struct OptionTable<const N: usize> {
-    pub(crate) rows: [OptionRow; N],
+    rows: [OptionRow; N],
+    places: [u32; N],
+    starts: [u32; LETTERS],
 }
 
 impl<const N: usize> Model for OptionTable<N> {
-    ghost use Rattle.std.specs.Prelude.{List, length, ◌<◌, ◌^◌, IsTrue};
+    ghost use Rattle.std.specs.Prelude.{List};
     ghost use Rattle.option_table.specs.declared.row.OptionRow.{OptionRow};
-    ghost use Rattle.option_table.specs.Rows.{are_distinct};
+    ghost use Rattle.option_table.specs.Spans.{IsIndexed};
 
     ghost Value = { List OptionRow };
 
     ghost view = { λ t. t.rows };
 
-    ghost invariant = { λ t. (length t.rows < 2 ^ 32) × IsTrue (are_distinct t.rows) };
+    ghost invariant = { λ t. IsIndexed t.rows t.places t.starts };
 }
 
 impl<const N: usize> OptionTable<N> {
-    ghost use Rattle.option_table.specs.Rows.{found, row_at, FitsAt};
+    ghost use Rattle.option_table.specs.Rows.{found, place_of, row_at, FitsAt};
+    ghost use Rattle.option_table.specs.Spans.{IsSpan};
+    ghost use Rattle.option_table.specs.Faults.{TableFaultStands};
+
+    /// The table of these rows. It takes no memory.
+    ///
+    /// It is refused where two rows have one spelling, or one has fewer than two bytes.
+    pub fn new(rows: [OptionRow; N]) -> Result<OptionTable<N>, TableFault>
+        requires { N < 2 ^ 32 }
+        ensures ok { IfOk result (λ table. table ≡ rows.entry) }
+        ensures right { IsOk result ↔ IsTrue (is_table rows.entry) }
+        ensures fault { IfErr result (λ fault. TableFaultStands rows.entry fault) }
+        ensures only { (fault : TableFault) → TableFaultStands rows.entry fault → result ≡ Err fault }
+    {
+        match fault_of(&rows) {
+            Some(fault) => Err(fault),
+            None => {
+                let places = sorted_places(&rows);
+                let starts = spans(&rows, &places);
+                Ok(OptionTable {
+                    rows,
+                    places,
+                    starts,
+                })
+            }
+        }
+    }
 
     /// A copy of the row at a place.
     pub fn row(&self, at: u32) -> OptionRow
@@ -53,74 +87,38 @@ impl<const N: usize> OptionTable<N> {
         ensures within { IfSome result (λ f. f.row < N) }
         ensures none { IsNone result ↔ IsTrue (list_all (fits_not word.now) self.now) }
         ensures only { (at : ℕ) → FitsAt self.now word.now at → IsSomeAnd result (λ f. f.row ≡ at) }
+        ensures distinct { IsTrue (is_table self.now) }
     {
-        let at = fitting_row(self.rows.as_slice(), word.as_slice())?;
-        Some(Found {
-            row: at as u32,
-            joined: self.rows[at].spelling.len(),
-        })
-    }
-}
-
-// The place of the row that fits the word.
-fn fitting_row(rows: &[OptionRow], word: &[u8]) -> Option<usize>
-    ensures place { result ≡ place_of rows.now word.now }
-    ensures none { IsNone result ↔ IsTrue (list_all (fits_not word.now) rows.now) }
-    ensures within { IfSome result (λ at. at < length rows.now) }
-{
-    match equal_row(rows, word) {
-        Some(at) => Some(at),
-        None => longest_row(rows, word),
-    }
-}
-
-// The place of the row that the word equals.
-fn equal_row(rows: &[OptionRow], word: &[u8]) -> Option<usize>
-    ensures place { result ≡ position (fits_equal word.now) rows.now }
-    ensures within { IfSome result (λ at. at < length rows.now) }
-{
-    for (at, row) in rows.iter().enumerate() {
-        if fits_equal(row, word) {
-            return Some(at);
+        match self.place(word.as_slice()) {
+            Some(row) => Some(Found {
+                row,
+                joined: self.rows[row as usize].spelling.len(),
+            }),
+            None => None,
         }
     }
-    None
-}
 
-// The place of the row with the longest spelling that the word begins with.
-fn longest_row(rows: &[OptionRow], word: &[u8]) -> Option<usize>
-    ensures place { result ≡ position (fits_longest rows.now word.now) rows.now }
-    ensures none { IsNone result → IsTrue (list_all (λ row. not (fits_begin word.now row)) rows.now) }
-    ensures within { IfSome result (λ at. at < length rows.now) }
-{
-    let mut best: Option<usize> = None;
-    let mut best_len = 0;
-    for (at, row) in rows.iter().enumerate() {
-        let len = row.spelling.len();
-        if best_len < len && fits_begin(row, word) {
-            best = Some(at);
-            best_len = len;
+    // The place of the row that fits the word.
+    fn place(&self, word: &[u8]) -> Option<u32>
+        ensures place { result ≡ place_of self.now word.now }
+        ensures within { IfSome result (λ at. at < N) }
+        ensures none { IsNone result → IsTrue (list_all (fits_not word.now) self.now) }
+        ensures table { IsTrue (is_table self.now) }
+    {
+        let places = self.span(second_byte(word));
+        match equal_place(&self.rows, places, word) {
+            Some(place) => Some(place),
+            None => longest_place(&self.rows, places, word),
         }
     }
-    best
-}
 
-fn fits_equal(row: &OptionRow, word: &[u8]) -> bool
-    ensures { result ≡ fits_equal word.now row.now }
-{
-    let takes = match row.form {
-        Form::None | Form::Next | Form::Either => true,
-        Form::Joined => false,
-    };
-    takes && row.spelling.len() > 0 && row.spelling.as_slice() == word
-}
-
-fn fits_begin(row: &OptionRow, word: &[u8]) -> bool
-    ensures { result ≡ fits_begin word.now row.now }
-{
-    let takes = match row.form {
-        Form::None | Form::Next => false,
-        Form::Joined | Form::Either => true,
-    };
-    takes && row.spelling.len() > 0 && word.starts_with(row.spelling.as_slice())
+    // The places whose spelling has this second byte.
+    fn span(&self, letter: u8) -> &[u32]
+        ensures { IsSpan self.now letter result.now }
+    {
+        let start = self.starts[letter as usize] as usize;
+        let end = self.starts[letter as usize + 1] as usize;
+        let places = self.places.as_slice();
+        &places[start..end]
+    }
 }

@@ -1,4 +1,9 @@
-use crate::{Effect, Form, Found, OptionRow, Spelling, gcc_table, is_listing};
+ghost use Rattle.std.specs.Prelude.{◌≤◌, length};
+
+use crate::{
+    Effect, Form, Found, OptionRow, OptionTable, Spelling, TableFault, gcc_table, is_listing,
+    scc_table,
+};
 use farm_types::Bytes;
 use std::test::Fail;
 
@@ -202,4 +207,71 @@ fn listings(rt: HostRuntime) -> Result<(), Fail> {
         assert_eq!(rt; is_listing(&text), wanted, "{word}");
     }
     Ok(())
+}
+
+#[test]
+fn the_sample_compilers_options(rt: HostRuntime) -> Result<(), Fail> {
+    let table = scc_table();
+    for (word, found) in [
+        ("-I", Some(Found { row: 0, joined: 2 })),
+        ("-Idir", Some(Found { row: 0, joined: 2 })),
+        ("-DN=V", Some(Found { row: 1, joined: 2 })),
+        ("-o", Some(Found { row: 2, joined: 2 })),
+        ("-ox", None),
+        ("-E", Some(Found { row: 3, joined: 2 })),
+        ("-c", Some(Found { row: 4, joined: 2 })),
+        ("-S", Some(Found { row: 5, joined: 2 })),
+        ("-O2", None),
+        ("-", None),
+    ] {
+        let text = Bytes::from_slice(rt.alloc(), word.as_bytes())?;
+        assert_eq!(rt; table.find(&text), found, "{word}");
+    }
+    Ok(())
+}
+
+fn plain(spelling: &str) -> OptionRow
+    requires { length spelling.now ≤ 23 }
+{
+    OptionRow::new(spelling, Form::None, Effect::Keep)
+}
+
+#[test]
+fn rows_that_make_no_table(rt: HostRuntime) {
+    for (first, second, third, fault) in [
+        (
+            "-c",
+            "-o",
+            "-c",
+            Some(TableFault::Doubled {
+                first: 0,
+                second: 2,
+            }),
+        ),
+        (
+            "-c",
+            "-c",
+            "-c",
+            Some(TableFault::Doubled {
+                first: 0,
+                second: 1,
+            }),
+        ),
+        (
+            "x",
+            "-o",
+            "x",
+            Some(TableFault::Doubled {
+                first: 0,
+                second: 2,
+            }),
+        ),
+        ("-c", "x", "", Some(TableFault::Short { row: 1 })),
+        ("-c", "-o", "-b", None),
+    ] {
+        let made = OptionTable::new([plain(first), plain(second), plain(third)]);
+        assert_eq!(rt; made.err(), fault, "{first} {second} {third}");
+    }
+    let two = OptionTable::new([plain("-c"), plain("x")]);
+    assert_eq!(rt; two.err(), Some(TableFault::Short { row: 1 }));
 }

@@ -1,0 +1,6 @@
+use Rattle.std.proofs.Common.{◌≡◌, ◌<◌, ℕ, false, slice_index}
+use Rattle.option_table.specs.Searches.{equal_at}
+use Rattle.option_table.proofs.search.equal_place.Given as goal
+
+abbrev pub invariant-loop-place : goal.invariant-loop-place
+invariant-loop-place l = (k : ℕ) → k < l.place-index → equal_at l.rows l.word (slice_index l.places k) ≡ false
