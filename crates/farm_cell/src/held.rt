@@ -1,0 +1,77 @@
+//! A cell and one caller's pass, as grants.
+ghost use Rattle.std.specs.Prelude.{◌≡◌, false};
+ghost use Rattle.farm_cell.specs.Passes.{IsPassOf, limits_of, number_of, mine_of};
+
+use crate::cell::{Cell, Pass};
+use slot_table::{Grant, Grants, LocalGrant, Mask, Take};
+use std::sync::Wait;
+
+/// A cell and one caller's pass: it hands out the cell's jobs and slots to this caller, beside others.
+#[derive(Drop)]
+pub struct Held<'a, R> {
+    rt: &'a R,
+    cell: &'a Cell<16, 34>,
+    pass: &'a mut Pass,
+}
+
+impl<'a, R: Wait> Held<'a, R> {
+    /// Joins the three. It takes no memory.
+    pub fn new(rt: &'a R, cell: &'a Cell<16, 34>, pass: &'a mut Pass) -> Held<'a, R>
+        requires pass { IsPassOf cell.now pass.old }
+        ensures cell { result.cell.now ≡ cell.now }
+        ensures pass { result.pass.now ≡ pass.old }
+        ensures same_reference { result.pass.ghost_name ≡ pass.entry.ghost_name }
+    {
+        Held { rt, cell, pass }
+    }
+}
+
+impl<'a, R: Wait> Grants for Held<'a, R> {
+    type Home = Cell<16, 34>;
+
+    ghost home = { λ h. h.cell.now };
+
+    ghost place = { λ h. h.pass.ghost_name };
+
+    ghost ready = { λ h. IsPassOf h.cell.now h.pass.now };
+
+    ghost width = { 16 };
+
+    ghost limits = { λ h. limits_of h.cell.now };
+
+    ghost number = { λ h. number_of h.pass.now };
+
+    ghost mine = { λ h. mine_of h.pass.now };
+
+    ghost alone = { false };
+
+    ghost spare = { λ h. 0 };
+
+    fn caller(&self) -> u32 {
+        self.pass.number
+    }
+
+    fn draw(&mut self) -> Option<u32> {
+        self.cell.draw(self.rt, self.pass)
+    }
+
+    fn take(&mut self, job: u32, mask: Mask, now: u64) -> Take {
+        self.cell.take(self.rt, self.pass, job, mask, now)
+    }
+
+    fn give(&mut self, grant: Grant) {
+        self.cell.give(self.rt, self.pass, grant);
+    }
+
+    fn give_bad(&mut self, grant: Grant, until: u64) {
+        self.cell.give_bad(self.rt, self.pass, grant, until);
+    }
+
+    fn take_local(&mut self, job: u32) -> Option<LocalGrant> {
+        self.cell.take_local(self.rt, self.pass, job)
+    }
+
+    fn give_local(&mut self, grant: LocalGrant) {
+        self.cell.give_local(self.rt, self.pass, grant);
+    }
+}
