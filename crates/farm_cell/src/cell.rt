@@ -2,8 +2,8 @@
 ghost use Rattle.std.specs.Prelude.{◌<◌};
 ghost use Rattle.slot_table.specs.Limits.{AreValid};
 
-use crate::rule::{InOneOrder, View};
 use crate::exchanges::Seat;
+use crate::rule::{InOneOrder, View};
 use crate::words::SlotWords;
 use crossbeam_utils::atomic::seq_cell::{RuledSeqCell, Words};
 use slot_table::Limits;

@@ -8,8 +8,8 @@ ghost use Rattle.farm_cell.specs.Passes.{limits_of, callers_of, number_of, seen_
 ghost use Rattle.farm_cell.specs.Ends.{AreAllOf, all_mine, HasEachMine, AreByCallersBelow};
 
 use crate::cell::{Cell, Pass, Passes};
-use crate::rule::{Comes, HandsOver, Meets, Opening, Tell};
 use crate::exchanges::{Seat, SharedWords, look};
+use crate::rule::{Comes, HandsOver, Meets, Opening, Tell};
 use crate::words::SlotWords;
 use slot_table::{Limits, Slots};
 use std::alloc::{AllocError, Global};
@@ -28,7 +28,11 @@ fn open<C: Tell, R: Wait>(rt: &R, words: &SharedWords, seat: &mut Seat, _limits:
 }
 
 /// The words of the opening state, and the first pass, which is told the limits.
-fn begin<R: Wait>(rt: &R, alloc: Global, limits: &Limits<16>) -> Result<(SharedWords, Seat), AllocError>
+fn begin<R: Wait>(
+    rt: &R,
+    alloc: Global,
+    limits: &Limits<16>,
+) -> Result<(SharedWords, Seat), AllocError>
     requires valid { AreValid limits.now }
     ensures cell { IfOk result (λ made. made.1.table_id ≡ made.0.table.shared.table_id) }
     ensures opened { IfOk result (λ made. cell_view made.1 ≡ opened limits.now) }

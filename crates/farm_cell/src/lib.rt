@@ -5,11 +5,13 @@
 mod calls;
 mod cell;
 mod ends;
+mod exchanges;
 mod held;
 mod rule;
-mod exchanges;
 mod words;
 
 pub use cell::{Cell, Pass, Passes};
 pub use held::Held;
 
+#[cfg(test)]
+mod tests;
