@@ -1,4 +1,5 @@
-//! The calls of the shared slots.
+//! The calls of the shared slots. What each does and answers is the table of docs/slots.md; when it does is
+//! said in docs/cell.md. None of them takes memory. Each may wait.
 ghost use Rattle.std.specs.Prelude.{◌≡◌, ◌<◌, true, false, is_some, IfSome};
 ghost use Rattle.slot_table.specs.declared.calls.SlotCall.TheVariants.{Draw, Take as AskTake, Give, GiveBad, TakeLocal, GiveLocal};
 ghost use Rattle.slot_table.specs.declared.calls.SlotReply.TheVariants.{Drawn, Local, Given};
@@ -30,7 +31,7 @@ impl Cell<16, 34> {
         }
     }
 
-    /// The next job's number, or None where all jobs are drawn.
+    /// The next job's number, from 0, or None where all jobs are drawn.
     pub fn draw<R: Wait>(&self, rt: &R, pass: &mut Pass) -> Option<u32>
         requires pass { IsPassOf self.now pass.old }
         ensures pass { IsPassOf self.now pass.new }
@@ -43,7 +44,8 @@ impl Cell<16, 34> {
     }
 
     /// A slot of the first entry, in the order of the job's search, that is in the mask, has a free slot and
-    /// isn't left alone at the moment `now`.
+    /// isn't left alone at the moment `now`, in seconds. Down exactly where every entry of the mask is left
+    /// alone or there is none, and Full in all other cases.
     pub fn take<R: Wait>(&self, rt: &R, pass: &mut Pass, job: u32, mask: Mask, now: u64) -> Take
         requires pass { IsPassOf self.now pass.old }
         ensures pass { IsPassOf self.now pass.new }
@@ -71,8 +73,8 @@ impl Cell<16, 34> {
         slots.give(grant);
     }
 
-    /// Gives a slot of a host that isn't local back. The host is left alone until the moment `until`, or
-    /// longer where it already was.
+    /// Gives a slot of a host that isn't local back. The host is left alone until the moment `until`, in
+    /// seconds, or longer where it already was.
     pub fn give_bad<R: Wait>(&self, rt: &R, pass: &mut Pass, grant: Grant, until: u64)
         requires pass { IsPassOf self.now pass.old }
         requires out { has (holding (number_of pass.old) (job_of grant) (Some (host_of grant))) (outstanding (mine_of pass.old)) ≡ true }
@@ -113,7 +115,7 @@ impl Cell<16, 34> {
         slots.give_local(grant);
     }
 
-    /// The slots after the history so far.
+    /// The slots after the history so far, all of whose calls the pass has then seen.
     pub fn load<R: Wait>(&self, rt: &R, pass: &mut Pass) -> Slots<16>
         requires pass { IsPassOf self.now pass.old }
         ensures pass { IsPassOf self.now pass.new }

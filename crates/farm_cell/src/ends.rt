@@ -56,7 +56,8 @@ fn join(words: &SharedWords, first: &mut Seat, mut next: Seat)
 }
 
 impl Cell<16, 34> {
-    /// A cell with nothing called yet, and a pass for each of so many callers, by number.
+    /// A cell with nothing called yet, and a pass for each of so many callers, 1 to 16, by number. It alone
+    /// takes memory, and answers an error where that is wanting.
     pub fn new<R: Wait>(
         rt: &R,
         alloc: Global,

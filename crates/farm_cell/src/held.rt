@@ -1,6 +1,7 @@
 //! A cell and one caller's pass, as grants.
 ghost use Rattle.std.specs.Prelude.{◌≡◌, false};
 ghost use Rattle.farm_cell.specs.Passes.{IsPassOf, limits_of, number_of, mine_of};
+ghost use Rattle.farm_cell.specs.Held.{cell_of, pass_of, place_of};
 
 use crate::cell::{Cell, Pass};
 use slot_table::{Grant, Grants, LocalGrant, Mask, Take};
@@ -15,12 +16,12 @@ pub struct Held<'a, R> {
 }
 
 impl<'a, R: Wait> Held<'a, R> {
-    /// Joins the three. It takes no memory.
+    /// Joins the three. It takes no memory. Once it has ended, the pass is as the last call left it.
     pub fn new(rt: &'a R, cell: &'a Cell<16, 34>, pass: &'a mut Pass) -> Held<'a, R>
         requires pass { IsPassOf cell.now pass.old }
-        ensures cell { result.cell.now ≡ cell.now }
-        ensures pass { result.pass.now ≡ pass.old }
-        ensures same_reference { result.pass.ghost_name ≡ pass.entry.ghost_name }
+        ensures cell { cell_of result ≡ cell.now }
+        ensures pass { pass_of result ≡ pass.old }
+        ensures place { place_of result ≡ pass.entry.ghost_name }
     {
         Held { rt, cell, pass }
     }
@@ -29,19 +30,19 @@ impl<'a, R: Wait> Held<'a, R> {
 impl<'a, R: Wait> Grants for Held<'a, R> {
     type Home = Cell<16, 34>;
 
-    ghost home = { λ h. h.cell.now };
+    ghost home = { λ h. cell_of h };
 
-    ghost place = { λ h. h.pass.ghost_name };
+    ghost place = { λ h. place_of h };
 
-    ghost ready = { λ h. IsPassOf h.cell.now h.pass.now };
+    ghost ready = { λ h. IsPassOf (cell_of h) (pass_of h) };
 
     ghost width = { 16 };
 
-    ghost limits = { λ h. limits_of h.cell.now };
+    ghost limits = { λ h. limits_of (cell_of h) };
 
-    ghost number = { λ h. number_of h.pass.now };
+    ghost number = { λ h. number_of (pass_of h) };
 
-    ghost mine = { λ h. mine_of h.pass.now };
+    ghost mine = { λ h. mine_of (pass_of h) };
 
     ghost alone = { false };
 
