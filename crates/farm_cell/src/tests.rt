@@ -214,68 +214,6 @@ fn wait_for<R: Wait>(rt: &R, made: &AtomicU64, calls: u64) {
     unreachable!()
 }
 
-/// Draws a job when so many calls are made.
-fn draw_at<R: Wait + Abort>(
-    rt: &R,
-    cell: &Cell<16, 34>,
-    pass: &mut Pass,
-    caller: u32,
-    made: &AtomicU64,
-    calls: u64,
-    job: Option<u32>,
-)
-    requires pass { IsNumbered cell.now caller pass.old }
-    requires none { outstanding (mine_of pass.old) ≡ [] }
-    ensures pass { IsNumbered cell.now caller pass.new }
-    ensures none { outstanding (mine_of pass.new) ≡ [] }
-{
-    wait_for(rt, made, calls);
-    assert_eq!(rt; draw(rt, cell, pass, caller), job);
-    made.fetch_add(1, Ordering::SeqCst);
-}
-
-/// Asks for a slot when so many calls are made, in vain.
-fn take_in_vain_at<R: Wait + Abort>(
-    rt: &R,
-    cell: &Cell<16, 34>,
-    pass: &mut Pass,
-    caller: u32,
-    made: &AtomicU64,
-    calls: u64,
-)
-    requires pass { IsNumbered cell.now caller pass.old }
-    requires none { outstanding (mine_of pass.old) ≡ [] }
-    ensures pass { IsNumbered cell.now caller pass.new }
-    ensures none { outstanding (mine_of pass.new) ≡ [] }
-{
-    wait_for(rt, made, calls);
-    take_in_vain(rt, cell, pass, caller, caller);
-    made.fetch_add(1, Ordering::SeqCst);
-}
-
-/// Takes a slot when so many calls are made, and gives it back when so many are.
-fn hold_at<R: Wait + Abort>(
-    rt: &R,
-    cell: &Cell<16, 34>,
-    pass: &mut Pass,
-    caller: u32,
-    made: &AtomicU64,
-    taken: u64,
-    given: u64,
-)
-    requires pass { IsNumbered cell.now caller pass.old }
-    requires none { outstanding (mine_of pass.old) ≡ [] }
-    ensures pass { IsNumbered cell.now caller pass.new }
-    ensures none { outstanding (mine_of pass.new) ≡ [] }
-{
-    wait_for(rt, made, taken);
-    let grant = take(rt, cell, pass, caller, caller, 0);
-    made.fetch_add(1, Ordering::SeqCst);
-    wait_for(rt, made, given);
-    give(rt, cell, pass, caller, grant);
-    made.fetch_add(1, Ordering::SeqCst);
-}
-
 /// One caller's part in the calls of three that have one slot for three jobs.
 fn play_part<R: Wait + Abort>(
     rt: &R,
@@ -294,20 +232,23 @@ fn play_part<R: Wait + Abort>(
         1 => (Some(4), 9, 10, 13),
         _ => (Some(5), 7, 8, 11),
     };
-    draw_at(
-        rt,
-        cell,
-        pass,
-        caller,
-        made,
-        u64::from(caller),
-        Some(caller),
-    );
+    wait_for(rt, made, u64::from(caller));
+    assert_eq!(rt; draw(rt, cell, pass, caller), Some(caller));
+    made.fetch_add(1, Ordering::SeqCst);
     if let Some(calls) = in_vain {
-        take_in_vain_at(rt, cell, pass, caller, made, calls);
+        wait_for(rt, made, calls);
+        take_in_vain(rt, cell, pass, caller, caller);
+        made.fetch_add(1, Ordering::SeqCst);
     }
-    hold_at(rt, cell, pass, caller, made, taken, given);
-    draw_at(rt, cell, pass, caller, made, last, None);
+    wait_for(rt, made, taken);
+    let grant = take(rt, cell, pass, caller, caller, 0);
+    made.fetch_add(1, Ordering::SeqCst);
+    wait_for(rt, made, given);
+    give(rt, cell, pass, caller, grant);
+    made.fetch_add(1, Ordering::SeqCst);
+    wait_for(rt, made, last);
+    assert_eq!(rt; draw(rt, cell, pass, caller), None);
+    made.fetch_add(1, Ordering::SeqCst);
 }
 
 #[test]
