@@ -305,12 +305,12 @@ fn hold<R: Wait + Abort>(
     let call = SlotCall::Take { job, mask, now: 5 };
     let Some(grant) = try_take(rt, cell, pass, caller, job, mask) else {
         note(rt, calls, caller, call, SlotReply::Full);
+        thread::yield_now();
         return;
     };
     let host = grant.host();
     note(rt, calls, caller, call, SlotReply::Got(host));
     turns.lock(rt).push(caller).expect(rt, "memory");
-    thread::yield_now();
     give(rt, cell, pass, caller, grant);
     let call = SlotCall::Give { host, job };
     note(rt, calls, caller, call, SlotReply::Given);
