@@ -1,0 +1,10 @@
+pub mod Ranges
+pub mod Taking
+pub mod AnyLemmas
+pub mod Listing
+pub mod Cutting
+pub mod EveryLine
+pub mod Pairs
+pub mod TextReading
+pub mod EveryText
+pub mod Answering

@@ -1,0 +1,10 @@
+pub mod Bytes
+pub mod Faults
+pub mod Parts
+pub mod Lines
+pub mod Texts
+pub mod Outputs
+pub mod Jobs
+pub mod Answers
+pub mod Prints
+pub mod Steps

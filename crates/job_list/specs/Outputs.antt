@@ -1,0 +1,36 @@
+-- The outputs of jobs, and those of which two are the same.
+use Rattle.std.specs.Prelude.{ℕ, ◌≡◌, ◌<◌, List, map, Option, Some, None}
+use Rattle.std.specs.List.{slice_get}
+use Rattle.arg_scan.specs.declared.class.Scan.{Scan}
+use Rattle.arg_scan.specs.declared.class.Scan.TheVariants as scan
+use Rattle.arg_scan.specs.Class.{class_of}
+
+abbrev pub output_in : Scan → Option (List ℕ)
+output_in (scan.Remote action input output preprocessed ext) = Some output
+output_in scan.Empty = None
+output_in (scan.Local why at) = None
+output_in scan.Memory = None
+
+-- the output of a command that may be sent, by its class
+abbrev pub output_of : List (List ℕ) → Option (List ℕ)
+output_of words = output_in (class_of words)
+
+-- the outputs of jobs, one by one
+abbrev pub outputs_of : List (List (List ℕ)) → List (Option (List ℕ))
+outputs_of jobs = map output_of jobs
+
+-- the jobs at two places, which count from 0, have this same output
+abbrev pub SameOutputAt : List (Option (List ℕ)) → ℕ → ℕ → Type 0
+SameOutputAt outputs i j =
+    (output : List ℕ) × (slice_get outputs i ≡ Some (Some output)) × (slice_get outputs j ≡ Some (Some output))
+
+-- no two jobs have the same output
+abbrev pub AreApart : List (Option (List ℕ)) → Type 0
+AreApart outputs = (i j : ℕ) → i < j → SameOutputAt outputs i j → ⊥
+
+-- of the pairs of jobs with the same output, that with the least second job, and for it the least first one
+pub record IsLeastPair (outputs : List (Option (List ℕ))) (first second : ℕ) : Type 0 where
+  pub low : first < second
+  pub same : SameOutputAt outputs first second
+  pub earlier : (i j : ℕ) → i < j → j < second → SameOutputAt outputs i j → ⊥
+  pub least : (i : ℕ) → i < first → SameOutputAt outputs i second → ⊥

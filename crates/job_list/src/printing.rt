@@ -1,0 +1,61 @@
+//! The line of a list of words.
+
+ghost use Rattle.std.specs.Prelude.{◌≡◌, ◌≤◌, ◌++◌, ◌∷◌, [], true, length, IfOk, OnOk};
+ghost use Rattle.job_list.specs.Lines.{LineOf};
+ghost use Rattle.job_list.specs.Texts.{is_job, lines_of};
+ghost use Rattle.job_list.specs.Jobs.{JobOf, JobsOf};
+ghost use Rattle.job_list.specs.Prints.{ArePrintable, AreUtf8};
+ghost use Rattle.job_list.specs.Prints as prints;
+
+use farm_types::{Bytes, Words};
+use std::alloc::{AllocError, Global};
+
+// A byte between double quotes.
+fn put_byte(line: &mut Bytes, byte: u8) -> Result<(), AllocError>
+    ensures { OnOk result (line.new ≡ line.old ++ prints.byte_text byte) }
+{
+    if byte == b'"' || byte == b'\\' {
+        line.try_extend(&[b'\\', byte])
+    } else {
+        line.try_push(byte)
+    }
+}
+
+// A word between double quotes.
+fn put_word(line: &mut Bytes, word: &[u8]) -> Result<(), AllocError>
+    ensures { OnOk result (line.new ≡ line.old ++ prints.word_text word.now) }
+{
+    line.try_push(b'"')?;
+    for byte in word {
+        put_byte(line, *byte)?;
+    }
+    line.try_push(b'"')
+}
+
+// Words between double quotes, with a space between words.
+fn put_words(alloc: Global, words: &Words) -> Result<Bytes, AllocError>
+    ensures { IfOk result (λ line. line ≡ prints.words_text words.now) }
+{
+    let mut line = Bytes::new(alloc);
+    for (at, word) in words.as_slice().iter().enumerate() {
+        if 0 < at {
+            line.try_push(b' ')?;
+        }
+        put_word(&mut line, word.as_slice())?;
+    }
+    Ok(line)
+}
+
+/// A line that reads as these words, of which none may hold a line feed or a zero byte. Of UTF-8 words,
+/// at least one, it is a job of a job list, and `parse` reads it as these words again.
+pub fn print_words(alloc: Global, words: &Words) -> Result<Bytes, AllocError>
+    requires { ArePrintable words.now }
+    ensures line { IfOk result (λ line. LineOf line words.now) }
+    ensures one { IfOk result (λ line. lines_of line ≡ line ∷ []) }
+    ensures job { AreUtf8 words.now → 1 ≤ length words.now
+        → IfOk result (λ line. (is_job line ≡ true) × JobOf line words.now) }
+    ensures again { AreUtf8 words.now → 1 ≤ length words.now
+        → IfOk result (λ line. length line ≤ 16_777_216 → JobsOf line (words.now ∷ [])) }
+{
+    put_words(alloc, words)
+}
