@@ -1,6 +1,6 @@
 -- Lines, one after another.
 use Rattle.std.proofs.Common.{◌≡◌, ℕ, zero, suc, ◌+◌, ◌-◌, ◌<◌, ◌≤◌, Bool, true, false, List, [], ◌∷◌, ◌++◌, length, get_or, take, drop, Option, Some, refl, ap, sym, ◌∙◌, subst, inl, inr, arith}
-use Rattle.std.specs.Prelude.{not, ◌==◌, ◌⊎◌, map}
+use Rattle.std.specs.Prelude.{not, ◌==◌, ◌⊎◌, map, Result, Ok, Err, IfOk, IfErr, OnOk}
 use Rattle.std.specs.List.{AllPass, slice_get, slice_split}
 use Rattle.std.proofs.lemmas.List.{append_assoc, append-nil, length-drop, length_push, drop_more, drop_all}
 use Rattle.std.proofs.lemmas.List.Splits.{slice_split_none, slice_split_at}
@@ -169,7 +169,7 @@ line_there [] i at h = absurd cc
 line_there (l ∷ ls) zero at h = (l, refl, let e : l.number ≡ at = cc in sym e)
 line_there (l ∷ ls) (suc i) at h = line_there ls i at h
 
-pub share_error : (e : JobError) (text : List ℕ) (listed : Listed) → length text ≤ 16_777_216 → AreJobs (job_lines text) listed.jobs → length listed.jobs ≤ 512 → listed.lines ≡ numbers_of (job_lines text) → IsError (ListedShare listed) e → IsError (JobFaultStands text) e
+share_error : (e : JobError) (text : List ℕ) (listed : Listed) → length text ≤ 16_777_216 → AreJobs (job_lines text) listed.jobs → length listed.jobs ≤ 512 → listed.lines ≡ numbers_of (job_lines text) → IsError (ListedShare listed) e → IsError (JobFaultStands text) e
 share_error (Fault at fault) text listed short each few numbers h =
     let there = line_there (job_lines text) h.second at (ap (λ ns. slice_get ns h.second) (sym numbers) ∙ h.there) in
     inr (short, inr (inr (record {
@@ -186,5 +186,11 @@ share_error (Fault at fault) text listed short each few numbers h =
     })))
 share_error Memory text listed short each few numbers h = tt
 
-pub text_right : (text : List ℕ) (jobs : List (List (List ℕ))) → length text ≤ 16_777_216 → AreJobs (job_lines text) jobs → 1 ≤ length jobs → length jobs ≤ 512 → AreApart (outputs_of jobs) → JobsOf text jobs
-text_right text jobs short each some few apart = record { short = short; each = each; some = some; few = few; apart = apart }
+pub list_answer : (r : Result (List (List (List ℕ))) JobError) (text : List ℕ) (listed : Listed) → length text ≤ 16_777_216 → AreJobs (job_lines text) listed.jobs → 1 ≤ length listed.jobs → length listed.jobs ≤ 512 → IfOk r (λ jobs. jobs ≡ listed.jobs) → OnOk r (AreApart (outputs_of listed.jobs)) → IfOk r (λ jobs. JobsOf text jobs)
+list_answer (Ok jobs) text listed short each some few is apart =
+    subst (JobsOf text) (sym is) (record { short = short; each = each; some = some; few = few; apart = apart })
+list_answer (Err e) text listed short each some few is apart = tt
+
+pub share_answer : (r : Result (List (List (List ℕ))) JobError) (text : List ℕ) (listed : Listed) → length text ≤ 16_777_216 → AreJobs (job_lines text) listed.jobs → length listed.jobs ≤ 512 → listed.lines ≡ numbers_of (job_lines text) → IfErr r (λ e. IsError (ListedShare listed) e) → IfErr r (λ e. IsError (JobFaultStands text) e)
+share_answer (Ok jobs) text listed short each few numbers h = tt
+share_answer (Err e) text listed short each few numbers h = share_error e text listed short each few numbers h

@@ -1,6 +1,6 @@
 -- Pairs of jobs with the same output.
 use Rattle.std.proofs.Common.{◌≡◌, ℕ, zero, suc, ◌+◌, ◌<◌, ◌≤◌, Bool, true, false, List, [], ◌∷◌, length, Option, Some, None, refl, ap, sym, ◌∙◌, subst, inl, inr, ⊎_elim, arith, Decides}
-use Rattle.std.specs.Prelude.{◌⊎◌}
+use Rattle.std.specs.Prelude.{◌⊎◌, Result, IfOk, IfNone}
 use Rattle.std.specs.List.{slice_get}
 use Rattle.std.specs.Str.{bytes_eq}
 use Rattle.std.proofs.lemmas.Bool.{cases_Bool, cases_lt, cases_order}
@@ -9,7 +9,8 @@ use Rattle.std.specs.BTreeMap.{BTreeMap, get_by, is_at}
 use Rattle.std.specs.Map.{lookup, update}
 use Rattle.std.specs.Cmp.Lexicographic.{slice_cmp}
 use Rattle.std.specs.Ordering.{nat_cmp}
-use Rattle.std.proofs.Common.{Bor}
+use Rattle.std.proofs.Common.{Bor, get_or}
+use Rattle.std.proofs.lemmas.Option.{slice_get-get_or}
 use Rattle.job_list.specs.Outputs.{SameOutputAt, AreApart, IsLeastPair}
 
 abbrev Outputs : Type 0
@@ -182,3 +183,13 @@ places_pair outputs n places output first h here place =
         let one : i ≡ first = cc in
         omega arith;
     }
+
+pub none_answer : {T E : Type 0} (r : Result (Option T) E) (outputs other : Outputs) → outputs ≡ other → IfOk r (λ found. IfNone found (AreApart outputs)) → IfOk r (λ found. IfNone found (AreApart other))
+none_answer r outputs other same = subst (λ (o : Outputs). IfOk r (λ found. IfNone found (AreApart o))) same
+
+pub places_added : (outputs : Outputs) (n : ℕ) (old new : Places) (output key : List ℕ) → HasPlaces outputs n old → slice_get outputs n ≡ Some (Some output) → place_of old output ≡ None → key ≡ output → ((other : List ℕ) → place_of new other ≡ update bytes_eq (place_of old) key (Some n) other) → HasPlaces outputs (n + 1) new
+places_added outputs n old new output key h here none is up =
+    places_more outputs n old new output h here none (λ other. up other ∙ ap (λ k. update bytes_eq (place_of old) k (Some n) other) is)
+
+pub here_at : (outputs : Outputs) (n : ℕ) (output : Option (List ℕ)) → n < length outputs → (read : Option (List ℕ)) → read ≡ get_or outputs n read → read ≡ output → slice_get outputs n ≡ Some output
+here_at outputs n output lt read is e = slice_get-get_or outputs n read lt ∙ ap Some (sym is ∙ e)
