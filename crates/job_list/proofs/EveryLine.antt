@@ -19,19 +19,25 @@ Whole line = ((words : List (List ℕ)) × LineOf line words) ⊎ ((fault : JobF
 
 -- a part more at the front
 whole_more : (p : Part) (rest : List ℕ) → IsPart p → Whole rest → Whole (part_text p ++ rest)
-whole_more p rest is (inl (words, h)) = inl (words_of (p ∷ h.parts), record {
-  parts = p ∷ h.parts;
-  right = (is, h.right);
-  spelled = ap (λ t. part_text p ++ t) h.spelled;
-  meant = refl;
-})
-whole_more p rest is (inr (fault, h)) = inr (fault, record {
-  parts = p ∷ h.parts;
-  right = (is, h.right);
-  tail = h.tail;
-  broken = h.broken;
-  spelled = ap (λ t. part_text p ++ t) h.spelled ∙ sym (append_assoc (part_text p) (flat_map part_text h.parts) h.tail);
-})
+whole_more p rest is (inl (words, h)) = inl (
+  words_of (p ∷ h.parts),
+  record {
+    parts = p ∷ h.parts;
+    right = (is, h.right);
+    spelled = ap (λ t. part_text p ++ t) h.spelled;
+    meant = refl;
+  },
+)
+whole_more p rest is (inr (fault, h)) = inr (
+  fault,
+  record {
+    parts = p ∷ h.parts;
+    right = (is, h.right);
+    tail = h.tail;
+    broken = h.broken;
+    spelled = ap (λ t. part_text p ++ t) h.spelled ∙ sym (append_assoc (part_text p) (flat_map part_text h.parts) h.tail);
+  },
+)
 
 whole_broken : (tail : List ℕ) (fault : JobFault) → BreaksOff tail fault → Whole tail
 whole_broken tail fault h = inr (fault, record { parts = []; right = tt; tail = tail; broken = h; spelled = refl })
@@ -81,39 +87,39 @@ every_rest (c ∷ cs) outside h =
     ⊎_elim
     (λ is. whole_more (blank c) cs is (later outside tt))
     (λ no_blank. ⊎_elim
-        (λ is. subst (λ x. Whole (x ∷ cs)) (sym (eqb-true c single_quote is)) (later (in_single []) tt))
-        (λ no_single. ⊎_elim
-            (λ is. subst (λ x. Whole (x ∷ cs)) (sym (eqb-true c double_quote is)) (later (in_double []) tt))
-            (λ no_double. ⊎_elim
-                (λ is. subst (λ x. Whole (x ∷ cs)) (sym (eqb-true c backslash is)) (later marked tt))
-                (λ no_backslash. whole_more (bare c) cs (is_bare_byte c no_blank no_single no_double no_backslash) (later outside tt))
-                (cases_Bool (c == backslash)))
-            (cases_Bool (c == double_quote)))
-        (cases_Bool (c == single_quote)))
+    (λ is. subst (λ x. Whole (x ∷ cs)) (sym (eqb-true c single_quote is)) (later (in_single []) tt))
+    (λ no_single. ⊎_elim
+    (λ is. subst (λ x. Whole (x ∷ cs)) (sym (eqb-true c double_quote is)) (later (in_double []) tt))
+    (λ no_double. ⊎_elim
+    (λ is. subst (λ x. Whole (x ∷ cs)) (sym (eqb-true c backslash is)) (later marked tt))
+    (λ no_backslash. whole_more (bare c) cs (is_bare_byte c no_blank no_single no_double no_backslash) (later outside tt))
+    (cases_Bool (c == backslash)))
+    (cases_Bool (c == double_quote)))
+    (cases_Bool (c == single_quote)))
     (cases_Bool (is_blank c))
 every_rest (c ∷ cs) marked h = whole_more (after_backslash c) cs tt (every_rest cs outside tt)
 every_rest (c ∷ cs) (in_single bytes) h =
     let later = every_rest cs in
     ⊎_elim
     (λ is.
-        let e : part_text (single bytes) ++ cs ≡ (single_quote ∷ bytes) ++ c ∷ cs = ap (λ t. single_quote ∷ t) (append_assoc bytes (single_quote ∷ []) cs ∙ ap (λ x. bytes ++ x ∷ cs) (sym (eqb-true c single_quote is))) in
-        subst Whole e (whole_more (single bytes) cs h (later outside tt)))
+    let e : part_text (single bytes) ++ cs ≡ (single_quote ∷ bytes) ++ c ∷ cs = ap (λ t. single_quote ∷ t) (append_assoc bytes (single_quote ∷ []) cs ∙ ap (λ x. bytes ++ x ∷ cs) (sym (eqb-true c single_quote is))) in
+    subst Whole e (whole_more (single bytes) cs h (later outside tt)))
     (λ no.
-        let e : (single_quote ∷ (bytes ++ c ∷ [])) ++ cs ≡ (single_quote ∷ bytes) ++ c ∷ cs = ap (λ t. single_quote ∷ t) (append_assoc bytes (c ∷ []) cs) in
-        subst Whole e (later (in_single (bytes ++ c ∷ [])) (all_append IsInSingle bytes (c ∷ []) h (ap not no, tt))))
+    let e : (single_quote ∷ (bytes ++ c ∷ [])) ++ cs ≡ (single_quote ∷ bytes) ++ c ∷ cs = ap (λ t. single_quote ∷ t) (append_assoc bytes (c ∷ []) cs) in
+    subst Whole e (later (in_single (bytes ++ c ∷ [])) (all_append IsInSingle bytes (c ∷ []) h (ap not no, tt))))
     (cases_Bool (c == single_quote))
 every_rest (c ∷ cs) (in_double quoted) h =
     let later = every_rest cs in
     ⊎_elim
     (λ is.
-        let e : part_text (double quoted) ++ cs ≡ (double_quote ∷ flat_map quoted_text quoted) ++ c ∷ cs = ap (λ t. double_quote ∷ t) (append_assoc (flat_map quoted_text quoted) (double_quote ∷ []) cs ∙ ap (λ x. flat_map quoted_text quoted ++ x ∷ cs) (sym (eqb-true c double_quote is))) in
-        subst Whole e (whole_more (double quoted) cs h (later outside tt)))
+    let e : part_text (double quoted) ++ cs ≡ (double_quote ∷ flat_map quoted_text quoted) ++ c ∷ cs = ap (λ t. double_quote ∷ t) (append_assoc (flat_map quoted_text quoted) (double_quote ∷ []) cs ∙ ap (λ x. flat_map quoted_text quoted ++ x ∷ cs) (sym (eqb-true c double_quote is))) in
+    subst Whole e (whole_more (double quoted) cs h (later outside tt)))
     (λ no_double. ⊎_elim
-        (λ is.
-            let e : (double_quote ∷ (flat_map quoted_text quoted ++ backslash ∷ [])) ++ cs ≡ (double_quote ∷ flat_map quoted_text quoted) ++ c ∷ cs = ap (λ t. double_quote ∷ t) (append_assoc (flat_map quoted_text quoted) (backslash ∷ []) cs ∙ ap (λ x. flat_map quoted_text quoted ++ x ∷ cs) (sym (eqb-true c backslash is))) in
-            subst Whole e (later (marked_double quoted) h))
-        (λ no_backslash. subst Whole (quoted_more quoted (literal c) cs) (later (in_double (quoted ++ literal c ∷ [])) (all_append IsQuoted quoted (literal c ∷ []) h (no_mark_byte c no_double no_backslash, tt))))
-        (cases_Bool (c == backslash)))
+    (λ is.
+    let e : (double_quote ∷ (flat_map quoted_text quoted ++ backslash ∷ [])) ++ cs ≡ (double_quote ∷ flat_map quoted_text quoted) ++ c ∷ cs = ap (λ t. double_quote ∷ t) (append_assoc (flat_map quoted_text quoted) (backslash ∷ []) cs ∙ ap (λ x. flat_map quoted_text quoted ++ x ∷ cs) (sym (eqb-true c backslash is))) in
+    subst Whole e (later (marked_double quoted) h))
+    (λ no_backslash. subst Whole (quoted_more quoted (literal c) cs) (later (in_double (quoted ++ literal c ∷ [])) (all_append IsQuoted quoted (literal c ∷ []) h (no_mark_byte c no_double no_backslash, tt))))
+    (cases_Bool (c == backslash)))
     (cases_Bool (c == double_quote))
 every_rest (c ∷ cs) (marked_double quoted) h =
     let later = every_rest cs in

@@ -16,9 +16,9 @@ use Rattle.job_list.proofs.Pairs.{every_pair, get_past}
 every_job : (line : List ℕ) → ((words : List (List ℕ)) × JobOf line words) ⊎ ((fault : JobFault) × ((count : ℕ) → IsWrongLine count line fault))
 every_job line = ⊎_elim
     (λ yes. let legible = text_is line yes in ⊎_elim
-        (λ h. inl (h.0, record { legible = legible; split = h.1 }))
-        (λ h. inr (h.0, λ count. inr (inl (legible, h.1))))
-        (every_line line))
+    (λ h. inl (h.0, record { legible = legible; split = h.1 }))
+    (λ h. inr (h.0, λ count. inr (inl (legible, h.1))))
+    (every_line line))
     (λ no. inr (NotText, λ count. inl (refl, λ h. false≢true (sym no ∙ text_true line h))))
     (cases_Bool (is_text line))
 
@@ -78,12 +78,12 @@ every_lines count (l ∷ ls) few =
     let later = every_lines (count + 1) ls in
     ⊎_elim
     (λ job. ⊎_elim
-        (λ full. inr (wrong_here count l ls TooMany few (inr (inr (refl, full, job.0, job.1)))))
-        (λ room. ⊎_elim
-            (λ all. inl (right_later count l ls job.0 job.1 all))
-            (λ one. inr (wrong_later count l ls job.0 job.1 one))
-            (later room))
-        (full_or_not count few))
+    (λ full. inr (wrong_here count l ls TooMany few (inr (inr (refl, full, job.0, job.1)))))
+    (λ room. ⊎_elim
+    (λ all. inl (right_later count l ls job.0 job.1 all))
+    (λ one. inr (wrong_later count l ls job.0 job.1 one))
+    (later room))
+    (full_or_not count few))
     (λ wrong. inr (wrong_here count l ls wrong.0 few (wrong.1 count)))
     (every_job l.bytes)
 
@@ -101,34 +101,48 @@ text_wrong : (text : List ℕ) → length text ≤ 16_777_216 → OneWrong 0 (jo
 unfolding Text
 text_wrong text short one =
     let e : 0 + length one.jobs ≡ length one.jobs = omega arith in
-    inr (one.line.number, one.fault, inr (short, inl (record {
-      before = one.before;
-      line = one.line;
-      after = one.after;
-      jobs = one.jobs;
-      split = one.split;
-      right = one.right;
-      few = let few = one.few in omega arith;
-      wrong = subst (λ n. IsWrongLine n one.line.bytes one.fault) e one.wrong;
-      place = refl;
-    })))
+    inr (
+      one.line.number,
+      one.fault,
+      inr (
+        short,
+        inl (record {
+          before = one.before;
+          line = one.line;
+          after = one.after;
+          jobs = one.jobs;
+          split = one.split;
+          right = one.right;
+          few = let few = one.few in omega arith;
+          wrong = subst (λ n. IsWrongLine n one.line.bytes one.fault) e one.wrong;
+          place = refl;
+        }),
+      ),
+    )
 
 text_shares : (text : List ℕ) (jobs : List (List (List ℕ))) (i j : ℕ) → length text ≤ 16_777_216 → AreJobs (job_lines text) jobs → length jobs ≤ 512 → IsLeastPair (outputs_of jobs) i j → Text text
 unfolding Text
 text_shares text jobs i j short each few pair =
     let there = line_at (job_lines text) jobs j each (get_past (outputs_of jobs) j (Some pair.same.0) pair.same.2) in
-    inr (there.0.number, SameOutput (i + 1) (j + 1), inr (short, inr (inr (record {
-      jobs = jobs;
-      first = i;
-      second = j;
-      line = there.0;
-      each = each;
-      few = few;
-      pair = pair;
-      there = there.1;
-      place = refl;
-      named = refl;
-    }))))
+    inr (
+      there.0.number,
+      SameOutput (i + 1) (j + 1),
+      inr (
+        short,
+        inr (inr (record {
+          jobs = jobs;
+          first = i;
+          second = j;
+          line = there.0;
+          each = each;
+          few = few;
+          pair = pair;
+          there = there.1;
+          place = refl;
+          named = refl;
+        })),
+      ),
+    )
 
 none_or_some : (lines : List NumberedLine) (jobs : List (List (List ℕ))) → AreJobs lines jobs → (lines ≡ []) ⊎ (1 ≤ length jobs)
 none_or_some [] jobs h = inl refl
@@ -142,9 +156,9 @@ text_right text short all =
     ⊎_elim
     (λ none. inr (0, NoJobs, inr (short, inr (inl (none, refl, refl)))))
     (λ some. ⊎_elim
-        (λ pair. text_shares text all.jobs pair.0 pair.1 short all.each few pair.2)
-        (λ apart. inl (all.jobs, record { short = short; each = all.each; some = some; few = few; apart = apart }))
-        (every_pair (outputs_of all.jobs)))
+    (λ pair. text_shares text all.jobs pair.0 pair.1 short all.each few pair.2)
+    (λ apart. inl (all.jobs, record { short = short; each = all.each; some = some; few = few; apart = apart }))
+    (every_pair (outputs_of all.jobs)))
     (none_or_some (job_lines text) all.jobs all.each)
 
 short_or_long : (n : ℕ) → (n ≤ 16_777_216) ⊎ (16_777_216 < n)

@@ -8,3 +8,4 @@ pub mod Pairs
 pub mod TextReading
 pub mod EveryText
 pub mod Answering
+pub mod PrintedLines

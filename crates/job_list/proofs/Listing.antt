@@ -172,18 +172,21 @@ line_there (l ∷ ls) (suc i) at h = line_there ls i at h
 share_error : (e : JobError) (text : List ℕ) (listed : Listed) → length text ≤ 16_777_216 → AreJobs (job_lines text) listed.jobs → length listed.jobs ≤ 512 → listed.lines ≡ numbers_of (job_lines text) → IsError (ListedShare listed) e → IsError (JobFaultStands text) e
 share_error (Fault at fault) text listed short each few numbers h =
     let there = line_there (job_lines text) h.second at (ap (λ ns. slice_get ns h.second) (sym numbers) ∙ h.there) in
-    inr (short, inr (inr (record {
-      jobs = listed.jobs;
-      first = h.first;
-      second = h.second;
-      line = there.0;
-      each = each;
-      few = few;
-      pair = h.pair;
-      there = there.1;
-      place = there.2;
-      named = h.named;
-    })))
+    inr (
+      short,
+      inr (inr (record {
+        jobs = listed.jobs;
+        first = h.first;
+        second = h.second;
+        line = there.0;
+        each = each;
+        few = few;
+        pair = h.pair;
+        there = there.1;
+        place = there.2;
+        named = h.named;
+      })),
+    )
 share_error Memory text listed short each few numbers h = tt
 
 pub list_answer : (r : Result (List (List (List ℕ))) JobError) (text : List ℕ) (listed : Listed) → length text ≤ 16_777_216 → AreJobs (job_lines text) listed.jobs → 1 ≤ length listed.jobs → length listed.jobs ≤ 512 → IfOk r (λ jobs. jobs ≡ listed.jobs) → OnOk r (AreApart (outputs_of listed.jobs)) → IfOk r (λ jobs. JobsOf text jobs)

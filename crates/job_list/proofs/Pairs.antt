@@ -122,40 +122,40 @@ pub places_past : (outputs : Outputs) (n : ℕ) (places : Places) → HasPlaces 
 places_past outputs n places h none = record {
   found = λ output i e. let p = h.found output i e in let lt = p.0 in (omega arith, p.1);
   kept = λ output i lt there. ⊎_elim
-    (λ below. h.kept output i below there)
-    (λ last. let e : Some (Some output) ≡ Some None = sym there ∙ ap (slice_get outputs) last ∙ none in absurd cc)
-    (below_or_last i n (omega arith));
+      (λ below. h.kept output i below there)
+      (λ last. let e : Some (Some output) ≡ Some None = sym there ∙ ap (slice_get outputs) last ∙ none in absurd cc)
+      (below_or_last i n (omega arith));
 }
 
 -- an output at the next place that wasn't there before
 pub places_more : (outputs : Outputs) (n : ℕ) (old new : Places) (output : List ℕ) → HasPlaces outputs n old → slice_get outputs n ≡ Some (Some output) → place_of old output ≡ None → ((other : List ℕ) → place_of new other ≡ update bytes_eq (place_of old) output (Some n) other) → HasPlaces outputs (n + 1) new
 places_more outputs n old new output h here none up = record {
   found = λ other i e. ⊎_elim
-    (λ (same : bytes_eq output other ≡ true).
+      (λ (same : bytes_eq output other ≡ true).
       let is : output ≡ other = (bytes_eq-Decides output other).0 same in
       let there : Some n ≡ Some i = sym (up other ∙ rw same refl) ∙ e in
       let at : n ≡ i = cc in
       (omega arith, ap (slice_get outputs) (sym at) ∙ here ∙ ap (λ o. Some (Some o)) is))
-    (λ (differs : bytes_eq output other ≡ false).
+      (λ (differs : bytes_eq output other ≡ false).
       let p = h.found other i (sym (up other ∙ rw differs refl) ∙ e) in
       let lt = p.0 in
       (omega arith, p.1))
-    (cases_Bool (bytes_eq output other));
+      (cases_Bool (bytes_eq output other));
   kept = λ other i lt there. ⊎_elim
-    (λ (same : bytes_eq output other ≡ true).
+      (λ (same : bytes_eq output other ≡ true).
       let is : output ≡ other = (bytes_eq-Decides output other).0 same in
       let place = up other ∙ rw same refl in
       ⊎_elim
       (λ below. let e : None ≡ Some i = sym none ∙ ap (place_of old) is ∙ h.kept other i below there in absurd cc)
       (λ last. place ∙ ap Some (sym last))
       (below_or_last i n (omega arith)))
-    (λ (differs : bytes_eq output other ≡ false).
+      (λ (differs : bytes_eq output other ≡ false).
       let place = up other ∙ rw differs refl in
       ⊎_elim
       (λ below. place ∙ h.kept other i below there)
       (λ last. let e : Some (Some other) ≡ Some (Some output) = sym there ∙ ap (slice_get outputs) last ∙ here in let is : output ≡ other = cc in let yes = (bytes_eq-Decides output other).1 is in absurd cc)
       (below_or_last i n (omega arith)))
-    (cases_Bool (bytes_eq output other));
+      (cases_Bool (bytes_eq output other));
 }
 
 places_apart : (outputs : Outputs) (n : ℕ) (places : Places) → HasPlaces outputs n places → (i j : ℕ) → i < j → j < n → SameOutputAt outputs i j → ⊥
@@ -176,12 +176,12 @@ places_pair outputs n places output first h here place =
       same = (output, p.1, here);
       earlier = places_apart outputs n places h;
       least = λ i lt same.
-        let e : Some (Some same.0) ≡ Some (Some output) = sym same.2 ∙ here in
-        let is : same.0 ≡ output = cc in
-        let low = p.0 in
-        let again : Some i ≡ Some first = sym (h.kept output i (omega arith) (same.1 ∙ ap (λ o. Some (Some o)) is)) ∙ place in
-        let one : i ≡ first = cc in
-        omega arith;
+          let e : Some (Some same.0) ≡ Some (Some output) = sym same.2 ∙ here in
+          let is : same.0 ≡ output = cc in
+          let low = p.0 in
+          let again : Some i ≡ Some first = sym (h.kept output i (omega arith) (same.1 ∙ ap (λ o. Some (Some o)) is)) ∙ place in
+          let one : i ≡ first = cc in
+          omega arith;
     }
 
 pub none_answer : {T E : Type 0} (r : Result (Option T) E) (outputs other : Outputs) → outputs ≡ other → IfOk r (λ found. IfNone found (AreApart outputs)) → IfOk r (λ found. IfNone found (AreApart other))

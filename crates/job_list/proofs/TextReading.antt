@@ -134,9 +134,10 @@ same_share lines at there fault other h k =
     let jobs : k.jobs ≡ h.jobs = one_list lines k.jobs h.jobs k.each h.each in
     let pair = one_pair (outputs_of h.jobs) h.first h.second k.first k.second h.pair (subst (λ js. IsLeastPair (outputs_of js) k.first k.second) jobs k.pair) in
     let e = sym h.there ∙ ap (slice_get lines) pair.1 ∙ k.there in
-    let line : h.line ≡ k.line = cc in
-    (h.place ∙ ap (λ (l : NumberedLine). l.number) line ∙ sym k.place,
-     h.named ∙ ap (λ n. SameOutput (n + 1) (h.second + 1)) pair.0 ∙ ap (λ n. SameOutput (k.first + 1) (n + 1)) pair.1 ∙ sym k.named)
+    let line : h.line ≡ k.line = cc in (
+      h.place ∙ ap (λ (l : NumberedLine). l.number) line ∙ sym k.place,
+      h.named ∙ ap (λ n. SameOutput (n + 1) (h.second + 1)) pair.0 ∙ ap (λ n. SameOutput (k.first + 1) (n + 1)) pair.1 ∙ sym k.named,
+    )
 
 same_lines : (lines : List NumberedLine) (at there : ℕ) (fault other : JobFault) → LinesFault lines at fault → LinesFault lines there other → Same at there fault other
 same_lines lines at there fault other (inl h) (inl k) = same_wrong lines at there fault other h k

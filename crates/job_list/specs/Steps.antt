@@ -68,7 +68,7 @@ abbrev pub AddsLine : List ℕ → ℕ → Listed → Listed → Type 0
 AddsLine line number old new =
     ((is_job line ≡ false) × (new ≡ old))
     ⊎ ((is_job line ≡ true) × (words : List (List ℕ)) × JobOf line words
-        × (new ≡ record { jobs = old.jobs ++ words ∷ []; lines = old.lines ++ number ∷ [] }))
+    × (new ≡ record { jobs = old.jobs ++ words ∷ []; lines = old.lines ++ number ∷ [] }))
 
 -- and there are at most 512 jobs still
 pub record TakesLine (line : List ℕ) (number : ℕ) (old new : Listed) : Type 0 where
