@@ -9,3 +9,4 @@ pub mod TextReading
 pub mod EveryText
 pub mod Answering
 pub mod PrintedLines
+pub mod ReadWords

@@ -18,7 +18,7 @@ use Rattle.job_list.specs.Lines.{words_of, goes_on, onto_words, LineOf}
 use Rattle.job_list.specs.Texts.{is_job, lines_of, jobs_from, job_lines}
 use Rattle.job_list.specs.Outputs.{outputs_of, AreApart, SameOutputAt}
 use Rattle.job_list.specs.Jobs.{holds_zero, IsText, JobOf, AreJobs, JobsOf}
-use Rattle.job_list.specs.Prints.{IsPrintable, ArePrintable, AreUtf8, byte_text, word_text, words_text}
+use Rattle.job_list.specs.Prints.{IsPrintable, ArePrintable, AreUtf8, AreJobWords, byte_text, word_text, words_text}
 use Rattle.job_list.proofs.Taking.{all_append}
 use Rattle.job_list.proofs.Pairs.{get_past}
 
@@ -263,10 +263,10 @@ pub answer_one : {E : Type 0} (r : Result (List ℕ) E) (ws : List (List ℕ)) �
 answer_one (Ok line) ws plain is = subst (λ t. lines_of t ≡ t ∷ []) (sym is) (one_line ws plain)
 answer_one (Err e) ws plain is = tt
 
-pub answer_job : {E : Type 0} (r : Result (List ℕ) E) (ws : List (List ℕ)) → ArePrintable ws → IfOk r (λ line. line ≡ words_text ws) → AreUtf8 ws → 1 ≤ length ws → IfOk r (λ line. (is_job line ≡ true) × JobOf line ws)
-answer_job (Ok line) ws plain is utf8 some = subst (λ t. (is_job t ≡ true) × JobOf t ws) (sym is) (is_job_printed ws some, job_printed ws plain utf8)
-answer_job (Err e) ws plain is utf8 some = tt
+pub answer_job : {E : Type 0} (r : Result (List ℕ) E) (ws : List (List ℕ)) → ArePrintable ws → IfOk r (λ line. line ≡ words_text ws) → AreJobWords ws → IfOk r (λ line. (is_job line ≡ true) × JobOf line ws)
+answer_job (Ok line) ws plain is h = subst (λ t. (is_job t ≡ true) × JobOf t ws) (sym is) (is_job_printed ws h.some, job_printed ws plain h.utf8)
+answer_job (Err e) ws plain is h = tt
 
-pub answer_again : {E : Type 0} (r : Result (List ℕ) E) (ws : List (List ℕ)) → ArePrintable ws → IfOk r (λ line. line ≡ words_text ws) → AreUtf8 ws → 1 ≤ length ws → IfOk r (λ line. length line ≤ 16_777_216 → JobsOf line (ws ∷ []))
-answer_again (Ok line) ws plain is utf8 some = subst (λ t. length t ≤ 16_777_216 → JobsOf t (ws ∷ [])) (sym is) (list_printed ws plain utf8 some)
-answer_again (Err e) ws plain is utf8 some = tt
+pub answer_again : {E : Type 0} (r : Result (List ℕ) E) (ws : List (List ℕ)) → ArePrintable ws → IfOk r (λ line. line ≡ words_text ws) → AreJobWords ws → IfOk r (λ line. length line ≤ 16_777_216 → JobsOf line (ws ∷ []))
+answer_again (Ok line) ws plain is h = subst (λ t. length t ≤ 16_777_216 → JobsOf t (ws ∷ [])) (sym is) (list_printed ws plain h.utf8 h.some)
+answer_again (Err e) ws plain is h = tt

@@ -1,5 +1,5 @@
 -- The words that can be printed on a line, and how they are.
-use Rattle.std.specs.Prelude.{ℕ, List, [], ◌∷◌, ◌++◌, not, ◌||◌, ◌==◌, All, if◌then◌else◌}
+use Rattle.std.specs.Prelude.{ℕ, ◌≤◌, List, length, [], ◌∷◌, ◌++◌, not, ◌||◌, ◌==◌, All, if◌then◌else◌}
 use Rattle.std.specs.List.{AllPass, flat_map}
 use Rattle.std.specs.Str.{IsUtf8}
 use Rattle.job_list.specs.Bytes.{line_feed, space, double_quote, backslash}
@@ -16,6 +16,12 @@ ArePrintable words = All IsPrintable words
 
 abbrev pub AreUtf8 : List (List ℕ) → Type 0
 AreUtf8 words = All IsUtf8 words
+
+-- words that a job can have
+pub record AreJobWords (words : List (List ℕ)) : Type 0 where
+  pub some : 1 ≤ length words
+  pub printable : ArePrintable words
+  pub utf8 : AreUtf8 words
 
 -- ---- the line
 

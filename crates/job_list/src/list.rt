@@ -1,12 +1,13 @@
 //! The jobs that a text lists.
 
-ghost use Rattle.std.specs.Prelude.{ℕ, ◌≡◌, ◌≤◌, ◌<◌, ◌+◌, ◌++◌, ◌∷◌, [], List, true, false, length, OnOk, IfOk, IfErr};
+ghost use Rattle.std.specs.Prelude.{ℕ, ◌≡◌, ◌≤◌, ◌<◌, ◌+◌, ◌++◌, ◌∷◌, [], List, true, false, length, OnOk, IfOk, IfErr, All};
 ghost use Rattle.job_list.specs.declared.fault.JobFault.{JobFault};
 ghost use Rattle.job_list.specs.Texts as texts;
 ghost use Rattle.job_list.specs.Texts.{job_lines};
 ghost use Rattle.job_list.specs.Outputs.{AreApart, outputs_of};
 ghost use Rattle.job_list.specs.Jobs.{JobOf, IsWrongLine, HasWrongLine, JobsOf, AreJobs, JobFaultStands};
 ghost use Rattle.job_list.specs.Steps.{TakesLine, ListedShare, numbers_of};
+ghost use Rattle.job_list.specs.Prints.{AreJobWords};
 ghost use Rattle.job_list.specs.Answers.{IsError, Gives, GivesFault};
 
 use crate::fault::{JobError, JobFault};
@@ -157,6 +158,9 @@ pub fn parse(alloc: Global, text: &[u8]) -> Result<Jobs, JobError>
     ensures only_list { (jobs : List (List (List ℕ))) → JobsOf text.now jobs → Gives jobs result }
     ensures only_fault { (at : ℕ) (fault : JobFault)
         → JobFaultStands text.now at fault → GivesFault at fault result }
+
+    // What `print_words` writes of such a job is read as the same words again.
+    ensures within { IfOk result (λ jobs. All AreJobWords jobs) }
 {
     read_list(alloc, text)
 }

@@ -4,7 +4,7 @@ ghost use Rattle.std.specs.Prelude.{◌≡◌, ◌≤◌, ◌++◌, ◌∷◌, [
 ghost use Rattle.job_list.specs.Lines.{LineOf};
 ghost use Rattle.job_list.specs.Texts.{is_job, lines_of};
 ghost use Rattle.job_list.specs.Jobs.{JobOf, JobsOf};
-ghost use Rattle.job_list.specs.Prints.{ArePrintable, AreUtf8};
+ghost use Rattle.job_list.specs.Prints.{ArePrintable, AreJobWords};
 ghost use Rattle.job_list.specs.Prints as prints;
 
 use farm_types::{Bytes, Words};
@@ -52,9 +52,9 @@ pub fn print_words(alloc: Global, words: &Words) -> Result<Bytes, AllocError>
     requires { ArePrintable words.now }
     ensures line { IfOk result (λ line. LineOf line words.now) }
     ensures one { IfOk result (λ line. lines_of line ≡ line ∷ []) }
-    ensures job { AreUtf8 words.now → 1 ≤ length words.now
+    ensures job { AreJobWords words.now
         → IfOk result (λ line. (is_job line ≡ true) × JobOf line words.now) }
-    ensures again { AreUtf8 words.now → 1 ≤ length words.now
+    ensures again { AreJobWords words.now
         → IfOk result (λ line. length line ≤ 16_777_216 → JobsOf line (words.now ∷ [])) }
 {
     put_words(alloc, words)
