@@ -1,6 +1,6 @@
 # Everything that a machine with the toolchain needs: `make demo` runs the main job, `make test` passes the tests.
 
-.PHONY: bench bench-wire demo test
+.PHONY: bench bench-jobs bench-wire demo test
 
 # One job end to end: farm, with a real distccd on loopback where one is installed.
 demo:
@@ -19,3 +19,7 @@ bench:
 # How many times as long writing and reading 32 MiB takes as a plain copy of as many bytes.
 bench-wire:
 	cd crates/wire_bench && rt run -- measure
+
+# How many times as long reading a job list of 16 MiB takes as a plain copy of it.
+bench-jobs:
+	cd crates/job_bench && rt run -- measure

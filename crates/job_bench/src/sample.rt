@@ -1,0 +1,82 @@
+//! Job lists of 16 MiB.
+
+use farm_types::limits::{JOB_LIST_MAX, JOBS_MAX};
+use std::alloc::{AllocError, Global};
+
+/// The most bytes of each of 512 lines.
+const LINE_MAX: usize = JOB_LIST_MAX / JOBS_MAX;
+
+/// The form of the lines of a list: what stands at a line's front, what is repeated as often as there is room,
+/// and what stands before the job's number at its end.
+pub struct Shape {
+    pub name: &'static str,
+    front: &'static str,
+    piece: &'static str,
+    end: &'static str,
+}
+
+/// Lists of 512 jobs, each with an output of its own.
+pub const SHAPES: [Shape; 5] = [
+    Shape {
+        name: "bare words",
+        front: "scc -c a.c",
+        piece: " -DNAME=VALUE",
+        end: " -o ",
+    },
+    Shape {
+        name: "words between double quotes, with escapes",
+        front: "scc -c a.c",
+        piece: " \"-Da=\\\"b\\\\c\\\"\"",
+        end: " -o ",
+    },
+    Shape {
+        name: "a backslash before each byte",
+        front: "scc -c a.c ",
+        piece: "\\-\\D",
+        end: " -o ",
+    },
+    Shape {
+        name: "blanks",
+        front: "scc -c a.c",
+        piece: " ",
+        end: " -o ",
+    },
+    Shape {
+        name: "outputs that differ at their ends",
+        front: "scc -c a.c -o ",
+        piece: "x",
+        end: "",
+    },
+];
+
+fn put_job(text: &mut Vec<u8>, alloc: Global, shape: &Shape, number: usize) -> Result<(), AllocError> {
+    let end = format!(in alloc; "{}{number}\n", shape.end)?;
+    let room = LINE_MAX
+        .saturating_sub(shape.front.len())
+        .saturating_sub(end.len());
+    text.extend_from_slice(shape.front.as_bytes())?;
+    for _ in 0..room.checked_div(shape.piece.len()).unwrap_or(0) {
+        text.extend_from_slice(shape.piece.as_bytes())?;
+    }
+    text.extend_from_slice(end.as_bytes())
+}
+
+/// A list of 512 jobs of this form.
+pub fn jobs(alloc: Global, shape: &Shape) -> Result<Vec<u8>, AllocError> {
+    let mut text = Vec::new(alloc);
+    for number in 0..JOBS_MAX {
+        put_job(&mut text, alloc, shape, number)?;
+    }
+    Ok(text)
+}
+
+/// One job behind short comments and empty lines.
+pub fn comments(alloc: Global) -> Result<Vec<u8>, AllocError> {
+    let mut text = Vec::new(alloc);
+    let lines = b"# no job\n\n";
+    for _ in 0..(JOB_LIST_MAX - 1) / lines.len() {
+        text.extend_from_slice(lines)?;
+    }
+    text.push(b'x')?;
+    Ok(text)
+}
