@@ -1,4 +1,4 @@
-//! Measures the reading of job lists of 16 MiB against plain copies of them.
+//! Measures the reading of job lists of 4 and 16 MiB against plain copies of them.
 //!
 //! With the word `measure` it prints, for each text, how many times as long it takes as the copy.
 //! Without it, it prints how it is called, since printed times differ from run to run.
@@ -9,8 +9,12 @@ mod sample;
 
 use measure::measure;
 use sample::{SHAPES, comments, jobs};
+use std::alloc::Global;
 use std::env;
 use std::rt::Runtime;
+
+// The sizes of the lists, in MiB; the second is the most that a list may have.
+const SIZES: [usize; 2] = [4, 16];
 
 fn wants_measuring<R: Runtime>(rt: &R) -> anyhow::Result<bool> {
     let mut words = env::args(rt)?;
@@ -18,12 +22,20 @@ fn wants_measuring<R: Runtime>(rt: &R) -> anyhow::Result<bool> {
     Ok(words.next().is_some_and(|word| word.as_str() == "measure"))
 }
 
-fn report<R: Runtime>(rt: &R, name: &str, text: &[u8]) -> anyhow::Result<()> {
-    let times = measure(rt, rt.alloc(), text)?;
+fn report<R: Runtime>(
+    rt: &R,
+    alloc: Global,
+    name: &str,
+    mebibytes: usize,
+    text: &[u8],
+) -> anyhow::Result<()> {
+    let times = measure(rt, alloc, text)?;
     let hundredths = times.hundredths();
     let (whole, rest) = (hundredths / 100, hundredths % 100);
     let (taken, copy) = (times.task, times.copy);
-    println!(rt; "{name}: {whole}.{rest:02} copies ({taken} us, a copy {copy} us)")?;
+    println!(rt;
+        "{name}, {mebibytes} MiB: {whole}.{rest:02} copies ({taken} us, a copy {copy} us)"
+    )?;
     Ok(())
 }
 
@@ -33,9 +45,14 @@ fn main(rt: HostRuntime) -> anyhow::Result<()> {
         return Ok(());
     }
     for shape in &SHAPES {
-        let text = jobs(rt.alloc(), shape)?;
-        report(&rt, shape.name, &text)?;
+        for mebibytes in SIZES {
+            let text = jobs(rt.alloc(), shape, mebibytes)?;
+            report(&rt, rt.alloc(), shape.name, mebibytes, &text)?;
+        }
     }
-    let text = comments(rt.alloc())?;
-    report(&rt, "lines that are no job", &text)
+    for mebibytes in SIZES {
+        let text = comments(rt.alloc(), mebibytes)?;
+        report(&rt, rt.alloc(), "lines that are no job", mebibytes, &text)?;
+    }
+    Ok(())
 }

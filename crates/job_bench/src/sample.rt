@@ -1,10 +1,12 @@
-//! Job lists of 16 MiB.
+//! Job lists of some size.
 
-use farm_types::limits::{JOB_LIST_MAX, JOBS_MAX};
+ghost use Rattle.std.specs.Prelude.{◌≤◌};
+
+use farm_types::limits::JOBS_MAX;
 use std::alloc::{AllocError, Global};
 
-/// The most bytes of each of 512 lines.
-const LINE_MAX: usize = JOB_LIST_MAX / JOBS_MAX;
+/// The bytes of a MiB.
+const MEBIBYTE: usize = 1_048_576;
 
 /// The form of the lines of a list: what stands at a line's front, what is repeated as often as there is room,
 /// and what stands before the job's number at its end.
@@ -49,9 +51,16 @@ pub const SHAPES: [Shape; 5] = [
     },
 ];
 
-fn put_job(text: &mut Vec<u8>, alloc: Global, shape: &Shape, number: usize) -> Result<(), AllocError> {
+// A line of at most so many bytes.
+fn put_job(
+    text: &mut Vec<u8>,
+    alloc: Global,
+    shape: &Shape,
+    number: usize,
+    most: usize,
+) -> Result<(), AllocError> {
     let end = format!(in alloc; "{}{number}\n", shape.end)?;
-    let room = LINE_MAX
+    let room = most
         .saturating_sub(shape.front.len())
         .saturating_sub(end.len());
     text.extend_from_slice(shape.front.as_bytes())?;
@@ -61,20 +70,30 @@ fn put_job(text: &mut Vec<u8>, alloc: Global, shape: &Shape, number: usize) -> R
     text.extend_from_slice(end.as_bytes())
 }
 
-/// A list of 512 jobs of this form.
-pub fn jobs(alloc: Global, shape: &Shape) -> Result<Vec<u8>, AllocError> {
+/// A list of 512 jobs of this form, of at most so many MiB.
+pub fn jobs(alloc: Global, shape: &Shape, mebibytes: usize) -> Result<Vec<u8>, AllocError>
+    requires { mebibytes ≤ 16 }
+{
     let mut text = Vec::new(alloc);
     for number in 0..JOBS_MAX {
-        put_job(&mut text, alloc, shape, number)?;
+        put_job(
+            &mut text,
+            alloc,
+            shape,
+            number,
+            mebibytes * MEBIBYTE / JOBS_MAX,
+        )?;
     }
     Ok(text)
 }
 
-/// One job behind short comments and empty lines.
-pub fn comments(alloc: Global) -> Result<Vec<u8>, AllocError> {
+/// One job behind short comments and empty lines, of at most so many MiB.
+pub fn comments(alloc: Global, mebibytes: usize) -> Result<Vec<u8>, AllocError>
+    requires { mebibytes ≤ 16 }
+{
     let mut text = Vec::new(alloc);
     let lines = b"# no job\n\n";
-    for _ in 0..(JOB_LIST_MAX - 1) / lines.len() {
+    for _ in 0..(mebibytes * MEBIBYTE).saturating_sub(1) / lines.len() {
         text.extend_from_slice(lines)?;
     }
     text.push(b'x')?;
