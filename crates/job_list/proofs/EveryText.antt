@@ -1,13 +1,13 @@
 -- Every text is a job list or has a fault.
-use Rattle.std.proofs.Common.{◌≡◌, ℕ, zero, suc, ◌+◌, ◌<◌, ◌≤◌, Bool, true, false, List, [], ◌∷◌, ◌++◌, length, Option, Some, None, refl, ap, sym, ◌∙◌, subst, inl, inr, ⊎_elim, arith}
-use Rattle.std.specs.Prelude.{◌⊎◌, map}
+use Rattle.std.proofs.Common.{◌≡◌, ℕ, zero, suc, ◌+◌, ◌<◌, ◌≤◌, List, [], ◌∷◌, ◌++◌, length, Some, refl, ap, sym, ◌∙◌, subst, inl, inr, ⊎_elim, arith}
+use Rattle.std.specs.Prelude.{◌⊎◌}
 use Rattle.std.specs.List.{slice_get}
 use Rattle.std.proofs.lemmas.Bool.{cases_Bool, cases_lt, false≢true}
 use Rattle.job_list.specs.declared.fault.JobFault.{JobFault}
 use Rattle.job_list.specs.declared.fault.JobFault.TheVariants.{NoJobs, TooMany, TooLong, SameOutput, NotText}
 use Rattle.job_list.specs.Texts.{NumberedLine, job_lines}
-use Rattle.job_list.specs.Outputs.{output_of, outputs_of, AreApart, IsLeastPair, SameOutputAt}
-use Rattle.job_list.specs.Jobs.{IsText, JobOf, IsWrongLine, AreJobs, JobsOf, HasWrongLine, SharesOutput, LinesFault, JobFaultStands}
+use Rattle.job_list.specs.Outputs.{outputs_of, IsLeastPair}
+use Rattle.job_list.specs.Jobs.{JobOf, IsWrongLine, AreJobs, JobsOf, JobFaultStands}
 use Rattle.job_list.proofs.EveryLine.{every_line}
 use Rattle.job_list.proofs.TextReading.{is_text, text_true, text_is}
 use Rattle.job_list.proofs.Pairs.{every_pair, get_past}

@@ -1,14 +1,14 @@
 -- Lines, one after another.
-use Rattle.std.proofs.Common.{◌≡◌, ℕ, zero, suc, ◌+◌, ◌-◌, ◌<◌, ◌≤◌, Bool, true, false, List, [], ◌∷◌, ◌++◌, length, get_or, take, drop, Option, Some, refl, ap, sym, ◌∙◌, subst, inl, inr, arith}
-use Rattle.std.specs.Prelude.{not, ◌==◌, ◌⊎◌, map, Result, Ok, Err, IfOk, IfErr, OnOk}
-use Rattle.std.specs.List.{AllPass, slice_get, slice_split}
-use Rattle.std.proofs.lemmas.List.{append_assoc, append-nil, length-drop, length_push, drop_more, drop_all}
+use Rattle.std.proofs.Common.{◌≡◌, ℕ, zero, suc, ◌+◌, ◌-◌, ◌<◌, ◌≤◌, Bool, true, false, List, [], ◌∷◌, ◌++◌, length, get_or, take, drop, Some, refl, ap, sym, ◌∙◌, subst, inl, inr, arith}
+use Rattle.std.specs.Prelude.{not, ◌==◌, ◌⊎◌, Result, Ok, Err, IfOk, IfErr, OnOk}
+use Rattle.std.specs.List.{AllPass, slice_get}
+use Rattle.std.proofs.lemmas.List.{append_assoc, append-nil, length-drop, drop_more, drop_all}
 use Rattle.std.proofs.lemmas.List.Splits.{slice_split_none, slice_split_at}
 use Rattle.job_list.specs.Bytes.{line_feed, hash}
 use Rattle.job_list.specs.Parts.{is_blank}
 use Rattle.job_list.specs.Texts.{is_job, lines_of, NumberedLine, jobs_from, job_lines}
 use Rattle.job_list.specs.Outputs.{AreApart, outputs_of}
-use Rattle.job_list.specs.Jobs.{JobOf, AreJobs, IsWrongLine, HasWrongLine, SharesOutput, JobsOf, JobFaultStands}
+use Rattle.job_list.specs.Jobs.{JobOf, AreJobs, IsWrongLine, HasWrongLine, JobsOf, JobFaultStands}
 use Rattle.job_list.specs.declared.fault.JobFault.TheVariants.{NoJobs}
 use Rattle.job_list.specs.declared.list.Listed.{Listed}
 use Rattle.job_list.specs.declared.fault.JobError.{JobError}

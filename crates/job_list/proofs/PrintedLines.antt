@@ -1,7 +1,7 @@
 -- Printed words, read again.
-use Rattle.std.proofs.Common.{◌≡◌, ℕ, zero, suc, ◌+◌, ◌-◌, ◌<◌, ◌≤◌, Bool, true, false, List, [], ◌∷◌, ◌++◌, length, get_or, take, drop, Result, Ok, Err, refl, ap, sym, ◌∙◌, subst, inl, inr, ⊎_elim, arith}
+use Rattle.std.proofs.Common.{◌≡◌, ℕ, zero, suc, ◌+◌, ◌<◌, ◌≤◌, Bool, true, false, List, [], ◌∷◌, ◌++◌, length, get_or, take, drop, Result, Ok, Err, refl, ap, sym, ◌∙◌, subst, ⊎_elim, arith}
 use Rattle.std.specs.Prelude.{not, ◌==◌, ◌||◌, map, All, IfOk, Some, if◌then◌else◌}
-use Rattle.std.specs.List.{flat_map, AllPass, list_any, position_or_len, before_first, after_first}
+use Rattle.std.specs.List.{flat_map, position_or_len}
 use Rattle.std.specs.Str.{IsUtf8}
 use Rattle.std.proofs.lemmas.Bool.{cases_Bool, cases_lt, or_cases, eqb-true}
 use Rattle.std.proofs.lemmas.Bool.Decides.{nat_tests}
@@ -16,10 +16,9 @@ use Rattle.job_list.specs.Bytes.{line_feed, space, double_quote, backslash}
 use Rattle.job_list.specs.Parts.{Each, Quoted, literal, escaped, is_mark, IsQuoted, quoted_text, quoted_bytes, Part, blank, double, IsPart, part_text}
 use Rattle.job_list.specs.Lines.{words_of, goes_on, onto_words, LineOf}
 use Rattle.job_list.specs.Texts.{is_job, lines_of, jobs_from, job_lines}
-use Rattle.job_list.specs.Outputs.{outputs_of, AreApart, SameOutputAt}
-use Rattle.job_list.specs.Jobs.{holds_zero, IsText, JobOf, AreJobs, JobsOf}
+use Rattle.job_list.specs.Outputs.{outputs_of, AreApart}
+use Rattle.job_list.specs.Jobs.{holds_zero, JobOf, AreJobs, JobsOf}
 use Rattle.job_list.specs.Prints.{IsPrintable, ArePrintable, AreUtf8, AreJobWords, byte_text, word_text, words_text}
-use Rattle.job_list.proofs.Taking.{all_append}
 use Rattle.job_list.proofs.Pairs.{get_past}
 
 -- ---- one word more

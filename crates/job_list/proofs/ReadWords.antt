@@ -1,19 +1,18 @@
 -- What the words of a job are like.
-use Rattle.std.proofs.Common.{◌≡◌, ℕ, zero, suc, ◌+◌, ◌<◌, ◌≤◌, Bool, true, false, List, [], ◌∷◌, ◌++◌, length, take, drop, get_or, Result, Ok, Err, refl, ap, sym, ◌∙◌, subst, ⊎_elim, arith}
+use Rattle.std.proofs.Common.{◌≡◌, ℕ, suc, ◌+◌, ◌<◌, ◌≤◌, Bool, true, false, List, [], ◌∷◌, ◌++◌, length, take, drop, get_or, Result, Ok, Err, refl, ap, sym, ◌∙◌, subst, ⊎_elim, arith}
 use Rattle.std.specs.Prelude.{not, ◌==◌, ◌||◌, All, IfOk}
-use Rattle.std.specs.List.{flat_map, list_any, slice_split, onto_first}
+use Rattle.std.specs.List.{flat_map, onto_first}
 use Rattle.std.specs.Str.{IsUtf8}
-use Rattle.std.proofs.lemmas.Bool.{cases_Bool, or_cases, eqb-true}
-use Rattle.std.proofs.lemmas.Bool.Decides.{nat_tests}
+use Rattle.std.proofs.lemmas.Bool.{or_cases, eqb-true}
 use Rattle.std.proofs.lemmas.List.{append_assoc, append-nil}
 use Rattle.std.proofs.lemmas.List.Elements.{All-nil, All-cons}
 use Rattle.std.proofs.lemmas.Str.{IsUtf8-append, IsUtf8-take, IsUtf8-drop, IsCharBoundary-before_ascii, IsCharBoundary-after_ascii}
 use Rattle.job_list.specs.Bytes.{line_feed, single_quote, double_quote, backslash}
 use Rattle.job_list.specs.Parts.{Each, Quoted, literal, kept, escaped, quoted_text, quoted_bytes, is_blank, Part, blank, bare, after_backslash, single, double, IsPart, part_text, part_bytes}
 use Rattle.job_list.specs.Lines.{words_of, goes_on, onto_words, LineOf}
-use Rattle.job_list.specs.Texts.{lines_of, is_job, NumberedLine, jobs_from, job_lines}
+use Rattle.job_list.specs.Texts.{lines_of, is_job, jobs_from}
 use Rattle.job_list.specs.Jobs.{holds_zero, JobOf, AreJobs, JobsOf}
-use Rattle.job_list.specs.Prints.{IsPrintable, ArePrintable, AreUtf8, AreJobWords}
+use Rattle.job_list.specs.Prints.{IsPrintable, AreJobWords}
 use Rattle.job_list.proofs.Taking.{all_append, onto_onto}
 
 each_all : {X : Type 0} (P : X → Type 0) (xs : List X) → Each P xs → All P xs

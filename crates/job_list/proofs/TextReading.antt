@@ -1,17 +1,16 @@
 -- One reading of each text.
-use Rattle.std.proofs.Common.{◌≡◌, ℕ, suc, ◌+◌, ◌<◌, ◌≤◌, Bool, true, false, cond, List, [], ◌∷◌, ◌++◌, length, Option, Some, None, Result, Ok, Err, refl, ap, sym, ◌∙◌, inl, inr, subst, arith}
-use Rattle.std.specs.Prelude.{◌==◌, ◌⊎◌, not, ◌&&◌, if◌then◌else◌}
+use Rattle.std.proofs.Common.{◌≡◌, ℕ, suc, ◌+◌, ◌≤◌, Bool, true, false, cond, List, [], ◌∷◌, ◌++◌, length, Option, Some, None, Ok, Err, refl, ap, sym, ◌∙◌, inl, inr, subst, arith}
+use Rattle.std.specs.Prelude.{◌==◌, not, ◌&&◌, if◌then◌else◌}
 use Rattle.std.specs.List.{slice_get}
 use Rattle.std.specs.Str.{is_utf8}
 use Rattle.std.proofs.lemmas.Str.{is_utf8-from_IsUtf8, IsUtf8-from_is_utf8}
-use Rattle.std.proofs.lemmas.Bool.{cases_Bool}
 use Rattle.std.proofs.lemmas.Bool.Decides.{nat_tests}
 use Rattle.std.proofs.lemmas.List.{append-nil}
 use Rattle.job_list.specs.declared.fault.JobFault.{JobFault}
-use Rattle.job_list.specs.declared.fault.JobFault.TheVariants.{NoJobs, TooMany, TooLong, SameOutput, NotText}
-use Rattle.job_list.specs.Lines.{LineOf, LineFault}
+use Rattle.job_list.specs.declared.fault.JobFault.TheVariants.{TooMany, SameOutput, NotText}
+use Rattle.job_list.specs.Lines.{LineFault}
 use Rattle.job_list.specs.Texts.{NumberedLine, job_lines}
-use Rattle.job_list.specs.Outputs.{outputs_of, AreApart, IsLeastPair}
+use Rattle.job_list.specs.Outputs.{outputs_of, IsLeastPair}
 use Rattle.job_list.specs.Jobs.{holds_zero, IsText, JobOf, IsWrongLine, AreJobs, JobsOf, HasWrongLine, SharesOutput, LinesFault, JobFaultStands}
 use Rattle.job_list.proofs.Cutting.{Reading, reading_of, line_right, line_wrong}
 use Rattle.job_list.proofs.Pairs.{pair_not_apart, one_pair}

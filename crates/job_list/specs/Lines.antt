@@ -4,7 +4,7 @@ use Rattle.std.specs.List.{flat_map}
 use Rattle.job_list.specs.declared.fault.JobFault.{JobFault}
 use Rattle.job_list.specs.declared.fault.JobFault.TheVariants.{OpenQuote, BadEscape}
 use Rattle.job_list.specs.Bytes.{double_quote, single_quote, backslash}
-use Rattle.job_list.specs.Parts.{Each, IsInSingle, Quoted, IsQuoted, quoted_text, Part, blank, bare, after_backslash, single, double, IsPart, part_text, part_bytes}
+use Rattle.job_list.specs.Parts.{Each, IsInSingle, Quoted, IsQuoted, quoted_text, Part, blank, IsPart, part_text, part_bytes}
 
 -- ---- the words
 

@@ -1,5 +1,5 @@
-use Rattle.std.proofs.Common.{subst, ◌∙◌}
-use Rattle.job_list.specs.Outputs.{outputs_of, AreApart}
+use Rattle.std.proofs.Common.{◌∙◌}
+use Rattle.job_list.specs.Outputs.{outputs_of}
 use Rattle.job_list.proofs.Pairs.{none_answer}
 use Rattle.job_list.proofs.outputs.shared_output.Goals as goal
 
