@@ -1,13 +1,14 @@
 //! The line of a list of words.
 
-ghost use Rattle.std.specs.Prelude.{◌≡◌, ◌≤◌, ◌++◌, ◌∷◌, [], true, length, IfOk, OnOk};
+ghost use Rattle.std.specs.Prelude.{◌≡◌, ◌≤◌, ◌++◌, ◌∷◌, [], true, length, IfOk, OnOk, IsTrue, ◌↔◌};
 ghost use Rattle.job_list.specs.Lines.{LineOf};
 ghost use Rattle.job_list.specs.Texts.{is_job, lines_of};
 ghost use Rattle.job_list.specs.Jobs.{JobOf, JobsOf};
-ghost use Rattle.job_list.specs.Prints.{ArePrintable, AreJobWords};
+ghost use Rattle.job_list.specs.Prints.{IsPrintable, ArePrintable, AreJobWords};
 ghost use Rattle.job_list.specs.Prints as prints;
 
 use farm_types::{Bytes, Words};
+use memchr::memchr2;
 use std::alloc::{AllocError, Global};
 
 // A byte between double quotes.
@@ -44,6 +45,19 @@ fn put_words(alloc: Global, words: &Words) -> Result<Bytes, AllocError>
         put_word(&mut line, word.as_slice())?;
     }
     Ok(line)
+}
+
+fn is_printable(word: &[u8]) -> bool
+    ensures { IsTrue result ↔ IsPrintable word.now }
+{
+    memchr2(b'\n', 0, word).is_none()
+}
+
+/// Whether no word holds a line feed or a zero byte, as `print_words` asks.
+pub fn are_printable(words: &Words) -> bool
+    ensures { IsTrue result ↔ ArePrintable words.now }
+{
+    words.as_slice().iter().all(|word| is_printable(word.as_slice()))
 }
 
 /// A line that reads as these words, of which none may hold a line feed or a zero byte. Of UTF-8 words,
