@@ -1,6 +1,5 @@
 pub mod Ranges
 pub mod Taking
-pub mod AnyLemmas
 pub mod Listing
 pub mod Cutting
 pub mod EveryLine

@@ -8,7 +8,6 @@ use Rattle.std.proofs.lemmas.Bool.Decides.{nat_tests}
 use Rattle.std.proofs.lemmas.List.{append_assoc, append-nil, take_more, get_or-take, length-drop, length-take-le}
 use Rattle.std.proofs.lemmas.List.Concat.{flat_map-append}
 use Rattle.std.proofs.lemmas.List.Elements.{All-nil, All-cons, All-head, All-tail, All-append}
-use Rattle.std.proofs.lemmas.List.Folds.{list_any_none}
 use Rattle.std.proofs.lemmas.List.Splits.{slice_split_none}
 use Rattle.std.proofs.lemmas.List.Sums.{split_at_first, fails_before_first, passes_at_first}
 use Rattle.std.proofs.lemmas.Str.{IsUtf8-append, IsUtf8-nil, IsUtf8-from_ascii, IsUtf8-take, IsUtf8-drop, IsCharBoundary-before_ascii, IsCharBoundary-after_ascii}
@@ -17,7 +16,7 @@ use Rattle.job_list.specs.Parts.{Each, Quoted, literal, escaped, is_mark, IsQuot
 use Rattle.job_list.specs.Lines.{words_of, goes_on, onto_words, LineOf}
 use Rattle.job_list.specs.Texts.{is_job, lines_of, jobs_from, job_lines}
 use Rattle.job_list.specs.Outputs.{outputs_of, AreApart}
-use Rattle.job_list.specs.Jobs.{holds_zero, JobOf, AreJobs, JobsOf}
+use Rattle.job_list.specs.Jobs.{HasNoZero, JobOf, AreJobs, JobsOf}
 use Rattle.job_list.specs.Prints.{IsPrintable, ArePrintable, AreUtf8, AreJobWords, byte_text, word_text, words_text}
 use Rattle.job_list.proofs.Pairs.{get_past}
 
@@ -155,14 +154,14 @@ words_pass (w ∷ ws) h = pass_append (word_text w) (flat_map (λ v. space ∷ w
 no_feed : (c : ℕ) → printable c ≡ true → (c == line_feed) ≡ false
 no_feed c h = grind (arith, nat_tests)
 
-no_zero : (c : ℕ) → printable c ≡ true → (c == 0) ≡ false
+no_zero : (c : ℕ) → printable c ≡ true → not (c == 0) ≡ true
 no_zero c h = grind (arith, nat_tests)
 
 one_line : (ws : List (List ℕ)) → ArePrintable ws → lines_of (words_text ws) ≡ words_text ws ∷ []
 one_line ws h = let each = words_pass ws h in slice_split_none (λ c. c == line_feed) (words_text ws) (λ k d l. no_feed (get_or (words_text ws) k d) (each k d l))
 
-zero_free : (ws : List (List ℕ)) → ArePrintable ws → holds_zero (words_text ws) ≡ false
-zero_free ws h = let each = words_pass ws h in list_any_none (λ c. c == 0) (words_text ws) (λ k d l. no_zero (get_or (words_text ws) k d) (each k d l))
+zero_free : (ws : List (List ℕ)) → ArePrintable ws → HasNoZero (words_text ws)
+zero_free ws h = let each = words_pass ws h in λ k d l. no_zero (get_or (words_text ws) k d) (each k d l)
 
 -- ---- UTF-8
 

@@ -5,13 +5,13 @@ use Rattle.std.specs.List.{flat_map, onto_first}
 use Rattle.std.specs.Str.{IsUtf8}
 use Rattle.std.proofs.lemmas.Bool.{or_cases, eqb-true}
 use Rattle.std.proofs.lemmas.List.{append_assoc, append-nil}
-use Rattle.std.proofs.lemmas.List.Elements.{All-nil, All-cons}
+use Rattle.std.proofs.lemmas.List.Elements.{All-nil, All-cons, All-head, All-tail}
 use Rattle.std.proofs.lemmas.Str.{IsUtf8-append, IsUtf8-take, IsUtf8-drop, IsCharBoundary-before_ascii, IsCharBoundary-after_ascii}
 use Rattle.job_list.specs.Bytes.{line_feed, single_quote, double_quote, backslash}
 use Rattle.job_list.specs.Parts.{Each, Quoted, literal, kept, escaped, quoted_text, quoted_bytes, is_blank, Part, blank, bare, after_backslash, single, double, IsPart, part_text, part_bytes}
 use Rattle.job_list.specs.Lines.{words_of, goes_on, onto_words, LineOf}
 use Rattle.job_list.specs.Texts.{lines_of, is_job, jobs_from}
-use Rattle.job_list.specs.Jobs.{holds_zero, JobOf, AreJobs, JobsOf}
+use Rattle.job_list.specs.Jobs.{HasNoZero, JobOf, AreJobs, JobsOf}
 use Rattle.job_list.specs.Prints.{IsPrintable, AreJobWords}
 use Rattle.job_list.proofs.Taking.{all_append, onto_onto}
 
@@ -122,20 +122,16 @@ pass_cut : (xs ys : List ℕ) (c : ℕ) → c < 128 → Passes (xs ++ c ∷ ys) 
 pass_cut [] ys c low h = (tt, h.1)
 pass_cut (x ∷ xs) ys c low h = let later = pass_cut xs ys c low h.1 in ((h.0, later.0), later.1)
 
-both_pass : (c : ℕ) → (c == line_feed) ≡ false → (c == 0) ≡ false → printable c ≡ true
-both_pass c h k = rw (h, k) refl
+both_pass : (c : ℕ) → (c == line_feed) ≡ false → not (c == 0) ≡ true → printable c ≡ true
+both_pass c h k = rw h k
 
 abbrev NoFeed : List ℕ → Type 0
 NoFeed line = Each (λ c. (c == line_feed) ≡ false) line
 
-line_passes : (line : List ℕ) → NoFeed line → holds_zero line ≡ false → Passes line
+line_passes : (line : List ℕ) → NoFeed line → HasNoZero line → Passes line
 line_passes [] h k = tt
-line_passes (c ∷ cs) h k = by (c == 0) (holds_zero cs) refl refl k (line_passes cs h.1)
-  where
-    by : (here later : Bool) → (c == 0) ≡ here → holds_zero cs ≡ later → (here || later) ≡ false → (holds_zero cs ≡ false → Passes cs) → Passes (c ∷ cs)
-    by true later e f g more = absurd cc
-    by false true e f g more = absurd cc
-    by false false e f g more = (both_pass c h.0 e, more f)
+line_passes (c ∷ cs) h k =
+    (both_pass c h.0 (All-head (λ c. not (c == 0) ≡ true) c cs k), line_passes cs h.1 (All-tail (λ c. not (c == 0) ≡ true) c cs k))
 
 first_feeds : (c : ℕ) (ls : List (List ℕ)) → (c == line_feed) ≡ false → Each NoFeed ls → Each NoFeed (onto_first c ls)
 first_feeds c [] no_feed h = ((no_feed, tt), tt)

@@ -1,8 +1,9 @@
 -- One reading of each text.
 use Rattle.std.proofs.Common.{◌≡◌, ℕ, suc, ◌+◌, ◌≤◌, Bool, true, false, cond, List, [], ◌∷◌, ◌++◌, length, Option, Some, None, Ok, Err, refl, ap, sym, ◌∙◌, inl, inr, subst, arith}
 use Rattle.std.specs.Prelude.{◌==◌, not, ◌&&◌, if◌then◌else◌}
-use Rattle.std.specs.List.{slice_get}
+use Rattle.std.specs.List.{slice_get, list_all}
 use Rattle.std.specs.Str.{is_utf8}
+use Rattle.std.proofs.lemmas.List.Sums.{AllPass-from_list_all, list_all-from_AllPass}
 use Rattle.std.proofs.lemmas.Str.{is_utf8-from_IsUtf8, IsUtf8-from_is_utf8}
 use Rattle.std.proofs.lemmas.Bool.Decides.{nat_tests}
 use Rattle.std.proofs.lemmas.List.{append-nil}
@@ -11,27 +12,30 @@ use Rattle.job_list.specs.declared.fault.JobFault.TheVariants.{TooMany, SameOutp
 use Rattle.job_list.specs.Lines.{LineFault}
 use Rattle.job_list.specs.Texts.{NumberedLine, job_lines}
 use Rattle.job_list.specs.Outputs.{outputs_of, IsLeastPair}
-use Rattle.job_list.specs.Jobs.{holds_zero, IsText, JobOf, IsWrongLine, AreJobs, JobsOf, HasWrongLine, SharesOutput, LinesFault, JobFaultStands}
+use Rattle.job_list.specs.Jobs.{IsText, JobOf, IsWrongLine, AreJobs, JobsOf, HasWrongLine, SharesOutput, LinesFault, JobFaultStands}
 use Rattle.job_list.proofs.Cutting.{Reading, reading_of, line_right, line_wrong}
 use Rattle.job_list.proofs.Pairs.{pair_not_apart, one_pair}
 
 -- ---- one job
 
 pub is_text : List ℕ → Bool
-is_text line = is_utf8 line && not (holds_zero line)
+is_text line = is_utf8 line && list_all (λ c. not (c == 0)) line
 
 pub text_true : (line : List ℕ) → IsText line → is_text line ≡ true
 unfolding is_text
-text_true line h = let utf8 = is_utf8-from_IsUtf8 line h.utf8 in let plain = h.plain in rw (utf8, plain) refl
+text_true line h =
+    let utf8 = is_utf8-from_IsUtf8 line h.utf8 in
+    let plain = list_all-from_AllPass (λ c. not (c == 0)) line h.plain in
+    rw (utf8, plain) refl
 
 pub text_is : (line : List ℕ) → is_text line ≡ true → IsText line
 unfolding is_text
-text_is line h = by (is_utf8 line) (holds_zero line) refl refl h
+text_is line h = by (is_utf8 line) (list_all (λ c. not (c == 0)) line) refl refl h
   where
-    by : (utf8 zero : Bool) → is_utf8 line ≡ utf8 → holds_zero line ≡ zero → (utf8 && not zero) ≡ true → IsText line
-    by true false u z e = record { utf8 = IsUtf8-from_is_utf8 line u; plain = z }
-    by true true u z e = absurd cc
-    by false zero u z e = absurd cc
+    by : (utf8 plain : Bool) → is_utf8 line ≡ utf8 → list_all (λ c. not (c == 0)) line ≡ plain → (utf8 && plain) ≡ true → IsText line
+    by true true u z e = record { utf8 = IsUtf8-from_is_utf8 line u; plain = AllPass-from_list_all (λ c. not (c == 0)) line z }
+    by true false u z e = absurd cc
+    by false plain u z e = absurd cc
 
 pub text_false : (line : List ℕ) → (IsText line → ⊥) → is_text line ≡ false
 text_false line none = by (is_text line) refl

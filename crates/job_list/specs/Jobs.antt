@@ -1,6 +1,6 @@
 -- The jobs of a text, and what is wrong with a text that has none.
-use Rattle.std.specs.Prelude.{ℕ, ◌≡◌, ◌+◌, ◌≤◌, ◌<◌, List, [], ◌∷◌, ◌++◌, length, Bool, false, ◌==◌, ◌⊎◌, Some}
-use Rattle.std.specs.List.{list_any, slice_get}
+use Rattle.std.specs.Prelude.{ℕ, ◌≡◌, ◌+◌, ◌≤◌, ◌<◌, List, [], ◌∷◌, ◌++◌, length, not, ◌==◌, ◌⊎◌, Some}
+use Rattle.std.specs.List.{AllPass, slice_get}
 use Rattle.std.specs.Str.{IsUtf8}
 use Rattle.job_list.specs.declared.fault.JobFault.{JobFault}
 use Rattle.job_list.specs.declared.fault.JobFault.TheVariants.{NoJobs, TooMany, TooLong, SameOutput, NotText}
@@ -10,13 +10,13 @@ use Rattle.job_list.specs.Outputs.{outputs_of, AreApart, IsLeastPair}
 
 -- ---- one job
 
-abbrev pub holds_zero : List ℕ → Bool
-holds_zero line = list_any (λ c. c == 0) line
+abbrev pub HasNoZero : List ℕ → Type 0
+HasNoZero line = AllPass (λ c. not (c == 0)) line
 
 -- UTF-8 without a zero byte
 pub record IsText (line : List ℕ) : Type 0 where
   pub utf8 : IsUtf8 line
-  pub plain : holds_zero line ≡ false
+  pub plain : HasNoZero line
 
 -- the words of a line that is a job
 pub record JobOf (line : List ℕ) (words : List (List ℕ)) : Type 0 where

@@ -4,8 +4,7 @@ ghost use Rattle.std.specs.Prelude.{◌≡◌, ◌≤◌, ◌<◌, not, ◌==◌
 ghost use Rattle.std.specs.List.{AllPass};
 ghost use Rattle.job_list.specs.Bytes.{line_feed};
 ghost use Rattle.job_list.specs.Texts as texts;
-ghost use Rattle.job_list.specs.Jobs as jobs;
-ghost use Rattle.job_list.specs.Jobs.{IsText};
+ghost use Rattle.job_list.specs.Jobs.{HasNoZero, IsText};
 
 use crate::line::is_blank;
 use bstr::ByteSlice;
@@ -38,15 +37,15 @@ pub fn is_job(line: &[u8]) -> bool
     false
 }
 
-fn holds_zero(line: &[u8]) -> bool
-    ensures { result ≡ jobs.holds_zero line.now }
+fn has_no_zero(line: &[u8]) -> bool
+    ensures { IsTrue result ↔ HasNoZero line.now }
 {
-    memchr(0, line).is_some()
+    memchr(0, line).is_none()
 }
 
 /// Whether a line is UTF-8 and holds no zero byte.
 pub fn is_text(line: &[u8]) -> bool
     ensures { IsTrue result ↔ IsText line.now }
 {
-    str::from_utf8(line).is_ok() && !holds_zero(line)
+    str::from_utf8(line).is_ok() && has_no_zero(line)
 }
