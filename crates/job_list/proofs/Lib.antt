@@ -1,4 +1,3 @@
-pub mod Ranges
 pub mod Taking
 pub mod Listing
 pub mod Cutting

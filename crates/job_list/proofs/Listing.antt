@@ -3,6 +3,7 @@ use Rattle.std.proofs.Common.{◌≡◌, ℕ, zero, suc, ◌+◌, ◌-◌, ◌<�
 use Rattle.std.specs.Prelude.{not, ◌==◌, ◌⊎◌, Result, Ok, Err, IfOk, IfErr, OnOk}
 use Rattle.std.specs.List.{AllPass, slice_get}
 use Rattle.std.proofs.lemmas.List.{append_assoc, append-nil, length-drop, drop_more, drop_all}
+use Rattle.std.proofs.lemmas.List.Folds.{drop_split}
 use Rattle.std.proofs.lemmas.List.Splits.{slice_split_none, slice_split_at}
 use Rattle.job_list.specs.Bytes.{line_feed, hash}
 use Rattle.job_list.specs.Parts.{is_blank}
@@ -15,7 +16,6 @@ use Rattle.job_list.specs.declared.fault.JobError.{JobError}
 use Rattle.job_list.specs.declared.fault.JobError.TheVariants.{Fault, Memory}
 use Rattle.job_list.specs.Answers.{IsError}
 use Rattle.job_list.specs.Steps.{numbers_of, AddsLine, TakesLine, Left, ListsUpTo, ListedShare}
-use Rattle.job_list.proofs.Ranges.{range_rest}
 
 pub job_blank : (line : List ℕ) (i : ℕ) → i < length line → is_blank (get_or line i 0) ≡ true → is_job (drop i line) ≡ is_job (drop (i + 1) line)
 job_blank line i lt e = ap is_job (drop_more line i 0 lt) ∙ rw e refl
@@ -35,13 +35,13 @@ no_feed c h = by (c == line_feed) h
 pub lines_more : (text : List ℕ) (from end : ℕ) → from ≤ end → end < length text → AllPass (λ c. not (c == line_feed)) (take (end - from) (drop from text)) → get_or text end 0 ≡ line_feed → lines_of (drop from text) ≡ take (end - from) (drop from text) ∷ lines_of (drop (end + 1) text)
 lines_more text from end low lt plain feed =
     let line : List ℕ = take (end - from) (drop from text) in
-    let e : drop from text ≡ line ++ line_feed ∷ drop (end + 1) text = range_rest text from end low ∙ ap (λ t. line ++ t) (drop_more text end 0 lt ∙ ap (λ c. c ∷ drop (end + 1) text) feed) in
+    let e : drop from text ≡ line ++ line_feed ∷ drop (end + 1) text = drop_split text from end low ∙ ap (λ t. line ++ t) (drop_more text end 0 lt ∙ ap (λ c. c ∷ drop (end + 1) text) feed) in
     ap lines_of e ∙ slice_split_at (λ c. c == line_feed) line line_feed (drop (end + 1) text) (λ k d l. no_feed (get_or line k d) (plain k d l)) refl
 
 pub lines_end : (text : List ℕ) (from end : ℕ) → from ≤ end → end ≡ length text → AllPass (λ c. not (c == line_feed)) (take (end - from) (drop from text)) → lines_of (drop from text) ≡ take (end - from) (drop from text) ∷ []
 lines_end text from end low long plain =
     let line : List ℕ = take (end - from) (drop from text) in
-    let e : drop from text ≡ line = range_rest text from end low ∙ ap (λ t. line ++ t) (drop_all end text (omega arith)) ∙ append-nil line in
+    let e : drop from text ≡ line = drop_split text from end low ∙ ap (λ t. line ++ t) (drop_all end text (omega arith)) ∙ append-nil line in
     ap lines_of e ∙ slice_split_none (λ c. c == line_feed) line (λ k d l. no_feed (get_or line k d) (plain k d l))
 
 -- the lines from a place on are this one and others, which begin behind its line feed

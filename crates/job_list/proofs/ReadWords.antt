@@ -1,10 +1,11 @@
 -- What the words of a job are like.
-use Rattle.std.proofs.Common.{◌≡◌, ℕ, suc, ◌+◌, ◌<◌, ◌≤◌, Bool, true, false, List, [], ◌∷◌, ◌++◌, length, take, drop, get_or, Result, Ok, Err, refl, ap, sym, ◌∙◌, subst, ⊎_elim, arith}
+use Rattle.std.proofs.Common.{◌≡◌, ℕ, ◌+◌, ◌<◌, ◌≤◌, Bool, true, false, List, [], ◌∷◌, ◌++◌, length, get_or, Result, Ok, Err, refl, ap, sym, ◌∙◌, subst, ⊎_elim, arith}
 use Rattle.std.specs.Prelude.{not, ◌==◌, ◌||◌, All, IfOk}
 use Rattle.std.specs.List.{flat_map, onto_first}
 use Rattle.std.specs.Str.{IsUtf8}
 use Rattle.std.proofs.lemmas.Bool.{or_cases, eqb-true}
-use Rattle.std.proofs.lemmas.List.{append_assoc, append-nil}
+use Rattle.std.proofs.Math.Seq.{get_or-append_seam, take-append_seam, drop-append-add}
+use Rattle.std.proofs.lemmas.List.{append_assoc, append-nil, length-append}
 use Rattle.std.proofs.lemmas.List.Elements.{All-nil, All-cons, All-head, All-tail}
 use Rattle.std.proofs.lemmas.Str.{IsUtf8-append, IsUtf8-take, IsUtf8-drop, IsCharBoundary-before_ascii, IsCharBoundary-after_ascii}
 use Rattle.job_list.specs.Bytes.{line_feed, single_quote, double_quote, backslash}
@@ -83,31 +84,14 @@ module _ (Q : List ℕ → Type 0) (cut : (xs ys : List ℕ) (c : ℕ) → c < 1
 
 -- ---- UTF-8
 
-get_there : (xs ys : List ℕ) (c : ℕ) → get_or (xs ++ c ∷ ys) (length xs) 0 ≡ c
-get_there [] ys c = refl
-get_there (x ∷ xs) ys c = get_there xs ys c
-
-take_there : (xs ys : List ℕ) → take (length xs) (xs ++ ys) ≡ xs
-take_there [] ys = refl
-take_there (x ∷ xs) ys = ap (λ t. x ∷ t) (take_there xs ys)
-
-drop_there : (xs ys : List ℕ) (c : ℕ) → drop (suc (length xs)) (xs ++ c ∷ ys) ≡ ys
-drop_there [] ys c = refl
-drop_there (x ∷ xs) ys c = drop_there xs ys c
-
-length_there : (xs ys : List ℕ) (c : ℕ) → length xs < length (xs ++ c ∷ ys)
-length_there [] ys c = omega arith
-length_there (x ∷ xs) ys c = let later = length_there xs ys c in omega arith
-
 utf8_cut : (xs ys : List ℕ) (c : ℕ) → c < 128 → IsUtf8 (xs ++ c ∷ ys) → IsUtf8 xs × IsUtf8 ys
 utf8_cut xs ys c low h =
-    let at : ℕ = length xs in
     let text : List ℕ = xs ++ c ∷ ys in
-    let here : get_or text at 0 < 128 = subst (λ x. x < 128) (sym (get_there xs ys c)) low in
-    let within = length_there xs ys c in
-    let next : at + 1 ≡ suc at = omega arith in (
-      subst IsUtf8 (take_there xs (c ∷ ys)) (IsUtf8-take text at h (IsCharBoundary-before_ascii text at within here)),
-      subst IsUtf8 (ap (λ n. drop n text) next ∙ drop_there xs ys c) (IsUtf8-drop text (at + 1) h (IsCharBoundary-after_ascii text at h within here)),
+    let at : ℕ = length xs in
+    let here : get_or text at 0 < 128 = subst (λ x. x < 128) (sym (get_or-append_seam xs c ys 0)) low in
+    let within : at < length text = omega (arith, length-append xs (c ∷ ys)) in (
+      subst IsUtf8 (take-append_seam xs (c ∷ ys)) (IsUtf8-take text at h (IsCharBoundary-before_ascii text at within here)),
+      subst IsUtf8 (drop-append-add xs (c ∷ ys) 1) (IsUtf8-drop text (at + 1) h (IsCharBoundary-after_ascii text at h within here)),
     )
 
 -- ---- bytes

@@ -57,7 +57,10 @@ fn is_printable(word: &[u8]) -> bool
 pub fn are_printable(words: &Words) -> bool
     ensures { IsTrue result ↔ ArePrintable words.now }
 {
-    words.as_slice().iter().all(|word| is_printable(word.as_slice()))
+    words
+        .as_slice()
+        .iter()
+        .all(|word| is_printable(word.as_slice()))
 }
 
 /// A line that reads as these words, of which none may hold a line feed or a zero byte. Of UTF-8 words,
