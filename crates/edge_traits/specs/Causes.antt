@@ -1,7 +1,7 @@
--- When a device may answer a fault.
-use Rattle.std.specs.Prelude.{ℕ, ◌+◌, ◌-◌, ◌^◌, ◌≤◌, min, Result, IsErrOf}
+-- When a device may answer a fault, and when it may want memory.
+use Rattle.std.specs.Prelude.{◌≡◌, ℕ, ◌+◌, ◌-◌, ◌^◌, ◌≤◌, min, Result, IsErrOf, OnOk}
 use Rattle.edge_traits.specs.declared.faults.EdgeFault.{EdgeFault}
-use Rattle.edge_traits.specs.declared.faults.EdgeFault.TheVariants.{Failed}
+use Rattle.edge_traits.specs.declared.faults.EdgeFault.TheVariants.{Failed, Memory}
 
 -- A count rose by at least this number. One that stands at the greatest u64 counts as risen, by any number.
 abbrev pub RoseBy : ℕ → ℕ → ℕ → Type 0
@@ -11,7 +11,24 @@ RoseBy number before now = min (before + number) (2 ^ 64 - 1) ≤ now
 abbrev pub Rose : ℕ → ℕ → Type 0
 Rose before now = RoseBy 1 before now
 
--- The count has not fallen, and `Failed` is answered only where it rose.
+-- a count stands still
+abbrev pub Still : ℕ → ℕ → Type 0
+Still before now = now ≡ before
+
+-- `Failed` is answered only where the count rose. Where anything else is answered, want of memory too, it stands still.
 pub record HasCause {T : Type 0} (before now : ℕ) (result : Result T EdgeFault) : Type 0 where
   pub later : before ≤ now
   pub failed : IsErrOf result Failed → Rose before now
+  pub done : OnOk result (Still before now)
+  pub memory : IsErrOf result Memory → Still before now
+
+-- a count stands still, or rose once: what was being written couldn't be removed
+abbrev pub IsRemoval : ℕ → ℕ → Type 0
+IsRemoval before now = now ≤ before + 1
+
+-- The same of a step of a put. After any fault of it what was being written is removed, and that may fail too.
+pub record HasPutCause {T : Type 0} (before now : ℕ) (result : Result T EdgeFault) : Type 0 where
+  pub later : before ≤ now
+  pub failed : IsErrOf result Failed → Rose before now
+  pub done : OnOk result (Still before now)
+  pub memory : IsErrOf result Memory → IsRemoval before now

@@ -1,12 +1,12 @@
 -- What a keeper of files tells, and what its calls do to it.
-use Rattle.std.specs.Prelude.{◌≡◌, ℕ, List, [], ◌∷◌, Result, Ok, Err, Option, Some, None, IsTrue, ◌<◌, ◌≤◌, length}
+use Rattle.std.specs.Prelude.{◌≡◌, ℕ, List, [], ◌∷◌, Result, Ok, Err, Option, Some, None, IsSome, IsTrue, ◌<◌, ◌≤◌, length}
 use Rattle.std.specs.FinMap.{get}
 use Rattle.edge_traits.specs.declared.entries.Put.{Put}
 use Rattle.edge_traits.specs.declared.entries.Fetch.{Fetch}
 use Rattle.edge_traits.specs.declared.faults.FetchFault.{FetchFault}
 use Rattle.edge_traits.specs.declared.faults.FetchFault.TheVariants.{Failed, Absent, TooMuch, Memory}
 use Rattle.edge_traits.specs.Told.{Told}
-use Rattle.edge_traits.specs.Causes.{Rose}
+use Rattle.edge_traits.specs.Causes.{Rose, Still}
 use Rattle.edge_traits.specs.FileMaps.{Files}
 
 -- a put that was begun: the path, and the bytes so far
@@ -22,6 +22,23 @@ pub record KeeperView : Type 0 where
   pub pending : Option PendingPut
   pub faults : ℕ
   pub overruns : ℕ
+
+-- no put is pending
+abbrev pub IsIdle : KeeperView → Type 0
+IsIdle view = view.pending ≡ None
+
+-- a put is pending
+abbrev pub IsPending : KeeperView → Type 0
+IsPending view = IsSome view.pending
+
+-- The put is of this path, and where its bytes so far are told, they are these.
+abbrev pub IsPutOf : List ℕ → List ℕ → Option PendingPut → Type 0
+IsPutOf path bytes (Some put) = (put.path ≡ path) × (IsTrue put.bytes.known → put.bytes.value ≡ bytes)
+IsPutOf path bytes None = ⊥
+
+-- a put of this path with these bytes so far is pending
+abbrev pub HasPending : KeeperView → List ℕ → List ℕ → Type 0
+HasPending view path bytes = IsPutOf path bytes view.pending
 
 -- the entries that a put adds: one at `Ok`
 abbrev pub put_entries : {T E : Type 0} → List ℕ → List ℕ → Result T E → List Put
@@ -50,12 +67,17 @@ pub record IsTooLong (path : List ℕ) (bound : ℕ) (old now : KeeperView) (byt
   pub above : bound < bytes
   pub long : IsTrue now.files.known → HasLength now.files.value path bytes
 
+-- neither the faults nor the overruns rose
+pub record NoneRose (old new : KeeperView) : Type 0 where
+  pub faults : Still old.faults new.faults
+  pub overruns : Still old.overruns new.overruns
+
 -- when a fetch that came to nothing may answer so
 abbrev pub FetchCause : List ℕ → ℕ → KeeperView → KeeperView → FetchFault → Type 0
 FetchCause path bound old now Failed = Rose old.faults now.faults
 FetchCause path bound old now Absent = IsAbsent path old now
 FetchCause path bound old now (TooMuch bytes) = IsTooLong path bound old now bytes
-FetchCause path bound old now Memory = Unit {0}
+FetchCause path bound old now Memory = NoneRose old now
 
 -- the entries that a fetch adds: one at `Ok`
 abbrev pub fetch_entries : {E : Type 0} → List ℕ → Result (List ℕ) E → List Fetch

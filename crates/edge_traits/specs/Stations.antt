@@ -1,7 +1,9 @@
 -- What a station tells, and what a run does to it.
-use Rattle.std.specs.Prelude.{ℕ, ◌<◌, ◌≤◌, List, [], ◌∷◌, length, Result, Ok, Err}
+use Rattle.std.specs.Prelude.{ℕ, ◌<◌, ◌≤◌, Bool, true, false, List, [], ◌∷◌, length, Result, Ok, Err}
+use Rattle.std.specs.List.{list_any}
 use Rattle.farm_types.specs.declared.ran.Ran.{Ran}
 use Rattle.farm_types.specs.declared.placed.Word.{Word}
+use Rattle.farm_types.specs.declared.placed.Word.TheVariants.{Text, Input, Output}
 use Rattle.edge_traits.specs.declared.faults.Bounds.{Bounds}
 use Rattle.edge_traits.specs.declared.faults.Stream.{Stream}
 use Rattle.edge_traits.specs.declared.faults.Stream.TheVariants.{Out, Err as ErrStream, Object}
@@ -9,7 +11,7 @@ use Rattle.edge_traits.specs.declared.faults.StationFault.{StationFault}
 use Rattle.edge_traits.specs.declared.faults.StationFault.TheVariants.{Failed, TooMuch, Memory}
 use Rattle.edge_traits.specs.declared.entries.Run.{Run}
 use Rattle.edge_traits.specs.Told.{Told}
-use Rattle.edge_traits.specs.Causes.{Rose}
+use Rattle.edge_traits.specs.Causes.{Rose, Still}
 
 -- what a station shows
 pub record StationView : Type 0 where
@@ -22,6 +24,15 @@ abbrev pub run_entries : {E : Type 0} → List Word → List ℕ → Result Ran 
 run_entries words input (Ok ran) = record { words = words; input = input; ran = ran } ∷ []
 run_entries words input (Err fault) = []
 
+abbrev pub is_output : Word → Bool
+is_output (Text bytes) = false
+is_output (Input ext) = false
+is_output Output = true
+
+-- one of the words stands for the object
+abbrev pub has_output : List Word → Bool
+has_output words = list_any is_output words
+
 -- each stream is within its bound
 pub record IsWithin (bounds : Bounds) (ran : Ran) : Type 0 where
   pub out : length ran.out ≤ bounds.out
@@ -33,8 +44,13 @@ bound_of bounds Out = bounds.out
 bound_of bounds ErrStream = bounds.err
 bound_of bounds Object = bounds.object
 
+-- neither the faults nor the overruns rose
+pub record NoneRose (old new : StationView) : Type 0 where
+  pub faults : Still old.faults new.faults
+  pub overruns : Still old.overruns new.overruns
+
 -- when a run that came to nothing may answer so
 abbrev pub RunFault : Bounds → StationView → StationView → StationFault → Type 0
 RunFault bounds old new Failed = Rose old.faults new.faults
 RunFault bounds old new (TooMuch stream bytes) = Rose old.overruns new.overruns × (bound_of bounds stream < bytes)
-RunFault bounds old new Memory = Unit {0}
+RunFault bounds old new Memory = NoneRose old new

@@ -35,4 +35,4 @@ pub use link::Link;
 pub use sink::Sink;
 pub use source::Source;
 pub use staged::is_staged;
-pub use station::Station;
+pub use station::{Station, has_output};

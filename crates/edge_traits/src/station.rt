@@ -1,8 +1,8 @@
-ghost use Rattle.std.specs.Prelude.{◌≡◌, ℕ, ◌<◌, ◌≤◌, List, length, IfOk, IfErr};
+ghost use Rattle.std.specs.Prelude.{◌≡◌, ℕ, ◌≤◌, List, [], false, IfOk, IfErr, OnOk};
 ghost use Rattle.farm_types.specs.declared.ran.Ran.{Ran};
 ghost use Rattle.farm_types.specs.declared.placed.Word.{Word};
 ghost use Rattle.edge_traits.specs.Told.{Grew, SameRelation3};
-ghost use Rattle.edge_traits.specs.Stations.{StationView, IsWithin, run_entries, RunFault};
+ghost use Rattle.edge_traits.specs.Stations.{StationView, IsWithin, has_output, run_entries, NoneRose, RunFault};
 
 use crate::{Bounds, StationFault};
 use farm_types::{Ran, Word};
@@ -16,6 +16,7 @@ pub trait Station {
     /// A program run by these words on this input may leave this.
     ghost ran: { Self → List Word → List ℕ → Ran → Type 0 };
 
+    /// Runs the program that the first word names. The object is empty where no word stands for it.
     fn run(
         &mut self,
         alloc: Global,
@@ -23,12 +24,25 @@ pub trait Station {
         input: &[u8],
         bounds: &Bounds,
     ) -> Result<Ran, StationFault>
-        requires { 0 < length words.now }
         ensures within { IfOk result (IsWithin bounds.now) }
         ensures ran { IfOk result (ran self.new words.now input.now) }
+        ensures no_object { IfOk result (λ ran. has_output words.now ≡ false → ran.object ≡ []) }
         ensures same { SameRelation3 (ran self.old) (ran self.new) }
         ensures runs { Grew (shows self.old).runs (shows self.new).runs (run_entries words.now input.now result) }
         ensures faults { (shows self.old).faults ≤ (shows self.new).faults }
         ensures overruns { (shows self.old).overruns ≤ (shows self.new).overruns }
+        ensures done { OnOk result (NoneRose (shows self.old) (shows self.new)) }
         ensures cause { IfErr result (RunFault bounds.now (shows self.old) (shows self.new)) };
+}
+
+/// Whether one of the words stands for the object. It takes no memory.
+pub fn has_output(words: &[Word]) -> bool
+    ensures { result ≡ has_output words.now }
+{
+    for word in words {
+        if matches!(word, Word::Output) {
+            return true;
+        }
+    }
+    false
 }
