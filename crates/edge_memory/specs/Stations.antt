@@ -1,5 +1,5 @@
 -- What a station whose runs are scripted is in, and what a run does to it.
-use Rattle.std.specs.Prelude.{◌≡◌, ℕ, List, ◌++◌, length, drop, true, false, nat_lt, Option, Some, None, Result, Ok, Err, if◌then◌else◌}
+use Rattle.std.specs.Prelude.{◌≡◌, ℕ, List, [], ◌++◌, length, drop, true, false, nat_lt, Option, Some, None, Result, Ok, Err, if◌then◌else◌}
 use Rattle.farm_types.specs.declared.ran.Ran.{Ran}
 use Rattle.farm_types.specs.declared.placed.Word.{Word}
 use Rattle.farm_types.specs.Rans.{nothing_ran}
@@ -10,7 +10,7 @@ use Rattle.edge_traits.specs.declared.faults.Stream.TheVariants.{Out, Err as Err
 use Rattle.edge_traits.specs.declared.faults.StationFault.{StationFault}
 use Rattle.edge_traits.specs.declared.faults.StationFault.TheVariants.{Failed, TooMuch, Memory}
 use Rattle.edge_traits.specs.Told.{told}
-use Rattle.edge_traits.specs.Stations.{StationView, run_entries}
+use Rattle.edge_traits.specs.Stations.{StationView, has_output, run_entries}
 use Rattle.edge_memory.specs.declared.station.MemStation.{MemStation}
 use Rattle.edge_traits.specs.Calls.{names_next, one_more, failed_calls}
 use Rattle.edge_memory.specs.Scripts.{first_or}
@@ -30,9 +30,13 @@ station_state station = record { rans = station.rans.items; fails = station.call
 abbrev pub station_shows : StationState → StationView
 station_shows station = record { runs = told station.runs; faults = failed_calls station.fails station.made; overruns = station.overruns }
 
+-- the run as these words leave it: with no object where no word stands for it
+abbrev pub as_left : List Word → Ran → Ran
+as_left words ran = if has_output words then ran else record ran { object = [] }
+
 -- the run that is next, which is one of status 0 with nothing in it where the script is used up
-abbrev pub next_ran : StationState → Ran
-next_ran station = first_or nothing_ran station.rans
+abbrev pub next_ran : StationState → List Word → Ran
+next_ran station words = as_left words (first_or nothing_ran station.rans)
 
 -- the first stream that is above its bound, with its length
 abbrev pub first_over : Bounds → Ran → Option (Stream × ℕ)
@@ -43,11 +47,11 @@ first_over bounds ran =
     else None
 
 -- The next run may answer this. The script alone decides which runs fail and which are above a bound; of the others one may want memory.
-abbrev pub IsRunAnswer : StationState → Bounds → Result Ran StationFault → Type 0
-IsRunAnswer station bounds (Ok ran) = (names_next station.fails station.made ≡ false) × (first_over bounds (next_ran station) ≡ None) × (ran ≡ next_ran station)
-IsRunAnswer station bounds (Err Failed) = names_next station.fails station.made ≡ true
-IsRunAnswer station bounds (Err (TooMuch stream bytes)) = (names_next station.fails station.made ≡ false) × (first_over bounds (next_ran station) ≡ Some (stream, bytes))
-IsRunAnswer station bounds (Err Memory) = (names_next station.fails station.made ≡ false) × (first_over bounds (next_ran station) ≡ None)
+abbrev pub IsRunAnswer : StationState → List Word → Bounds → Result Ran StationFault → Type 0
+IsRunAnswer station words bounds (Ok ran) = (names_next station.fails station.made ≡ false) × (first_over bounds (next_ran station words) ≡ None) × (ran ≡ next_ran station words)
+IsRunAnswer station words bounds (Err Failed) = names_next station.fails station.made ≡ true
+IsRunAnswer station words bounds (Err (TooMuch stream bytes)) = (names_next station.fails station.made ≡ false) × (first_over bounds (next_ran station words) ≡ Some (stream, bytes))
+IsRunAnswer station words bounds (Err Memory) = (names_next station.fails station.made ≡ false) × (first_over bounds (next_ran station words) ≡ None)
 
 -- the script after a run: one that was given or was above its bound is used up
 abbrev pub rans_after : List Ran → Result Ran StationFault → List Ran

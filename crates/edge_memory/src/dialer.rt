@@ -30,6 +30,13 @@ impl MemDialer {
             exchanges: Trail::new(),
         }
     }
+
+    /// The exchanges so far, in order. It takes no memory.
+    pub fn into_exchanges(self) -> Trail<Exchange>
+        ensures { result ≡ (dialer_state self).exchanges }
+    {
+        self.exchanges
+    }
 }
 
 /// The entry of a dial that failed.
@@ -71,10 +78,9 @@ impl Dialer for MemDialer {
         ensures state { dialer_state self.new ≡ after_dial (dialer_state self.old) host.now port result }
         ensures cause { HasCause (dialer_shows (dialer_state self.old)).faults (dialer_shows (dialer_state self.new)).faults result }
     {
-        let fails = self.calls.fails_next();
         let room = Room::new(alloc)?;
         let host = host.copy()?;
-        if fails {
+        if self.calls.fails_next() {
             self.exchanges.add(room, undialed(alloc, host, port));
             return Err(EdgeFault::Failed);
         }

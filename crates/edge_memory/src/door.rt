@@ -34,6 +34,13 @@ impl MemDoor {
             visits: Trail::new(),
         }
     }
+
+    /// The visits that ended, in order. It takes no memory.
+    pub fn into_visits(self) -> Trail<Visit>
+        ensures { result ≡ (door_state self).visits }
+    {
+        self.visits
+    }
 }
 
 impl Door for MemDoor {

@@ -103,6 +103,13 @@ impl MemLink {
         }
     }
 
+    /// The bytes that were sent over it. It takes no memory.
+    pub fn into_sent(self) -> Bytes
+        ensures { result ≡ (link_state self).sent }
+    {
+        self.sent
+    }
+
     /// The entry of a dialer's link at its end, and the room for it.
     pub(crate) fn into_exchange(self) -> (Exchange, Option<Room<Exchange>>)
         ensures entry { result.0 ≡ hung (link_shows (link_state self)) }

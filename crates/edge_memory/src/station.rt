@@ -1,10 +1,12 @@
 ghost use Rattle.std.specs.Prelude.{◌≡◌, IfOk};
 ghost use Rattle.farm_types.specs.Rans.{nothing_ran};
 ghost use Rattle.edge_memory.specs.Scripts.{first_or};
-ghost use Rattle.edge_memory.specs.Stations.{first_over};
+ghost use Rattle.edge_memory.specs.Stations.{as_left, first_over};
 
 use crate::front::take_first_or;
-use edge_traits::{Bounds, CallNumbers, Calls, Run, Station, StationFault, Stream, raised};
+use edge_traits::{
+    Bounds, CallNumbers, Calls, Run, Station, StationFault, Stream, has_output, raised,
+};
 use farm_types::{Bytes, Items, PlacedWords, Ran, Room, Trail, Word};
 use std::alloc::{AllocError, Global};
 
@@ -35,6 +37,13 @@ impl MemStation {
             runs: Trail::new(),
         }
     }
+
+    /// The runs that went well, in order. It takes no memory.
+    pub fn into_runs(self) -> Trail<Run>
+        ensures { result ≡ (station_state self).runs }
+    {
+        self.runs
+    }
 }
 
 /// A copy of the first run, or of one with nothing in it.
@@ -47,11 +56,26 @@ fn copy_first(alloc: Global, rans: &[Ran]) -> Result<Ran, AllocError>
     }
 }
 
-/// The first stream that is above its bound, with its length.
-fn first_over(ran: &Ran, bounds: &Bounds) -> Option<(Stream, u64)>
-    ensures { result ≡ first_over bounds.now ran.now }
+/// The run as these words leave it: with no object where no word stands for it.
+fn as_left(alloc: Global, words: &[Word], mut ran: Ran) -> Ran
+    ensures { result ≡ as_left words.now ran }
 {
-    let (out, err, object) = (ran.out.len(), ran.err.len(), ran.object.len());
+    if !has_output(words) {
+        ran.object = Bytes::new(alloc);
+    }
+    ran
+}
+
+/// The first stream of a run that is above its bound, as these words leave it, with its length.
+fn first_over(ran: &Ran, words: &[Word], bounds: &Bounds) -> Option<(Stream, u64)>
+    ensures { result ≡ first_over bounds.now (as_left words.now ran.now) }
+{
+    let (out, err) = (ran.out.len(), ran.err.len());
+    let object = if has_output(words) {
+        ran.object.len()
+    } else {
+        0
+    };
     if out > bounds.out as usize {
         return Some((Stream::Out, out as u64));
     }
@@ -65,18 +89,23 @@ fn first_over(ran: &Ran, bounds: &Bounds) -> Option<(Stream, u64)>
 }
 
 /// The same of the first of some runs, or of one with nothing in it.
-fn first_ran_over(alloc: Global, rans: &[Ran], bounds: &Bounds) -> Option<(Stream, u64)>
-    ensures { result ≡ first_over bounds.now (first_or nothing_ran rans.now) }
+fn first_ran_over(
+    alloc: Global,
+    rans: &[Ran],
+    words: &[Word],
+    bounds: &Bounds,
+) -> Option<(Stream, u64)>
+    ensures { result ≡ first_over bounds.now (as_left words.now (first_or nothing_ran rans.now)) }
 {
     match rans {
-        [] => first_over(&Ran::nothing(alloc), bounds),
-        [ran, ..] => first_over(ran, bounds),
+        [] => first_over(&Ran::nothing(alloc), words, bounds),
+        [ran, ..] => first_over(ran, words, bounds),
     }
 }
 
 impl Station for MemStation {
-    ghost use Rattle.std.specs.Prelude.{◌≡◌, ◌<◌, ◌≤◌, ⊤, length, IfOk, IfErr};
-    ghost use Rattle.edge_traits.specs.Stations.{IsWithin, RunFault};
+    ghost use Rattle.std.specs.Prelude.{◌≡◌, ◌≤◌, ⊤, [], false, IfOk, IfErr, OnOk};
+    ghost use Rattle.edge_traits.specs.Stations.{IsWithin, NoneRose, RunFault, has_output};
     ghost use Rattle.edge_memory.specs.Stations.{station_state, station_shows, IsRunAnswer, after_run};
 
     ghost shows = { λ s. station_shows (station_state s) };
@@ -91,17 +120,18 @@ impl Station for MemStation {
         input: &[u8],
         bounds: &Bounds,
     ) -> Result<Ran, StationFault>
-        requires { 0 < length words.now }
-        ensures answer { IsRunAnswer (station_state self.old) bounds.now result }
+        ensures answer { IsRunAnswer (station_state self.old) words.now bounds.now result }
         ensures state { station_state self.new ≡ after_run (station_state self.old) words.now input.now result }
         ensures within { IfOk result (IsWithin bounds.now) }
+        ensures no_object { IfOk result (λ ran. has_output words.now ≡ false → ran.object ≡ []) }
         ensures faults { (station_shows (station_state self.old)).faults ≤ (station_shows (station_state self.new)).faults }
+        ensures done { OnOk result (NoneRose (station_shows (station_state self.old)) (station_shows (station_state self.new))) }
         ensures cause { IfErr result (RunFault bounds.now (station_shows (station_state self.old)) (station_shows (station_state self.new))) }
     {
         if self.calls.fails_next() {
             return Err(StationFault::Failed);
         }
-        if let Some((stream, bytes)) = first_ran_over(alloc, self.rans.as_slice(), bounds) {
+        if let Some((stream, bytes)) = first_ran_over(alloc, self.rans.as_slice(), words, bounds) {
             self.overruns = raised(self.overruns);
             let _used = take_first_or(&mut self.rans, Ran::nothing(alloc));
             return Err(StationFault::TooMuch { stream, bytes });
@@ -110,10 +140,10 @@ impl Station for MemStation {
         let entry = Run {
             words: PlacedWords::from_slice(alloc, words)?,
             input: Bytes::from_slice(alloc, input)?,
-            ran: copy_first(alloc, self.rans.as_slice())?,
+            ran: as_left(alloc, words, copy_first(alloc, self.rans.as_slice())?),
         };
         let answer = take_first_or(&mut self.rans, Ran::nothing(alloc));
         self.runs.add(room, entry);
-        Ok(answer)
+        Ok(as_left(alloc, words, answer))
     }
 }

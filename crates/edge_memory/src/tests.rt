@@ -6,7 +6,7 @@ use edge_traits::{
     Bounds, CallNumbers, Clock, Dialer, Door, EdgeFault, FetchFault, FileList, Keeper, Link, Sink,
     Source, Station, StationFault, Stream, is_staged,
 };
-use farm_types::{Bytes, HostName, Ran, Word};
+use farm_types::{Bytes, Ext, HostName, Ran, Word};
 use std::alloc::{AllocError, Global};
 use std::test::Fail;
 
@@ -62,18 +62,24 @@ fn links_follow_their_scripts(rt: HostRuntime) -> Result<(), Fail> {
         assert_eq!(rt; play(&mut link, &step), want);
         assert_eq!(rt; play(&mut never, &step), never_wants);
     }
+    assert_eq!(rt; link.into_sent().as_slice(), b"hell".as_slice());
     Ok(())
 }
 
-fn dial_once<D: Dialer>(alloc: Global, dialer: &mut D, host: &HostName) -> Result<(), EdgeFault> {
-    let link = dialer.dial(alloc, host, 3632)?;
+// Sends five bytes over a new link, and answers how many were taken.
+fn dial_once(alloc: Global, dialer: &mut MemDialer, host: &HostName) -> Result<usize, EdgeFault> {
+    let mut link = dialer.dial(alloc, host, 3632)?;
+    let sent = link.send(b"hello");
     dialer.hang_up(link);
-    Ok(())
+    sent
 }
 
-fn accept_once<A: Door>(alloc: Global, door: &mut A) -> Result<u32, EdgeFault> {
-    let (link, peer) = door.accept(alloc)?;
+// Receives at most three bytes over a new link, and answers whose it is.
+fn accept_once(alloc: Global, door: &mut MemDoor) -> Result<u32, EdgeFault> {
+    let (mut link, peer) = door.accept(alloc)?;
+    let given = link.recv(&mut [0; 3]);
     door.leave(link);
+    given?;
     Ok(peer)
 }
 
@@ -85,16 +91,31 @@ fn dials_and_accepts(rt: HostRuntime) -> Result<(), Fail> {
     let host = HostName {
         text: Bytes::from_slice(rt.alloc(), b"red")?,
     };
-    for want in [Ok(()), Err(EdgeFault::Failed), Ok(())] {
+    for want in [Ok(4), Err(EdgeFault::Failed), Ok(5)] {
         assert_eq!(rt; dial_once(rt.alloc(), &mut dialer, &host), want);
+    }
+    let exchanges = dialer.into_exchanges().into_items(rt.alloc())?;
+    for (at, sent) in [b"hell".as_slice(), b"", b"hello"].into_iter().enumerate() {
+        assert_eq!(rt;
+            exchanges.get(at).map(|exchange| exchange.sent.as_slice()),
+            Some(sent)
+        );
     }
 
     let mut peers = Peers::new(rt.alloc());
     peers.try_push(7)?;
-    let links = LinkScripts::new(rt.alloc());
+    let mut links = LinkScripts::new(rt.alloc());
+    links.try_push(script(rt.alloc())?)?;
     let mut door = MemDoor::new(rt.alloc(), links, peers, numbers(rt.alloc(), &[2])?);
     for want in [Ok(7), Err(EdgeFault::Failed), Ok(0)] {
         assert_eq!(rt; accept_once(rt.alloc(), &mut door), want);
+    }
+    let visits = door.into_visits().into_items(rt.alloc())?;
+    for (at, given) in [b"abc".as_slice(), b""].into_iter().enumerate() {
+        assert_eq!(rt;
+            visits.get(at).map(|visit| visit.given.as_slice()),
+            Some(given)
+        );
     }
     Ok(())
 }
@@ -134,6 +155,45 @@ fn stations_give_their_runs(rt: HostRuntime) -> Result<(), Fail> {
     ] {
         assert_eq!(rt; status_of(rt.alloc(), &mut station, out), want);
     }
+    let runs = station.into_runs().into_items(rt.alloc())?;
+    for (at, status) in [256, 0].into_iter().enumerate() {
+        assert_eq!(rt; runs.get(at).map(|run| run.ran.status), Some(status));
+    }
+    Ok(())
+}
+
+fn object_of<S: Station>(
+    alloc: Global,
+    station: &mut S,
+    words: &[Word],
+) -> Result<Bytes, StationFault> {
+    let bounds = Bounds {
+        out: 0,
+        err: 0,
+        object: 3,
+    };
+    let ran = station.run(alloc, words, b"", &bounds)?;
+    Ok(ran.object)
+}
+
+#[test]
+fn an_object_has_its_word(rt: HostRuntime) -> Result<(), Fail> {
+    let mut rans = RanList::new(rt.alloc());
+    for _ in 0..2 {
+        let mut ran = Ran::nothing(rt.alloc());
+        ran.object.try_extend(b"obj")?;
+        rans.try_push(ran)?;
+    }
+    let mut station = MemStation::new(rans, numbers(rt.alloc(), &[])?);
+    for (words, object) in [
+        ([Word::Output].as_slice(), b"obj".as_slice()),
+        ([Word::Input(Ext::I)].as_slice(), b""),
+    ] {
+        assert_eq!(rt;
+            object_of(rt.alloc(), &mut station, words)?.as_slice(),
+            object
+        );
+    }
     Ok(())
 }
 
@@ -143,7 +203,7 @@ fn put_file<K: Keeper>(
     path: &Bytes,
     bytes: &[u8],
 ) -> Result<(), EdgeFault> {
-    if is_staged(path.as_slice()) {
+    if keeper.is_pending() || is_staged(path.as_slice()) {
         return Ok(());
     }
     keeper.put(alloc, path, bytes)
@@ -155,7 +215,7 @@ fn fetched_len<K: Keeper>(
     path: &Bytes,
     bound: u32,
 ) -> Result<usize, FetchFault> {
-    if is_staged(path.as_slice()) {
+    if keeper.is_pending() || is_staged(path.as_slice()) {
         return Ok(0);
     }
     let bytes = keeper.fetch(alloc, path, bound)?;
@@ -169,7 +229,7 @@ fn keepers_keep_files(rt: HostRuntime) -> Result<(), Fail> {
     let other = Bytes::from_slice(alloc, b"y.o")?;
     let mut files = FileList::new(alloc);
     files.try_put(path.copy()?, Bytes::from_slice(alloc, b"old")?)?;
-    let mut keeper = MemKeeper::new(files, numbers(alloc, &[2])?);
+    let mut keeper = MemKeeper::new(files, numbers(alloc, &[4])?);
     for (bytes, want) in [
         (b"new!".as_slice(), Ok(())),
         (b"".as_slice(), Err(EdgeFault::Failed)),
@@ -182,6 +242,10 @@ fn keepers_keep_files(rt: HostRuntime) -> Result<(), Fail> {
         (&other, 4, Err(FetchFault::Absent)),
     ] {
         assert_eq!(rt; fetched_len(alloc, &mut keeper, name, bound), want);
+    }
+    let puts = keeper.into_puts().into_items(alloc)?;
+    for (at, bytes) in [Some(b"new!".as_slice()), None].into_iter().enumerate() {
+        assert_eq!(rt; puts.get(at).map(|put| put.bytes.as_slice()), bytes);
     }
     Ok(())
 }

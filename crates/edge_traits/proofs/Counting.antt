@@ -41,7 +41,15 @@ failed_rises fails made named = rises fails made (nat_lt made greatest) named
 pub failed_stays : (fails : List ℕ) (made : ℕ) → failed_calls fails made ≤ failed_calls fails (one_more made)
 failed_stays fails made = stays fails made (nat_lt made greatest)
 
-pub ruleset causes = (failed_rises, failed_stays)
+same : (fails : List ℕ) (made : ℕ) (below : Bool) → below && is_in (made + 1) fails ≡ false → failed_calls fails (if below then made + 1 else made) ≡ failed_calls fails made
+same fails made true unnamed = rw (failed_more, unnamed) (omega arith)
+same fails made false unnamed = refl
+
+-- a call that is none of those that fail leaves their number as it is
+pub failed_same : (fails : List ℕ) (made : ℕ) → names_next fails made ≡ false → failed_calls fails (one_more made) ≡ failed_calls fails made
+failed_same fails made unnamed = same fails made (nat_lt made greatest) unnamed
+
+pub ruleset causes = (failed_rises, failed_stays, failed_same)
 
 pub ruleset counting = (failed_within, one_failed, none_failed)
 

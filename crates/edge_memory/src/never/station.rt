@@ -28,9 +28,9 @@ impl MemNeverStation {
 }
 
 impl Station for MemNeverStation {
-    ghost use Rattle.std.specs.Prelude.{◌≡◌, ◌<◌, ⊤, length, IfOk, IfErr, IsErrOf};
+    ghost use Rattle.std.specs.Prelude.{◌≡◌, ⊤, [], false, IfOk, IfErr, IsErrOf};
     ghost use Rattle.edge_traits.specs.declared.faults.StationFault.TheVariants.{Failed};
-    ghost use Rattle.edge_traits.specs.Stations.{IsWithin, RunFault};
+    ghost use Rattle.edge_traits.specs.Stations.{IsWithin, RunFault, has_output};
     ghost use Rattle.edge_memory.specs.Stations.{IsRunAnswer, after_run};
     ghost use Rattle.edge_memory.specs.Nevers.{never_station_state, never_station_shows};
 
@@ -46,11 +46,11 @@ impl Station for MemNeverStation {
         input: &[u8],
         bounds: &Bounds,
     ) -> Result<Ran, StationFault>
-        requires { 0 < length words.now }
-        ensures answer { IsRunAnswer (never_station_state self.old) bounds.now result }
+        ensures answer { IsRunAnswer (never_station_state self.old) words.now bounds.now result }
         ensures never { ¬ (IsErrOf result Failed) }
         ensures state { never_station_state self.new ≡ after_run (never_station_state self.old) words.now input.now result }
         ensures within { IfOk result (IsWithin bounds.now) }
+        ensures no_object { IfOk result (λ ran. has_output words.now ≡ false → ran.object ≡ []) }
         ensures cause { IfErr result (RunFault bounds.now (never_station_shows (never_station_state self.old)) (never_station_shows (never_station_state self.new))) }
     {
         self.inner.run(alloc, words, input, bounds)
