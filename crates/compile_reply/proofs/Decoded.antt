@@ -8,7 +8,7 @@ use Rattle.wire_tokens.proofs.Readings.{whole, front_len, fields_len}
 use Rattle.wire_tokens.proofs.Texts.{reads-begins}
 use Rattle.wire_tokens.proofs.Reply.{four_reply, reply_fields, reply_spelling}
 use Rattle.wire_tokens.proofs.Progress.{start, progress-reads, next_field, Answers}
-use Rattle.compile_reply.specs.declared.decoding.Part.TheVariants.{Done, Stat, Serr, Sout, Doto}
+use Rattle.compile_reply.specs.declared.part.Part.TheVariants.{Done, Stat, Serr, Sout, Doto}
 use Rattle.compile_reply.specs.Decoding.{due_of, reply_of}
 
 abbrev pub Good : List ℕ → Outcome × ℕ → Type 0

@@ -5,26 +5,33 @@ use Rattle.wire_tokens.specs.declared.faults.ReplyFault.{ReplyFault}
 use Rattle.wire_tokens.specs.Format.{Field, Due}
 use Rattle.wire_tokens.specs.Step.{Stop as Stopped, too_short, wrong, next_of, ◌>>=◌}
 use Rattle.wire_tokens.specs.Reply.{version_fault, err_fault, out_fault, object_fault, reply_format, BeginsReply, IsShortReply, ReplyFaultStands}
-use Rattle.compile_reply.specs.declared.decoding.Part.{Part}
-use Rattle.compile_reply.specs.declared.decoding.Part.TheVariants.{Done, Stat, Serr, Sout, Doto}
+use Rattle.compile_reply.specs.declared.part.Part.{Part}
+use Rattle.compile_reply.specs.declared.part.Part.TheVariants.{Done, Stat, Serr, Sout, Doto}
+use Rattle.compile_reply.specs.declared.decoding.Parts.{Parts}
 use Rattle.compile_reply.specs.declared.decoding.Stop.{Stop}
 use Rattle.compile_reply.specs.declared.decoding.Stop.TheVariants as stops
 use Rattle.compile_reply.specs.declared.decoding.Reply.{Reply}
 use Rattle.compile_reply.specs.declared.decoding.Reply.TheVariants as answers
 
--- What a text is, where memory doesn't run out.
+-- the text begins with a whole reply
+pub record HoldsReply (text : List ℕ) : Type 0 where
+  pub used : ℕ
+  pub outcome : Outcome
+  pub begins : BeginsReply text used outcome
+
+-- What a text is. Only one that begins with a whole reply may want memory.
 abbrev pub Says : List ℕ → Reply → Type 0
 Says text (answers.Whole outcome used) = BeginsReply text used outcome
 Says text answers.Short = IsShortReply text
 Says text (answers.Bad at fault) = ReplyFaultStands text at fault
-Says text answers.Memory = Unit {0}
+Says text answers.Memory = HoldsReply text
 
--- The answer is this one, unless memory ran out.
-abbrev pub IsUnlessMemory : Reply → Reply → Type 0
-IsUnlessMemory (answers.Whole outcome used) answer = answers.Whole outcome used ≡ answer
-IsUnlessMemory answers.Short answer = answers.Short ≡ answer
-IsUnlessMemory (answers.Bad at fault) answer = answers.Bad at fault ≡ answer
-IsUnlessMemory answers.Memory answer = Unit {0}
+-- The answer is this outcome with so many bytes, unless memory ran out.
+abbrev pub IsWholeUnlessMemory : Outcome → ℕ → Reply → Type 0
+IsWholeUnlessMemory outcome used (answers.Whole o n) = (o ≡ outcome) × (n ≡ used)
+IsWholeUnlessMemory outcome used answers.Short = ⊥
+IsWholeUnlessMemory outcome used (answers.Bad at fault) = ⊥
+IsWholeUnlessMemory outcome used answers.Memory = Unit {0}
 
 -- the token that is due at a part
 abbrev pub due_of : Part → Due ReplyFault
@@ -34,11 +41,14 @@ due_of Serr = record { name = codes "SERR"; has_body = true; refused = err_fault
 due_of Sout = record { name = codes "SOUT"; has_body = true; refused = out_fault }
 due_of (Doto status) = record { name = codes "DOTO"; has_body = true; refused = object_fault status }
 
--- What a function returned, seen by view, is what reading gives, unless memory ran out.
+-- What a function returned, seen by view, is what reading gives.
 abbrev pub Fails : {Y : Type 0} → Stop → Result Y (Stopped ReplyFault) → Type 0
-Fails stops.Memory read = Unit {0}
 Fails stops.Short read = read ≡ Err too_short
 Fails (stops.Bad at fault) read = read ≡ Err (wrong at fault)
+
+abbrev pub stop_reply : Stop → Reply
+stop_reply stops.Short = answers.Short
+stop_reply (stops.Bad at fault) = answers.Bad at fault
 
 abbrev pub Gives : {X Y : Type 0} → (X → Y) → Result X Stop → Result Y (Stopped ReplyFault) → Type 0
 Gives view (Ok x) read = read ≡ Ok (view x)
@@ -46,6 +56,10 @@ Gives view (Err e) read = Fails e read
 
 abbrev pub field_of : ℕ → List ℕ → Field
 field_of n bytes = record { number = n; body = bytes }
+
+-- the outcome of these parts, and how many bytes they are
+abbrev pub outcome_in : Parts → Outcome × ℕ
+outcome_in parts = (record { status = parts.status; err = parts.err.now; out = parts.out.now; object = parts.object.now }, parts.used)
 
 -- the outcome at the front of a text, and how many bytes spell it
 unfoldable pub reply_of : List ℕ → Result (Outcome × ℕ) (Stopped ReplyFault)

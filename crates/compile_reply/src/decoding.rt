@@ -1,17 +1,16 @@
 //! Reading a reply.
 
 ghost use Rattle.std.specs.Prelude.{◌≡◌, ◌≤◌, ◌+◌, ℕ, length, IfOk};
-ghost use Rattle.wire_tokens.specs.Format;
 ghost use Rattle.farm_types.specs.declared.ran.Outcome.{Outcome};
 ghost use Rattle.wire_tokens.specs.declared.faults.ReplyFault.{ReplyFault};
 ghost use Rattle.wire_tokens.specs.Reply.{reply_format, BeginsReply, IsShortReply, ReplyFaultStands};
 ghost use Rattle.wire_tokens.specs.Step.{next_of};
-ghost use Rattle.compile_reply.specs.Decoding.{due_of, Gives, field_of, reply_of, Says, IsUnlessMemory};
+ghost use Rattle.compile_reply.specs.Decoding.{due_of, Gives, field_of, outcome_in, stop_reply, reply_of, Says, IsWholeUnlessMemory};
 
-use farm_types::limits::{MESSAGES_MAX, OBJECT_MAX};
+use crate::part::{Part, body_len, name_of, refusal};
 use farm_types::{Bytes, Outcome};
 use std::alloc::{AllocError, Global};
-use wire_tokens::{DONE, DOTO, Name4, ReplyFault, SERR, SOUT, STAT, Scan, Which, scan_token};
+use wire_tokens::{ReplyFault, Scan, scan_token};
 
 /// What a text of a reply is.
 #[derive(Debug, Drop)]
@@ -22,7 +21,7 @@ pub enum Reply {
     Short,
     /// This fault stands in it, at this place; places count its bytes from 0.
     Bad { at: u64, fault: ReplyFault },
-    /// Memory ran out.
+    /// It begins with a whole reply, and memory ran out.
     Memory,
 }
 
@@ -31,71 +30,16 @@ pub enum Reply {
 pub enum Stop {
     Short,
     Bad { at: u64, fault: ReplyFault },
-    Memory,
 }
 
-/// The token that is due.
-#[derive(Clone, Copy, Debug)]
-pub enum Part {
-    Done,
-    Stat,
-    Serr,
-    Sout,
-    Doto { status: u32 },
-}
-
-fn name_of(part: Part) -> Name4
-    ensures { result.0 ≡ (due_of part).name }
-{
-    match part {
-        Part::Done => DONE,
-        Part::Stat => STAT,
-        Part::Serr => SERR,
-        Part::Sout => SOUT,
-        Part::Doto { .. } => DOTO,
-    }
-}
-
-// How many bytes follow a token of this number.
-fn body_len(part: Part, n: u32) -> usize
-    ensures { result ≡ Format.body_len (due_of part) n }
-{
-    match part {
-        Part::Done | Part::Stat => 0,
-        Part::Serr | Part::Sout | Part::Doto { .. } => n as usize,
-    }
-}
-
-// What is wrong with a token's number.
-fn refusal(part: Part, n: u32) -> Option<ReplyFault>
-    ensures { result ≡ (due_of part).refused n }
-{
-    match part {
-        Part::Done if n != 1 => Some(ReplyFault::BadVersion { n }),
-        Part::Serr if n as usize > MESSAGES_MAX => Some(too_large(Which::Serr, n)),
-        Part::Sout if n as usize > MESSAGES_MAX => Some(too_large(Which::Sout, n)),
-        Part::Doto { .. } if n as usize > OBJECT_MAX => Some(too_large(Which::Doto, n)),
-        Part::Doto { status } if status != 0 && n != 0 => {
-            Some(ReplyFault::ObjectWithFailure { status, len: n })
-        }
-        _ => None,
-    }
-}
-
-fn too_large(which: Which, len: u32) -> ReplyFault
-    ensures { result ≡ ReplyFault.TooLarge which len }
-{
-    ReplyFault::TooLarge { which, len }
-}
-
-impl From<AllocError> for Stop {
-    ghost use Rattle.compile_reply.specs.declared.decoding.Stop.TheVariants.{Memory};
-
-    ghost from_gives = { λ _ e. e ≡ Memory };
-
-    fn from(_e: AllocError) -> Stop {
-        Stop::Memory
-    }
+/// The parts of a reply at the front of a text, and how many bytes they are.
+#[derive(Clone, Copy)]
+pub struct Parts<'a> {
+    pub status: u32,
+    pub err: &'a [u8],
+    pub out: &'a [u8],
+    pub object: &'a [u8],
+    pub used: usize,
 }
 
 // The field that is due at the front of the rest of a text: its number, its bytes, and what follows them.
@@ -132,42 +76,74 @@ fn next<'a>(text: &[u8], rest: &'a [u8], part: Part) -> Result<(u32, &'a [u8], &
 }
 
 #[tactic(auto, unfolding(crate::specs::Decoding::reply_of))]
-fn outcome_of(alloc: Global, text: &[u8]) -> Result<(Outcome, usize), Stop>
-    ensures { Gives (λ x. x) result (reply_of text.now) }
+fn parts_of(text: &[u8]) -> Result<Parts<'_>, Stop>
+    ensures { Gives outcome_in result (reply_of text.now) }
 {
     let (_, _, rest) = next(text, text, Part::Done)?;
     let (status, _, rest) = next(text, rest, Part::Stat)?;
     let (_, err, rest) = next(text, rest, Part::Serr)?;
     let (_, out, rest) = next(text, rest, Part::Sout)?;
     let (_, object, rest) = next(text, rest, Part::Doto { status })?;
-    let outcome = Outcome {
+    let used = text.len() - rest.len();
+    Ok(Parts {
         status,
-        err: Bytes::from_slice(alloc, err)?,
-        out: Bytes::from_slice(alloc, out)?,
-        object: Bytes::from_slice(alloc, object)?,
-    };
-    Ok((outcome, text.len() - rest.len()))
+        err,
+        out,
+        object,
+        used,
+    })
+}
+
+fn outcome_of(alloc: Global, parts: &Parts) -> Result<Outcome, AllocError>
+    ensures { IfOk result (λ outcome. outcome ≡ (outcome_in parts.now).0) }
+{
+    Ok(Outcome {
+        status: parts.status,
+        err: Bytes::from_slice(alloc, parts.err)?,
+        out: Bytes::from_slice(alloc, parts.out)?,
+        object: Bytes::from_slice(alloc, parts.object)?,
+    })
+}
+
+fn whole(alloc: Global, parts: &Parts) -> Reply
+    ensures { IsWholeUnlessMemory (outcome_in parts.now).0 (outcome_in parts.now).1 result }
+{
+    match outcome_of(alloc, parts) {
+        Ok(outcome) => Reply::Whole {
+            outcome,
+            used: parts.used,
+        },
+        Err(_) => Reply::Memory,
+    }
+}
+
+fn stopped(stop: Stop) -> Reply
+    ensures { result ≡ stop_reply stop }
+{
+    match stop {
+        Stop::Short => Reply::Short,
+        Stop::Bad { at, fault } => Reply::Bad { at, fault },
+    }
 }
 
 fn said(alloc: Global, text: &[u8]) -> Reply
     ensures { Says text.now result }
 {
-    match outcome_of(alloc, text) {
-        Ok((outcome, used)) => Reply::Whole { outcome, used },
-        Err(Stop::Short) => Reply::Short,
-        Err(Stop::Bad { at, fault }) => Reply::Bad { at, fault },
-        Err(Stop::Memory) => Reply::Memory,
+    match parts_of(text) {
+        Ok(parts) => whole(alloc, &parts),
+        Err(stop) => stopped(stop),
     }
 }
 
-/// Reads a reply at the front of a text. Bytes that follow it are ignored.
+/// Reads a reply at the front of a text. Bytes that follow it are ignored. Only a text that begins with a whole reply may
+/// want memory.
 pub fn decode(alloc: Global, text: &[u8]) -> Reply
     // The outcome that a prefix spells, the fault that stands, or that the text is short,
     ensures says { Says text.now result }
     // exactly where that is so.
-    ensures whole { (used : ℕ) (o : Outcome) → BeginsReply text.now used o → IsUnlessMemory result (Reply.Whole o used) }
-    ensures bad { (at : ℕ) (fault : ReplyFault) → ReplyFaultStands text.now at fault → IsUnlessMemory result (Reply.Bad at fault) }
-    ensures short { IsShortReply text.now → IsUnlessMemory result Reply.Short }
+    ensures whole { (used : ℕ) (o : Outcome) → BeginsReply text.now used o → IsWholeUnlessMemory o used result }
+    ensures bad { (at : ℕ) (fault : ReplyFault) → ReplyFaultStands text.now at fault → result ≡ Reply.Bad at fault }
+    ensures short { IsShortReply text.now → result ≡ Reply.Short }
 {
     said(alloc, text)
 }

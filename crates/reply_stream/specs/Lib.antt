@@ -1,0 +1,4 @@
+pub mod Parts
+pub mod Objects
+pub mod Taking
+pub mod Reader

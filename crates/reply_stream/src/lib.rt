@@ -1,0 +1,13 @@
+//! Reading a reply in pieces of any size, as docs/wire.md gives it. The bytes of the object aren't kept: each piece is
+//! told which of its bytes are the object's.
+#![tactic(auto)]
+
+mod answers;
+mod partial;
+mod reader;
+
+pub use answers::{Part, Span};
+pub use reader::ReplyReader;
+
+#[cfg(test)]
+mod tests;
