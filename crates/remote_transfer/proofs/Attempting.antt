@@ -7,6 +7,7 @@ use Rattle.farm_types.specs.declared.ran.Outcome.{Outcome}
 use Rattle.edge_traits.specs.declared.entries.Exchange.{Exchange}
 use Rattle.edge_traits.specs.declared.cause.Cause.TheVariants.{Dial, Send, Recv, Truncated, BadReply, Stopped}
 use Rattle.edge_traits.specs.Told.{Told, Grew}
+use Rattle.edge_traits.specs.Causes.{Still}
 use Rattle.edge_traits.specs.Links.{LinkView, IsNew}
 use Rattle.edge_traits.specs.Dialers.{hung, IsToldOf}
 use Rattle.edge_traits.proofs.ToldLemmas.{Grew-join}
@@ -38,12 +39,12 @@ module _ (may : List ℕ → List ℕ → Type 0) (old dialed new : Told (List E
   adds q h (Err Memory) passed = added _ passed
 
 -- the answer of a link that was made is not a failed dial
-pub no_failed_dial : (q : Request) (h : Host) (first last : LinkView) (talked : Result Outcome Stop) → Passed first last (λ x. ExchangeIs q h (answer_of talked) x × EndsBy (answer_of talked) x) → (before now : ℕ) → DialCause (answer_of talked) before now
-no_failed_dial q h first last (Ok outcome) passed before now = tt
-no_failed_dial q h first last (Err (Broke Dial)) passed before now = absurd (cc passed.is.0.shown.undialed)
-no_failed_dial q h first last (Err (Broke Send)) passed before now = tt
-no_failed_dial q h first last (Err (Broke Recv)) passed before now = tt
-no_failed_dial q h first last (Err (Broke (Truncated have))) passed before now = tt
-no_failed_dial q h first last (Err (Broke (BadReply at fault))) passed before now = tt
-no_failed_dial q h first last (Err (Broke Stopped)) passed before now = tt
-no_failed_dial q h first last (Err Memory) passed before now = tt
+pub no_failed_dial : (q : Request) (h : Host) (first last : LinkView) (talked : Result Outcome Stop) → Passed first last (λ x. ExchangeIs q h (answer_of talked) x × EndsBy (answer_of talked) x) → (before now : ℕ) → Still before now → DialCause (answer_of talked) before now
+no_failed_dial q h first last (Ok outcome) passed before now still = still
+no_failed_dial q h first last (Err (Broke Dial)) passed before now still = absurd (cc passed.is.0.shown.undialed)
+no_failed_dial q h first last (Err (Broke Send)) passed before now still = still
+no_failed_dial q h first last (Err (Broke Recv)) passed before now still = still
+no_failed_dial q h first last (Err (Broke (Truncated have))) passed before now still = still
+no_failed_dial q h first last (Err (Broke (BadReply at fault))) passed before now still = still
+no_failed_dial q h first last (Err (Broke Stopped)) passed before now still = still
+no_failed_dial q h first last (Err Memory) passed before now still = still

@@ -1,3 +1,5 @@
 mod Parts
+mod ByPieces
+mod IntoFiles
 mod Passing
 mod Attempting

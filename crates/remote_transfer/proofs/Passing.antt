@@ -1,5 +1,5 @@
 -- From a request that was sent whole over a new link, and what was then given, to the entry of an exchange.
-use Rattle.std.proofs.Common.{◌≡◌, ℕ, ◌<◌, false, List, [], ◌++◌, refl, ◌∙◌, ap, sym, arith}
+use Rattle.std.proofs.Common.{◌≡◌, ℕ, ◌<◌, true, false, List, [], ◌++◌, refl, ◌∙◌, ap, sym, arith}
 use Rattle.std.specs.Prelude.{Result, Ok, Err}
 use Rattle.std.proofs.lemmas.List.{append-nil}
 use Rattle.farm_types.specs.declared.request.Request.{Request}
@@ -7,7 +7,7 @@ use Rattle.farm_types.specs.declared.hosts.Host.{Host}
 use Rattle.farm_types.specs.declared.ran.Outcome.{Outcome}
 use Rattle.edge_traits.specs.declared.cause.Cause.TheVariants.{Dial, Send, Recv, Truncated, BadReply, Stopped}
 use Rattle.edge_traits.specs.Told.{Grew}
-use Rattle.edge_traits.specs.Causes.{Rose}
+use Rattle.edge_traits.specs.Causes.{Rose, Still}
 use Rattle.edge_traits.specs.Links.{LinkView, IsNew}
 use Rattle.edge_traits.specs.Exchanges.{IsBegun}
 use Rattle.edge_traits.proofs.ToldLemmas.{Grew-join, Grew-still}
@@ -16,10 +16,13 @@ use Rattle.remote_transfer.specs.declared.answers.Stop.{Stop}
 use Rattle.remote_transfer.specs.declared.answers.Stop.TheVariants.{Broke, Memory}
 use Rattle.remote_transfer.specs.Answers.{answer_of}
 use Rattle.remote_transfer.specs.Attempts.{ExchangeIs, EndsBy}
-use Rattle.remote_transfer.specs.Links.{ReplyIs, Given, IsFor, entry_of, Passed}
+use Rattle.remote_transfer.specs.Links.{SentPart, SendStops, ReplyIs, Given, IsFor, entry_of, Passed}
 
 rose_above_none : (before now : ℕ) → Rose before now → 0 < now
 rose_above_none before now rose = omega (arith, rose)
+
+failed_not : true ≡ false → (faults : ℕ) → faults ≡ 0
+failed_not unlike faults = absurd (cc)
 
 -- what an attempt says of what passed over its link
 abbrev pub Says : Request → Host → Attempt → LinkView → LinkView → Type 0
@@ -34,9 +37,37 @@ module _ (q : Request) (h : Host) (text : List ℕ) (old new : LinkView) (is_for
     prefix = sym is_for.spelled ∙ parts;
   }
 
+  -- the text was not sent whole
+  pub not_sent : (stop : Stop) → SentPart text old.sent new.sent → SendStops old new stop → Grew old.given new.given [] → new.ended ≡ old.ended → Says q h (answer_of (Err stop)) old new
+  not_sent (Broke Dial) part stops none ended = absurd stops
+  not_sent (Broke Send) part stops none ended = record {
+    sent = part.sent;
+    given = [];
+    grew_sent = part.grew;
+    grew_given = none;
+    is = (record { begun = begun part.sent part.unsent [] part.parts; shown = (record { dialed = refl; unsent = part.unsent; prefix = sym is_for.spelled ∙ part.parts; proper = part.proper; given = refl }, rose_above_none _ _ stops.0) }, record { ended = ended ∙ fresh.ended; stopped = stops.1 ∙ fresh.stopped; faults = λ unlike. failed_not unlike _ });
+  }
+  not_sent (Broke Recv) part stops none ended = absurd stops
+  not_sent (Broke (Truncated have)) part stops none ended = absurd stops
+  not_sent (Broke (BadReply at fault)) part stops none ended = absurd stops
+  not_sent (Broke Stopped) part stops none ended = record {
+    sent = part.sent;
+    given = [];
+    grew_sent = part.grew;
+    grew_given = none;
+    is = (record { begun = begun part.sent part.unsent [] part.parts; shown = (record { dialed = refl; unsent = part.unsent; prefix = sym is_for.spelled ∙ part.parts; proper = part.proper; given = refl }, stops.0) }, record { ended = ended ∙ fresh.ended; stopped = stops.0; faults = λ none. stops.1 ∙ fresh.faults });
+  }
+  not_sent Memory part stops none ended = record {
+    sent = part.sent;
+    given = [];
+    grew_sent = part.grew;
+    grew_given = none;
+    is = ((begun part.sent part.unsent [] part.parts, refl), record { ended = ended ∙ fresh.ended; stopped = stops.0 ∙ fresh.stopped; faults = λ none. stops.1 ∙ fresh.faults });
+  }
+
   -- the whole text was sent, and then these bytes were given
   module _ (mid : LinkView) (sent : Grew old.sent mid.sent text) (no_more : Grew mid.sent new.sent []) (none : Grew old.given mid.given [])
-      (running : mid.stopped ≡ old.stopped) (stopped : new.stopped ≡ mid.stopped) (open_still : mid.ended ≡ old.ended) where
+      (running : mid.stopped ≡ old.stopped) (stopped : new.stopped ≡ mid.stopped) (open_still : mid.ended ≡ old.ended) (calm : Still old.faults mid.faults) where
     all_sent : Grew old.sent new.sent text
     all_sent = Grew-still sent no_more
 
@@ -49,6 +80,9 @@ module _ (q : Request) (h : Host) (text : List ℕ) (old new : LinkView) (is_for
     never_stopped : new.stopped ≡ false
     never_stopped = stopped ∙ running ∙ fresh.stopped
 
+    never_failed : Still mid.faults new.faults → new.faults ≡ 0
+    never_failed still = still ∙ calm ∙ fresh.faults
+
     never_ended : new.ended ≡ mid.ended → new.ended ≡ false
     never_ended same = same ∙ open_still ∙ fresh.ended
 
@@ -58,7 +92,7 @@ module _ (q : Request) (h : Host) (text : List ℕ) (old new : LinkView) (is_for
       given = given.bytes;
       grew_sent = all_sent;
       grew_given = all_given given.bytes given.grew;
-      is = (record { begun = whole_begun given.bytes; dialed = refl; sent = is_for.spelled; used = given.is.0.0; spelled = given.is.0.1 }, record { ended = never_ended given.is.1; stopped = never_stopped });
+      is = (record { begun = whole_begun given.bytes; dialed = refl; sent = is_for.spelled; used = given.is.0.0; spelled = given.is.0.1 }, record { ended = never_ended given.is.1; stopped = never_stopped; faults = λ none. never_failed given.is.2 });
     }
     replied (Err (Broke Dial)) given = absurd given.is
     replied (Err (Broke Send)) given = absurd given.is
@@ -67,21 +101,21 @@ module _ (q : Request) (h : Host) (text : List ℕ) (old new : LinkView) (is_for
       given = given.bytes;
       grew_sent = all_sent;
       grew_given = all_given given.bytes given.grew;
-      is = (record { begun = whole_begun given.bytes; shown = (record { sent = is_for.spelled; short = given.is.0 }, rose_above_none _ _ given.is.1) }, record { ended = never_ended given.is.2; stopped = never_stopped });
+      is = (record { begun = whole_begun given.bytes; shown = (record { sent = is_for.spelled; short = given.is.0 }, rose_above_none _ _ given.is.1) }, record { ended = never_ended given.is.2; stopped = never_stopped; faults = λ unlike. failed_not unlike _ });
     }
     replied (Err (Broke (Truncated have))) given = record {
       sent = text;
       given = given.bytes;
       grew_sent = all_sent;
       grew_given = all_given given.bytes given.grew;
-      is = (record { begun = whole_begun given.bytes; shown = (record { sent = is_for.spelled; short = given.is.0 }, given.is.1, given.is.2) }, record { ended = given.is.2; stopped = never_stopped });
+      is = (record { begun = whole_begun given.bytes; shown = (record { sent = is_for.spelled; short = given.is.0 }, given.is.1, given.is.2) }, record { ended = given.is.2; stopped = never_stopped; faults = λ none. never_failed given.is.3 });
     }
     replied (Err (Broke (BadReply at fault))) given = record {
       sent = text;
       given = given.bytes;
       grew_sent = all_sent;
       grew_given = all_given given.bytes given.grew;
-      is = (record { begun = whole_begun given.bytes; shown = (is_for.spelled, given.is.0) }, record { ended = never_ended given.is.1; stopped = never_stopped });
+      is = (record { begun = whole_begun given.bytes; shown = (is_for.spelled, given.is.0) }, record { ended = never_ended given.is.1; stopped = never_stopped; faults = λ none. never_failed given.is.2 });
     }
     replied (Err (Broke Stopped)) given = absurd given.is
     replied (Err Memory) given = record {
@@ -89,5 +123,5 @@ module _ (q : Request) (h : Host) (text : List ℕ) (old new : LinkView) (is_for
       given = given.bytes;
       grew_sent = all_sent;
       grew_given = all_given given.bytes given.grew;
-      is = ((whole_begun given.bytes, refl), record { ended = never_ended given.is; stopped = never_stopped });
+      is = ((whole_begun given.bytes, refl), record { ended = never_ended given.is.0; stopped = never_stopped; faults = λ none. never_failed given.is.1 });
     }

@@ -1,10 +1,18 @@
--- The answer of an attempt, by what came of its link.
+-- The answers of attempts, by what came of their links.
 use Rattle.std.specs.Prelude.{true, Result, Ok, Err}
 use Rattle.farm_types.specs.declared.ran.Outcome.{Outcome}
 use Rattle.remote_transfer.specs.declared.answers.Attempt.{Attempt}
 use Rattle.remote_transfer.specs.declared.answers.Attempt.TheVariants as attempts
+use Rattle.remote_transfer.specs.declared.answers.Landing.{Landing}
+use Rattle.remote_transfer.specs.declared.answers.Landed.{Landed}
+use Rattle.remote_transfer.specs.declared.answers.Landed.TheVariants as landeds
 use Rattle.remote_transfer.specs.declared.answers.Stop.{Stop}
 use Rattle.remote_transfer.specs.declared.answers.Stop.TheVariants.{Broke, Memory}
+
+abbrev pub landed_of : Result (Outcome × Landing) Stop → Landed
+landed_of (Ok received) = landeds.Whole received.0 received.1
+landed_of (Err (Broke cause)) = landeds.Broke cause
+landed_of (Err Memory) = landeds.Memory true
 
 abbrev pub answer_of : Result Outcome Stop → Attempt
 answer_of (Ok outcome) = attempts.Whole outcome

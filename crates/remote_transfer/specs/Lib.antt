@@ -1,3 +1,5 @@
 pub mod Attempts
 pub mod Answers
 pub mod Links
+pub mod Pieces
+pub mod Landings

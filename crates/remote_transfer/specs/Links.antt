@@ -8,7 +8,7 @@ use Rattle.wire_tokens.specs.Reply.{BeginsReply, IsShortReply, ReplyFaultStands}
 use Rattle.edge_traits.specs.declared.entries.Exchange.{Exchange}
 use Rattle.edge_traits.specs.declared.cause.Cause.TheVariants.{Send, Recv, Truncated, BadReply, Stopped}
 use Rattle.edge_traits.specs.Told.{Told, Grew}
-use Rattle.edge_traits.specs.Causes.{Rose}
+use Rattle.edge_traits.specs.Causes.{Rose, Still}
 use Rattle.edge_traits.specs.Links.{LinkView}
 use Rattle.remote_transfer.specs.declared.answers.Stop.{Stop}
 use Rattle.remote_transfer.specs.declared.answers.Stop.TheVariants.{Broke, Memory}
@@ -24,33 +24,18 @@ pub record SentPart (bytes : List ℕ) (old new : Told (List ℕ)) : Type 0 wher
 -- why not all was sent
 abbrev pub SendStops : LinkView → LinkView → Stop → Type 0
 SendStops old new (Broke Send) = Rose old.faults new.faults × (new.stopped ≡ old.stopped)
-SendStops old new (Broke Stopped) = new.stopped ≡ true
+SendStops old new (Broke Stopped) = (new.stopped ≡ true) × Still old.faults new.faults
 SendStops old new (Broke other) = ⊥
-SendStops old new Memory = new.stopped ≡ old.stopped
+SendStops old new Memory = (new.stopped ≡ old.stopped) × Still old.faults new.faults
 
--- a piece of at least one byte was given
-pub record GivenPiece (before after : List ℕ) (old new : LinkView) : Type 0 where
-  pub piece : List ℕ
-  pub added : after ≡ before ++ piece
-  pub some : 0 < length piece
-  pub grew : Grew old.given new.given piece
-  pub ended : new.ended ≡ old.ended
-
--- why no piece was kept, after these bytes
-abbrev pub PieceStops : List ℕ → LinkView → LinkView → Stop → Type 0
-PieceStops before old new (Broke Recv) = Grew old.given new.given [] × Rose old.faults new.faults × (new.ended ≡ old.ended)
-PieceStops before old new (Broke (Truncated have)) = Grew old.given new.given [] × (length before ≡ have) × (new.ended ≡ true)
-PieceStops before old new (Broke other) = ⊥
-PieceStops before old new Memory = ((piece : List ℕ) × Grew old.given new.given piece) × (new.ended ≡ old.ended)
-
--- what the bytes that were given are to the result, and whether the link gave its end
+-- what the bytes that were given are to the result, whether the link gave its end, and whether a receive failed
 abbrev pub ReplyIs : Result Outcome Stop → LinkView → LinkView → List ℕ → Type 0
-ReplyIs (Ok outcome) old new given = ((used : ℕ) × BeginsReply given used outcome) × (new.ended ≡ old.ended)
+ReplyIs (Ok outcome) old new given = ((used : ℕ) × BeginsReply given used outcome) × (new.ended ≡ old.ended) × Still old.faults new.faults
 ReplyIs (Err (Broke Recv)) old new given = IsShortReply given × Rose old.faults new.faults × (new.ended ≡ old.ended)
-ReplyIs (Err (Broke (Truncated have))) old new given = IsShortReply given × (length given ≡ have) × (new.ended ≡ true)
-ReplyIs (Err (Broke (BadReply at fault))) old new given = ReplyFaultStands given at fault × (new.ended ≡ old.ended)
+ReplyIs (Err (Broke (Truncated have))) old new given = IsShortReply given × (length given ≡ have) × (new.ended ≡ true) × Still old.faults new.faults
+ReplyIs (Err (Broke (BadReply at fault))) old new given = ReplyFaultStands given at fault × (new.ended ≡ old.ended) × Still old.faults new.faults
 ReplyIs (Err (Broke other)) old new given = ⊥
-ReplyIs (Err Memory) old new given = new.ended ≡ old.ended
+ReplyIs (Err Memory) old new given = (new.ended ≡ old.ended) × Still old.faults new.faults
 
 -- bytes were given of which this holds
 pub record Given (holds : List ℕ → Type 0) (old new : Told (List ℕ)) : Type 0 where

@@ -16,6 +16,28 @@ pub enum Attempt {
     Memory { dialed: bool },
 }
 
+/// Where the object of a whole reply is.
+#[derive(Clone, Copy, Debug, PartialEq, Eq)]
+pub enum Landing {
+    /// The status is 0, and the keeper's put is pending with the whole object.
+    Pending,
+    /// The status is 0, and a fault of the keeper ended the put. None is pending.
+    Lost,
+    /// The status isn't 0, so there is no object. None is pending.
+    Nothing,
+}
+
+/// How one exchange with a daemon went whose object goes into a file.
+#[derive(Debug, Drop)]
+pub enum Landed {
+    /// The reply came whole. The outcome's own object is empty.
+    Whole { outcome: Outcome, landing: Landing },
+    /// The exchange broke, by this cause.
+    Broke(Cause),
+    /// Memory ran out, before or after the dial had succeeded.
+    Memory { dialed: bool },
+}
+
 /// Why no whole reply came over a link.
 #[derive(Clone, Copy, Debug)]
 pub(crate) enum Stop {

@@ -4,17 +4,20 @@ ghost use Rattle.farm_types.specs.declared.hosts.Host.{Host};
 ghost use Rattle.farm_types.specs.Fits.{RequestFits};
 ghost use Rattle.wire_tokens.specs.Request.{request_text};
 ghost use Rattle.edge_traits.specs.Told.{SameRelation};
+ghost use Rattle.edge_traits.specs.FileMaps.{IsStaged};
+ghost use Rattle.edge_traits.specs.Keepers.{IsIdle};
 ghost use Rattle.edge_traits.specs.Links.{IsNew};
 ghost use Rattle.remote_transfer.specs.Answers;
 ghost use Rattle.remote_transfer.specs.Attempts.{ExchangeIs, EndsBy, AttemptAdds, DialCause};
+ghost use Rattle.remote_transfer.specs.Landings.{KeeperStays, PassedInto, LandedAdds, LandedCause};
 ghost use Rattle.remote_transfer.specs.Links.{IsFor, Passed};
 
-use crate::Attempt;
-use crate::answers::Stop;
+use crate::answers::{Attempt, Landed, Landing, Stop};
+use crate::landing::receive_into;
 use crate::receiving::receive_reply;
 use crate::sending::send_all;
 use compile_request::encode;
-use edge_traits::{Cause, Dialer, EdgeFault, Link};
+use edge_traits::{Cause, Dialer, EdgeFault, Keeper, Link};
 use farm_types::{Bytes, Host, Outcome, Request};
 use std::alloc::{AllocError, Global};
 
@@ -30,6 +33,7 @@ fn converse<L: Link>(
 ) -> Result<Outcome, Stop>
     requires new { IsNew (L.shows link.old) }
     requires room { 0 < length room.old }
+    requires small { length room.old ≤ 65536 }
     ensures passed { (q : Request) (h : Host) → IsFor q h text.now (L.shows link.old)
         → Passed (L.shows link.old) (L.shows link.new) (λ x. ExchangeIs q h (Answers.answer_of result) x × EndsBy (Answers.answer_of result) x) }
     ensures follows { L.follows link.old link.new }
@@ -85,5 +89,75 @@ pub fn attempt<D: Dialer>(alloc: Global, request: &Request, host: &Host, dialer:
         }
         Err(EdgeFault::Failed) => Attempt::Broke(Cause::Dial),
         Err(EdgeFault::Memory) => Attempt::Memory { dialed: false },
+    }
+}
+
+// The same, with the object given to a keeper as it comes.
+fn converse_into<L: Link, K: Keeper>(
+    alloc: Global,
+    text: &[u8],
+    link: &mut L,
+    room: &mut [u8],
+    path: &Bytes,
+    keeper: &mut K,
+) -> Result<(Outcome, Landing), Stop>
+    requires new { IsNew (L.shows link.old) }
+    requires room { 0 < length room.old }
+    requires small { length room.old ≤ 65536 }
+    requires idle { IsIdle (K.shows keeper.old) }
+    requires name { ¬ (IsStaged path.now) }
+    ensures passed { PassedInto result path.now text.now (L.shows link.old) (L.shows link.new) (K.shows keeper.old) (K.shows keeper.new) }
+    ensures follows { L.follows link.old link.new }
+    ensures stays { KeeperStays (K.shows keeper.old) (K.shows keeper.new) }
+{
+    send_all(link, text)?;
+    receive_into(alloc, link, room, path, keeper)
+}
+
+fn landed_of(talked: Result<(Outcome, Landing), Stop>) -> Landed
+    ensures { result ≡ Answers.landed_of talked }
+{
+    match talked {
+        Ok((outcome, landing)) => Landed::Whole { outcome, landing },
+        Err(Stop::Broke(cause)) => Landed::Broke(cause),
+        Err(Stop::Memory) => Landed::Memory { dialed: true },
+    }
+}
+
+/// Makes one exchange with a host, as `attempt` does, and gives the bytes of the object to the keeper while they come, in a
+/// put of this path that is begun with the first of them. The object doesn't wait in memory.
+///
+/// After a whole reply of status 0 the put is pending with the whole object, for the caller to commit; or the keeper failed
+/// while it was written, and then the reply was read to its end all the same. After any other answer no put is pending.
+pub fn attempt_into<D: Dialer, K: Keeper>(
+    alloc: Global,
+    request: &Request,
+    host: &Host,
+    path: &Bytes,
+    dialer: &mut D,
+    keeper: &mut K,
+) -> Landed
+    requires fits { RequestFits request.now.words request.now.source }
+    requires remote { host.now.local ≡ false }
+    requires idle { IsIdle (K.shows keeper.old) }
+    requires name { ¬ (IsStaged path.now) }
+    ensures adds { LandedAdds (D.may_give dialer.new) request.now host.now result path.now
+        (D.shows dialer.old).exchanges (D.shows dialer.new).exchanges (K.shows keeper.old) (K.shows keeper.new) }
+    ensures stays { KeeperStays (K.shows keeper.old) (K.shows keeper.new) }
+    ensures may_give { SameRelation (D.may_give dialer.old) (D.may_give dialer.new) }
+    ensures later { (D.shows dialer.old).faults ≤ (D.shows dialer.new).faults }
+    ensures cause { LandedCause result (D.shows dialer.old).faults (D.shows dialer.new).faults }
+{
+    let Ok((text, mut room)) = prepare(alloc, request) else {
+        return Landed::Memory { dialed: false };
+    };
+    match dialer.dial(alloc, &host.name, host.port) {
+        Ok(mut link) => {
+            let talked = converse_into(alloc, text.as_slice(), &mut link, &mut room, path, keeper);
+            dialer.hang_up(link);
+            landed_of(talked)
+        }
+        Err(EdgeFault::Failed) => Landed::Broke(Cause::Dial),
+        Err(EdgeFault::Memory) => Landed::Memory { dialed: false },
     }
 }

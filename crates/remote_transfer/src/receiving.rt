@@ -1,48 +1,117 @@
-ghost use Rattle.std.specs.Prelude.{◌≡◌, ◌<◌, ◌≤◌, ◌++◌, ℕ, List, [], length, OnOk, IfErr};
+//! Receiving a reply piece by piece.
+
+ghost use Rattle.std.specs.Prelude.{◌≡◌, ◌<◌, ◌≤◌, ◌++◌, ℕ, List, [], length, IfOk, IfErr};
 ghost use Rattle.edge_traits.specs.Told.{Grew};
-ghost use Rattle.wire_tokens.specs.Reply.{IsShortReply};
-ghost use Rattle.remote_transfer.specs.Links.{Given, GivenPiece, PieceStops, ReplyIs};
+ghost use Rattle.reply_stream.specs.Objects;
+ghost use Rattle.reply_stream.specs.Reader.{IsAt, IsSpent};
+ghost use Rattle.remote_transfer.specs.declared.answers.Stop.TheVariants.{Memory as StopMemory};
+ghost use Rattle.remote_transfer.specs.Links.{Given, ReplyIs};
+ghost use Rattle.remote_transfer.specs.Pieces.{PieceBrought, PieceStops, Received};
 
 use crate::answers::Stop;
-use compile_reply::{Reply, decode};
 use edge_traits::{Cause, EdgeFault, Link};
 use farm_types::{Bytes, Outcome};
+use reply_stream::{Part, ReplyReader, Span};
 use std::alloc::Global;
 
-// Receives one piece, and adds it to what was given so far.
-fn receive_piece<L: Link>(link: &mut L, room: &mut [u8], given: &mut Bytes) -> Result<(), Stop>
-    requires { 0 < length room.old }
-    ensures more { OnOk result (GivenPiece given.old given.new (L.shows link.old) (L.shows link.new)) }
-    ensures stops { IfErr result (PieceStops given.old (L.shows link.old) (L.shows link.new)) }
+/// What a piece brought: where the object's next bytes stand in the room, and how many bytes the piece has, or the outcome
+/// of the whole reply, without its object.
+#[derive(Drop)]
+pub(crate) enum Brought {
+    More { count: usize, object: Span },
+    Whole { object: Span, outcome: Outcome },
+}
+
+/// Receives one piece into the room, and reads it. So many bytes were given before.
+pub(crate) fn receive_piece<L: Link>(
+    link: &mut L,
+    room: &mut [u8],
+    reader: &mut ReplyReader,
+    have: u64,
+) -> Result<Brought, Stop>
+    requires room { 0 < length room.old }
+    requires fresh { IsSpent reader.old → ⊥ }
+    ensures read { IfOk result (PieceBrought (L.shows link.old) (L.shows link.new) reader.old reader.new room.new) }
+    ensures stops { IfErr result (PieceStops have reader.old (L.shows link.old) (L.shows link.new)) }
     ensures sent { Grew (L.shows link.old).sent (L.shows link.new).sent [] }
     ensures stopped { (L.shows link.new).stopped ≡ (L.shows link.old).stopped }
     ensures follows { L.follows link.old link.new }
     ensures later { (L.shows link.old).faults ≤ (L.shows link.new).faults }
 {
-    match link.recv(room) {
-        Ok(0) => Err(Stop::Broke(Cause::Truncated {
-            have: given.len() as u64,
-        })),
-        Ok(count) => {
-            given.try_extend(&room[..count])?;
-            Ok(())
-        }
-        Err(EdgeFault::Failed) => Err(Stop::Broke(Cause::Recv)),
-        Err(EdgeFault::Memory) => Err(Stop::Memory),
+    let count = match link.recv(room) {
+        Ok(0) => return Err(Stop::Broke(Cause::Truncated { have })),
+        Ok(count) => count,
+        Err(EdgeFault::Failed) => return Err(Stop::Broke(Cause::Recv)),
+        Err(EdgeFault::Memory) => return Err(Stop::Memory),
+    };
+    match reader.feed(&room[..count]) {
+        Part::More { object, .. } => Ok(Brought::More { count, object }),
+        Part::Whole {
+            object,
+            outcome,
+            ..
+        } => Ok(Brought::Whole { object, outcome }),
+        Part::Bad { at, fault } => Err(Stop::Broke(Cause::BadReply { at, fault })),
+        Part::Memory => Err(Stop::Memory),
     }
+}
+
+// Receives a reply, and joins the bytes of its object.
+fn receive_joined<L: Link>(
+    link: &mut L,
+    room: &mut [u8],
+    reader: &mut ReplyReader,
+    object: &mut Bytes,
+) -> Result<Outcome, Stop>
+    requires room { 0 < length room.old }
+    requires small { length room.old ≤ 65536 }
+    requires at { IsAt reader.old [] object.old }
+    ensures received { Received result object.new (L.shows link.old) (L.shows link.new) }
+    ensures sent { Grew (L.shows link.old).sent (L.shows link.new).sent [] }
+    ensures stopped { (L.shows link.new).stopped ≡ (L.shows link.old).stopped }
+    ensures follows { L.follows link.old link.new }
+    ensures later { (L.shows link.old).faults ≤ (L.shows link.new).faults }
+{
+    let mut have = 0;
+    'receiving: loop {
+        match receive_piece(link, room, reader, have)? {
+            Brought::More {
+                count,
+                object: span,
+            } => {
+                object.try_extend(&room[span.from..span.to])?;
+                have += count as u64;
+            }
+            Brought::Whole {
+                object: span,
+                outcome,
+            } => return join_last(object, &room[span.from..span.to], outcome),
+        }
+    }
+}
+
+// Joins the last bytes of an object.
+fn join_last(object: &mut Bytes, bytes: &[u8], outcome: Outcome) -> Result<Outcome, Stop>
+    ensures ok { IfOk result (λ same. (same ≡ outcome) × (object.new ≡ object.old ++ bytes.now)) }
+    ensures memory { IfErr result (λ stop. stop ≡ StopMemory) }
+{
+    if object.try_extend(bytes).is_err() {
+        return Err(Stop::Memory);
+    }
+    Ok(outcome)
 }
 
 /// Receives until what was given is no longer short, through a room for pieces.
 ///
 /// Each receive but the last gives at least one byte, and a short reply has at most 35,651,643 bytes, so there are at
-/// most 35,651,644 receives. Decoding a short text reads its tokens alone, so each turn costs the bytes that it received
-/// and a constant.
+/// most 35,651,644 receives. Each turn costs the bytes that it received and a constant.
 pub(crate) fn receive_reply<L: Link>(
     alloc: Global,
     link: &mut L,
     room: &mut [u8],
 ) -> Result<Outcome, Stop>
-    requires { 0 < length room.old }
+    requires room { 0 < length room.old }
+    requires small { length room.old ≤ 65536 }
     ensures given { Given (ReplyIs result (L.shows link.old) (L.shows link.new)) (L.shows link.old).given (L.shows link.new).given }
 
     // Nothing is sent, and the link stays one of its dialer.
@@ -51,14 +120,24 @@ pub(crate) fn receive_reply<L: Link>(
     ensures follows { L.follows link.old link.new }
     ensures later { (L.shows link.old).faults ≤ (L.shows link.new).faults }
 {
-    let mut given = Bytes::new(alloc);
-    'receiving: loop {
-        receive_piece(link, room, &mut given)?;
-        match decode(alloc, given.as_slice()) {
-            Reply::Whole { outcome, .. } => return Ok(outcome),
-            Reply::Short => {}
-            Reply::Bad { at, fault } => return Err(Stop::Broke(Cause::BadReply { at, fault })),
-            Reply::Memory => return Err(Stop::Memory),
-        }
+    let mut reader = ReplyReader::new(alloc);
+    let mut object = Bytes::new(alloc);
+    let received = receive_joined(link, room, &mut reader, &mut object);
+    drop(reader);
+    match received {
+        Ok(outcome) => Ok(with_object(outcome, object)),
+        Err(stop) => Err(stop),
+    }
+}
+
+// The outcome with this object.
+fn with_object(outcome: Outcome, object: Bytes) -> Outcome
+    ensures { result ≡ Objects.with_object outcome object }
+{
+    Outcome {
+        status: outcome.status,
+        err: outcome.err,
+        out: outcome.out,
+        object,
     }
 }

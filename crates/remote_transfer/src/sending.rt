@@ -1,5 +1,6 @@
 ghost use Rattle.std.specs.Prelude.{◌≡◌, ◌≤◌, [], length, OnOk, IfErr};
 ghost use Rattle.edge_traits.specs.Told.{Grew};
+ghost use Rattle.edge_traits.specs.Causes.{Still};
 ghost use Rattle.remote_transfer.specs.Links.{SentPart, SendStops};
 
 use crate::answers::Stop;
@@ -9,6 +10,7 @@ use edge_traits::{Cause, EdgeFault, Link};
 pub(crate) fn send_all<L: Link>(link: &mut L, bytes: &[u8]) -> Result<(), Stop>
     ensures all { OnOk result (Grew (L.shows link.old).sent (L.shows link.new).sent bytes.now) }
     ensures running { OnOk result ((L.shows link.new).stopped ≡ (L.shows link.old).stopped) }
+    ensures still { OnOk result (Still (L.shows link.old).faults (L.shows link.new).faults) }
     ensures part { IfErr result (λ _. SentPart bytes.now (L.shows link.old).sent (L.shows link.new).sent) }
     ensures stops { IfErr result (SendStops (L.shows link.old) (L.shows link.new)) }
 

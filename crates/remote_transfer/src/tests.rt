@@ -1,6 +1,6 @@
-use crate::{Attempt, attempt};
-use edge_memory::{LinkScript, LinkScripts, MemDialer, Moves};
-use edge_traits::{CallNumbers, Cause};
+use crate::{Attempt, Landed, Landing, attempt, attempt_into};
+use edge_memory::{LinkScript, LinkScripts, MemDialer, MemKeeper, Moves};
+use edge_traits::{CallNumbers, Cause, FetchFault, FileList, Keeper, is_staged};
 use farm_types::{Bytes, Host, HostName, Request, Words};
 use std::alloc::Global;
 use std::test::Fail;
@@ -35,6 +35,71 @@ fn numbers(alloc: Global, list: &[u64]) -> Result<CallNumbers, Fail> {
         numbers.try_push(*number)?;
     }
     Ok(numbers)
+}
+
+// A dialer whose link gives this, at most so many bytes a call.
+fn dialer(alloc: Global, gives: &[u8], most: u32) -> Result<MemDialer, Fail> {
+    let mut links = LinkScripts::new(alloc);
+    links.try_push(LinkScript {
+        gives: Bytes::from_slice(alloc, gives)?,
+        moves: Moves {
+            fails: numbers(alloc, &[])?,
+            zeros: numbers(alloc, &[])?,
+            most,
+        },
+    })?;
+    Ok(MemDialer::new(links, numbers(alloc, &[])?))
+}
+
+fn host(alloc: Global) -> Result<Host, Fail> {
+    Ok(Host {
+        name: HostName {
+            text: Bytes::from_slice(alloc, b"red")?,
+        },
+        port: 3632,
+        limit: 4,
+        local: false,
+    })
+}
+
+/// What became of an object that goes into `x.o`, which holds `old` before.
+#[derive(Drop)]
+struct Shown {
+    landed: Landed,
+    pending: bool,
+    file: Bytes,
+}
+
+// One exchange whose object goes into a file. The keeper's calls of these numbers fail; a put that is pending is committed.
+fn landing(alloc: Global, gives: &[u8], most: u32, fails: &[u64]) -> Result<Shown, Fail> {
+    let path = Bytes::from_slice(alloc, b"x.o")?;
+    let mut files = FileList::new(alloc);
+    files.try_put(path.copy()?, Bytes::from_slice(alloc, b"old")?)?;
+    let mut keeper = MemKeeper::new(files, numbers(alloc, fails)?);
+    let mut dialer = dialer(alloc, gives, most)?;
+    let host = host(alloc)?;
+    let request = request(alloc)?;
+    if !request.fits() || host.local || is_staged(path.as_slice()) || keeper.is_pending() {
+        return Err("the call may be made".into());
+    }
+    let landed = attempt_into(alloc, &request, &host, &path, &mut dialer, &mut keeper);
+    let pending = keeper.is_pending();
+    if pending {
+        keeper.commit(alloc)?;
+    }
+    if keeper.is_pending() {
+        return Err("none is pending after a commit".into());
+    }
+    let file = match keeper.fetch(alloc, &path, 1_000) {
+        Ok(file) => file,
+        Err(FetchFault::Memory) => return Err("memory is ample".into()),
+        Err(_) => return Err("the file is there".into()),
+    };
+    Ok(Shown {
+        landed,
+        pending,
+        file,
+    })
 }
 
 // One exchange with a host whose link gives this. The dials and the link's calls of these numbers fail, those
@@ -179,6 +244,79 @@ fn bad_replies(rt: HostRuntime) -> Result<(), Fail> {
                 Some(Cause::BadReply { at, fault }),
                 "a fault at {at}"
             );
+        }
+    }
+    Ok(())
+}
+
+#[test]
+fn objects_go_into_files(rt: HostRuntime) -> Result<(), Fail> {
+    let cases: [(&[u8], Landing, &[u8]); 4] = [
+        (&REPLY, Landing::Pending, b"SCO1\ndef a 1\n"),
+        (&SURPLUS, Landing::Pending, b"SCO1\ndef a 1\n"),
+        (&EMPTY, Landing::Pending, b""),
+        (&FAILED, Landing::Nothing, b"old"),
+    ];
+    for (gives, want, file) in cases {
+        for most in [1, 2, 5, 7, 60, 61, 1_000] {
+            let shown = landing(rt.alloc(), gives, most, &[])?;
+            match &shown.landed {
+                Landed::Whole { outcome, landing } => {
+                    assert_eq!(rt; *landing, want, "at most {most} bytes");
+                    assert!(rt; outcome.object.is_empty(), "at most {most} bytes");
+                }
+                _ => return Err("the reply is whole".into()),
+            }
+            assert_eq!(rt;
+                shown.pending,
+                want == Landing::Pending,
+                "at most {most} bytes"
+            );
+            assert_eq!(rt; shown.file.as_slice(), file, "at most {most} bytes");
+        }
+    }
+    Ok(())
+}
+
+#[test]
+fn a_fault_of_the_keeper_loses_the_object(rt: HostRuntime) -> Result<(), Fail> {
+    // In pieces of 5 bytes: one begin, and an add for each of the three pieces of the object.
+    for call in 1..5 {
+        let shown = landing(rt.alloc(), &REPLY, 5, &[call])?;
+        match &shown.landed {
+            Landed::Whole { outcome, landing } => {
+                assert_eq!(rt; *landing, Landing::Lost, "call {call} fails");
+                assert_eq!(rt; outcome.status, 0, "call {call} fails");
+            }
+            _ => return Err("the reply is read to its end".into()),
+        }
+        assert!(rt; !shown.pending, "call {call} fails");
+        assert_eq!(rt;
+            shown.file.as_slice(),
+            b"old".as_slice(),
+            "call {call} fails"
+        );
+    }
+    Ok(())
+}
+
+#[test]
+fn a_cut_reply_leaves_the_file(rt: HostRuntime) -> Result<(), Fail> {
+    for len in 0..73 {
+        for most in [1, 5, 1_000] {
+            let shown = landing(rt.alloc(), &REPLY[..len], most, &[])?;
+            match &shown.landed {
+                Landed::Broke(cause) => {
+                    assert_eq!(rt;
+                        *cause,
+                        Cause::Truncated { have: len as u64 },
+                        "{len} bytes"
+                    );
+                }
+                _ => return Err("the reply is cut".into()),
+            }
+            assert!(rt; !shown.pending, "{len} bytes");
+            assert_eq!(rt; shown.file.as_slice(), b"old".as_slice(), "{len} bytes");
         }
     }
     Ok(())

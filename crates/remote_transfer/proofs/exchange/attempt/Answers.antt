@@ -15,4 +15,4 @@ returns-in-Ok-dial-clause-cause g c =
     let fresh = c.in-Ok-dial.ensures.fresh in
     let passed = c.converse-talked.ensures.passed c.args.request.now c.args.host.now (record { spelled = c.as_slice.ensures ∙ c.in-Ok.ensures.text; host = fresh.host; port = fresh.port }) in
     subst (λ answer. DialCause answer (g.D.Dialer.shows c.args.dialer.now).faults (g.D.Dialer.shows c.hang_up.new.self).faults) (sym c.answer_of.ensures)
-    (no_failed_dial c.args.request.now c.args.host.now (g.D.Link.Link.shows c.in-Ok-dial.link) (g.D.Link.Link.shows c.converse-talked.new.link) c.converse-talked.result passed _ _)
+    (no_failed_dial c.args.request.now c.args.host.now (g.D.Link.Link.shows c.in-Ok-dial.link) (g.D.Link.Link.shows c.converse-talked.new.link) c.converse-talked.result passed _ _ (c.hang_up.ensures.faults ∙ c.in-Ok-dial.ensures.cause.done))

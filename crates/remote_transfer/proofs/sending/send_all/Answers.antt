@@ -1,4 +1,4 @@
-use Rattle.std.proofs.Common.{refl, arith}
+use Rattle.std.proofs.Common.{◌∙◌, refl, arith}
 use Rattle.std.proofs.lemmas.Grind.{common_steps}
 use Rattle.std.proofs.Math.Seq.{take-add}
 use Rattle.edge_traits.proofs.ToldLemmas.{Grew-join, Grew-by}
@@ -16,7 +16,7 @@ loop-sent-preserved g c =
       ended = grind (arith, after.ended);
       stopped = grind (arith, common_steps, after.stopped);
       follows = g.met.L.Link.follows_on _ _ _ before.follows after.follows;
-      later = grind (arith, after.cause.later);
+      still = after.cause.done ∙ before.still;
     }
 
 pub returns-in-Ok-eq0-clause-part : goal.returns-in-Ok-eq0-clause-part

@@ -1,5 +1,6 @@
 use Rattle.std.proofs.Common.{◌≡◌, ◌≤◌, ◌-◌, [], length, take}
 use Rattle.edge_traits.specs.Told.{Grew}
+use Rattle.edge_traits.specs.Causes.{Still}
 use Rattle.remote_transfer.proofs.sending.send_all.Given as goal
 
 abbrev pub invariant-loop-sent : goal.invariant-loop-sent
@@ -13,7 +14,7 @@ invariant-loop-sent g l =
       ended : now.ended ≡ old.ended;
       stopped : now.stopped ≡ old.stopped;
       follows : g.L.Link.follows l.fn.link l.link;
-      later : old.faults ≤ now.faults;
+      still : Still old.faults now.faults;
     }
 
 abbrev pub decreases-loop-sent : goal.decreases-loop-sent

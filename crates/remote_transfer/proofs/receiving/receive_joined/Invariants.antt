@@ -1,7 +1,7 @@
 use Rattle.std.proofs.Common.{◌≡◌, ◌<◌, ◌≤◌, ◌-◌, [], length}
 use Rattle.edge_traits.specs.Told.{Grew}
-use Rattle.wire_tokens.specs.Reply.{IsShortReply}
-use Rattle.remote_transfer.proofs.receiving.receive_reply.Given as goal
+use Rattle.remote_transfer.proofs.ByPieces.{Receiving}
+use Rattle.remote_transfer.proofs.receiving.receive_joined.Given as goal
 
 abbrev pub invariant-receiving : goal.invariant-receiving
 invariant-receiving g l =
@@ -9,10 +9,10 @@ invariant-receiving g l =
     let now = g.L.Link.shows l.link in
     record {
       room : 0 < length l.room;
-      short : IsShortReply l.given;
-      grew : Grew old.given now.given l.given;
+      small : length l.room ≤ 65536;
+      shape : length l.room ≡ length l.fn.room;
+      receiving : Receiving old now l.reader l.have l.object;
       sent : Grew old.sent now.sent [];
-      ended : now.ended ≡ old.ended;
       stopped : now.stopped ≡ old.stopped;
       follows : g.L.Link.follows l.fn.link l.link;
       later : old.faults ≤ now.faults;
@@ -20,4 +20,4 @@ invariant-receiving g l =
 
 -- A short reply has at most 35,651,643 bytes, and each turn receives once and adds at least one byte: so many receives are left.
 abbrev pub decreases-receiving : goal.decreases-receiving
-decreases-receiving g l = 35651644 - length l.given
+decreases-receiving g l = 35651644 - l.have

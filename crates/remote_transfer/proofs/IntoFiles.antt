@@ -1,0 +1,166 @@
+-- The object of a reply on its way into a file.
+use Rattle.std.proofs.Common.{◌≡◌, ℕ, ◌+◌, ◌≤◌, List, [], ◌++◌, refl, sym, ap, subst, ◌∙◌, arith, append-nil, rules}
+use Rattle.std.specs.Prelude.{◌≢◌, Result, Ok, Err, IfOk, IfErr, Option, Some, None, IsSome}
+use Rattle.edge_traits.specs.Told.{Told, Grew, Became}
+use Rattle.edge_traits.specs.Causes.{Rose}
+use Rattle.edge_traits.specs.Keepers.{PendingPut, KeeperView, IsIdle, IsPending, IsPutOf, HasPending}
+use Rattle.edge_traits.proofs.ToldLemmas.{Grew-then}
+use Rattle.edge_traits.proofs.Putting.{is-there}
+use Rattle.edge_traits.specs.Links.{LinkView}
+use Rattle.reply_stream.specs.Reader.{Place}
+use Rattle.farm_types.specs.declared.ran.Outcome.{Outcome}
+use Rattle.edge_traits.specs.declared.cause.Cause.TheVariants.{Dial, Send, Recv, Truncated, BadReply, Stopped}
+use Rattle.remote_transfer.specs.declared.answers.Landing.{Landing}
+use Rattle.remote_transfer.specs.declared.answers.Stop.{Stop}
+use Rattle.remote_transfer.specs.declared.answers.Stop.TheVariants.{Broke, Memory}
+use Rattle.remote_transfer.specs.Answers.{answer_of, landed_of}
+use Rattle.remote_transfer.specs.Attempts.{DialCause}
+use Rattle.remote_transfer.specs.declared.landing.Course.{Course}
+use Rattle.remote_transfer.specs.declared.landing.Course.TheVariants.{Waiting, Begun, Lost}
+use Rattle.remote_transfer.specs.Links.{Given, ReplyIs}
+use Rattle.remote_transfer.specs.Pieces.{PieceRead, PieceStops}
+use Rattle.remote_transfer.specs.Landings.{KeeperStays, LandsAt, CanLand, attempt_of, Lands, LandedCause, IsLanding, paired, received_of, LandsOr, ReceivedInto}
+use Rattle.remote_transfer.proofs.ByPieces.{Receiving, receiving-more, receiving-whole, receiving-memory, receiving-stops}
+
+pub stays-same : (keeper : KeeperView) → KeeperStays keeper keeper
+stays-same keeper = record {
+  files = record { known = λ k. k; became = λ k. refl };
+  puts = record { known = λ k. k; grew = λ k. sym (append-nil keeper.puts.value) };
+  fetches = record { known = λ k. k; grew = λ k. sym (append-nil keeper.fetches.value) };
+  overruns = omega arith;
+  faults = omega arith;
+}
+
+pub stays-then : (old mid new : KeeperView) → KeeperStays old mid → KeeperStays mid new → KeeperStays old new
+stays-then old mid new first second = record {
+  files = record { known = λ k. first.files.known (second.files.known k); became = λ k. second.files.became k ∙ first.files.became (second.files.known k) };
+  puts = Grew-then first.puts second.puts;
+  fetches = Grew-then first.fetches second.fetches;
+  overruns = omega (arith, first.overruns, second.overruns);
+  faults = omega (arith, first.faults, second.faults);
+}
+
+-- more bytes can land where some have
+pub can-land : (course : Course) (path object : List ℕ) (before : ℕ) (now : KeeperView) → LandsAt course path object before now → CanLand course now
+can-land Waiting path object before now at = at.0
+can-land Begun path object before now at = is-there now path object at
+can-land Lost path object before now at = at.0
+
+of_put : (put : Option PendingPut) → IsSome put → (path : List ℕ) × (bytes : List ℕ) × IsPutOf path bytes put
+of_put (Some put) some = (put.path, put.bytes.value, (refl, λ k. refl))
+of_put None some = absurd (search rules)
+
+-- a put that is pending still is after more bytes
+pub still-pending : (old new : KeeperView) (piece : List ℕ) → IsPending old → ((path bytes : List ℕ) → HasPending old path bytes → HasPending new path (bytes ++ piece)) → IsPending new
+still-pending old new piece pending added =
+    let z = of_put old.pending pending in
+    is-there new z.0 (z.1 ++ piece) (added z.0 z.1 z.2)
+
+-- no bytes change nothing
+pub lands-none : (course : Course) (path object bytes : List ℕ) (before : ℕ) (now : KeeperView) → bytes ≡ [] → LandsAt course path object before now → LandsAt course path (object ++ bytes) before now
+lands-none course path object bytes before now none at =
+    subst (λ (x : List ℕ). LandsAt course path x before now) (sym (ap (λ (x : List ℕ). object ++ x) none ∙ append-nil object)) at
+
+-- a count that rose after another moment rose after an earlier one
+pub rose-since : (before mid now : ℕ) → before ≤ mid → Rose mid now → Rose before now
+rose-since before mid now later rose = omega (arith, later, rose)
+
+pub lands-since : (course : Course) (path object : List ℕ) (before mid : ℕ) (now : KeeperView) → before ≤ mid → LandsAt course path object mid now → LandsAt course path object before now
+lands-since Waiting path object before mid now later at = at
+lands-since Begun path object before mid now later at = at
+lands-since Lost path object before mid now later at = (at.0, rose-since before mid now.faults later at.1)
+
+-- The object's bytes so far have come as far as the course says.
+pub record ReceivingInto (old now : LinkView) (place : Place) (have : ℕ) (course : Course) (path : List ℕ) (before keeper : KeeperView) : Type 0 where
+  pub object : List ℕ
+  pub receiving : Receiving old now place have object
+  pub lands : LandsAt course path object before.faults keeper
+
+pub lands-after : (result : Result Course Stop) (path bytes : List ℕ) (before mid : ℕ) (now : KeeperView) → before ≤ mid → IfOk result (λ next. LandsAt next path bytes mid now) → IfOk result (λ next. LandsAt next path bytes before now)
+lands-after (Ok course) path bytes before mid now later at = lands-since course path bytes before mid now later at
+lands-after (Err stop) path bytes before mid now later at = tt
+
+-- the first bytes
+pub land-waiting : (course : Course) (path object bytes : List ℕ) (before : ℕ) (old new : KeeperView) (result : Result Course Stop) → course ≡ Waiting → before ≤ old.faults → IfOk result (λ next. LandsAt next path bytes old.faults new)
+    → LandsAt course path object before old → IfOk result (λ next. LandsAt next path (object ++ bytes) before new)
+land-waiting course path object bytes before old new result is later lands at =
+    let here : LandsAt Waiting path object before old = subst (λ (c : Course). LandsAt c path object before old) is at in
+    subst (λ (x : List ℕ). IfOk result (λ next. LandsAt next path (x ++ bytes) before new)) (sym here.1) (lands-after result path bytes before old.faults new later lands)
+
+-- more bytes
+pub land-begun : (course : Course) (path object bytes : List ℕ) (before : ℕ) (old new : KeeperView) (result : Result Course Stop) → course ≡ Begun → before ≤ old.faults
+    → ((path object : List ℕ) → HasPending old path object → IfOk result (λ next. LandsAt next path (object ++ bytes) old.faults new))
+    → LandsAt course path object before old → IfOk result (λ next. LandsAt next path (object ++ bytes) before new)
+land-begun course path object bytes before old new result is later lands at =
+    let here : LandsAt Begun path object before old = subst (λ (c : Course). LandsAt c path object before old) is at in
+    lands-after result path (object ++ bytes) before old.faults new later (lands path object here)
+
+-- bytes after a fault
+pub land-lost : (course : Course) (path object bytes : List ℕ) (before : ℕ) (keeper : KeeperView) → course ≡ Lost → LandsAt course path object before keeper → LandsAt Lost path (object ++ bytes) before keeper
+land-lost course path object bytes before keeper is at = subst (λ (c : Course). LandsAt c path object before keeper) is at
+
+-- ---- the end of a whole reply
+
+pub settle-empty : (course : Course) (path object : List ℕ) (before : ℕ) (old new : KeeperView) → course ≡ Waiting → HasPending new path [] → LandsAt course path object before old → HasPending new path object
+settle-empty course path object before old new is begun at =
+    let here : LandsAt Waiting path object before old = subst (λ (c : Course). LandsAt c path object before old) is at in
+    subst (λ (x : List ℕ). HasPending new path x) (sym here.1) begun
+
+pub settle-same : (course other : Course) (path object : List ℕ) (before : ℕ) (keeper : KeeperView) → course ≡ other → LandsAt course path object before keeper → LandsAt other path object before keeper
+settle-same course other path object before keeper is at = subst (λ (c : Course). LandsAt c path object before keeper) is at
+
+-- what the keeper can do by the course
+pub can-by : (course other : Course) (keeper : KeeperView) → course ≡ other → CanLand course keeper → CanLand other keeper
+can-by course other keeper is can = subst (λ (c : Course). CanLand c keeper) is can
+
+-- ---- the answer of an attempt that lands its object
+
+pub same-answer : (talked : Result (Outcome × Landing) Stop) (object : List ℕ) → answer_of (received_of talked object) ≡ attempt_of (landed_of talked) object
+same-answer (Ok received) object = refl
+same-answer (Err (Broke cause)) object = refl
+same-answer (Err Memory) object = refl
+
+pub lands-answer : (talked : Result (Outcome × Landing) Stop) (path object : List ℕ) (before : ℕ) (now : KeeperView) → LandsOr talked path object before now → Lands (landed_of talked) path object before now
+lands-answer (Ok received) path object before now lands = lands
+lands-answer (Err (Broke cause)) path object before now lands = lands
+lands-answer (Err Memory) path object before now lands = lands
+
+pub landed-cause : (talked : Result (Outcome × Landing) Stop) (object : List ℕ) (before now : ℕ) → DialCause (answer_of (received_of talked object)) before now → LandedCause (landed_of talked) before now
+landed-cause (Ok received) object before now cause = cause
+landed-cause (Err (Broke Dial)) object before now cause = cause
+landed-cause (Err (Broke Send)) object before now cause = cause
+landed-cause (Err (Broke Recv)) object before now cause = cause
+landed-cause (Err (Broke (Truncated have))) object before now cause = cause
+landed-cause (Err (Broke (BadReply at fault))) object before now cause = cause
+landed-cause (Err (Broke Stopped)) object before now cause = cause
+landed-cause (Err Memory) object before now cause = cause
+
+-- ---- an object that is received
+
+pub into-stops : (old mid new : LinkView) (reader : Place) (have : ℕ) (course : Course) (path : List ℕ) (before keeper after : KeeperView) (stop : Stop) → ReceivingInto old mid reader have course path before keeper → PieceStops have reader mid new stop → ReceivedInto (Err stop) path old new before after
+into-stops old mid new reader have course path before keeper after stop into stops = record { object = into.object; given = receiving-stops old mid new reader have into.object stop into.receiving stops; lands = tt }
+
+pub into-memory : (old mid new : LinkView) (reader next : Place) (have : ℕ) (course : Course) (path : List ℕ) (before keeper after : KeeperView) (count : ℕ) (bytes : List ℕ) (outcome : Option Outcome) → ReceivingInto old mid reader have course path before keeper → PieceRead mid new reader next count bytes outcome → ReceivedInto (Err Memory) path old new before after
+into-memory old mid new reader next have course path before keeper after count bytes outcome into p = record { object = into.object; given = receiving-memory old mid new p.piece reader have into.object into.receiving p.grew p.ended p.still; lands = tt }
+
+pub into-more : (old mid new : LinkView) (reader next : Place) (have : ℕ) (course further : Course) (path : List ℕ) (before keeper after : KeeperView) (count : ℕ) (bytes : List ℕ) → ReceivingInto old mid reader have course path before keeper → before.faults ≤ keeper.faults → PieceRead mid new reader next count bytes None
+    → ((object : List ℕ) (since : ℕ) → since ≤ keeper.faults → LandsAt course path object since keeper → LandsAt further path (object ++ bytes) since after)
+    → ReceivingInto old new next (have + count) further path before after
+into-more old mid new reader next have course further path before keeper after count bytes into later p lands = record {
+  object = into.object ++ bytes;
+  receiving = receiving-more old mid new reader next have count into.object bytes into.receiving p;
+  lands = lands into.object before.faults later into.lands;
+}
+
+pub into-last : (old mid new : LinkView) (reader next : Place) (have : ℕ) (course : Course) (path : List ℕ) (before keeper after : KeeperView) (count : ℕ) (bytes : List ℕ) (o : Outcome) (landed : Result Landing Stop) → ReceivingInto old mid reader have course path before keeper → before.faults ≤ keeper.faults → PieceRead mid new reader next count bytes (Some o)
+    → ((object : List ℕ) (since : ℕ) → since ≤ keeper.faults → LandsAt course path object since keeper → (o.status ≢ 0 → object ++ bytes ≡ []) → IfOk landed (λ landing. IsLanding landing o path (object ++ bytes) since after))
+    → IfErr landed (λ stop. stop ≡ Memory) → ReceivedInto (paired o landed) path old new before after
+into-last old mid new reader next have course path before keeper after count bytes o (Ok landing) into later p lands memory =
+    let w = receiving-whole old mid new reader next have count into.object bytes o into.receiving p in
+    let spelled = w.1.is.0.1.spelled in
+    record { object = into.object ++ bytes; given = w.1; lands = (w.0, lands into.object before.faults later into.lands spelled.fits.failure) }
+into-last old mid new reader next have course path before keeper after count bytes o (Err stop) into later p lands memory = record {
+  object = into.object;
+  given = subst (λ (s : Stop). Given (ReplyIs (Err s) old new) old.given new.given) (sym memory) (receiving-memory old mid new p.piece reader have into.object into.receiving p.grew p.ended p.still);
+  lands = tt;
+}

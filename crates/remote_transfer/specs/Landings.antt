@@ -1,0 +1,123 @@
+-- Where the object of a reply lands.
+use Rattle.std.specs.Prelude.{◌≡◌, ◌≢◌, ℕ, ◌≤◌, List, [], Result, Ok, Err, IfOk}
+use Rattle.farm_types.specs.declared.request.Request.{Request}
+use Rattle.farm_types.specs.declared.hosts.Host.{Host}
+use Rattle.farm_types.specs.declared.ran.Outcome.{Outcome}
+use Rattle.edge_traits.specs.declared.entries.Exchange.{Exchange}
+use Rattle.edge_traits.specs.declared.cause.Cause.TheVariants.{Dial}
+use Rattle.edge_traits.specs.Told.{Told, Grew, Became}
+use Rattle.edge_traits.specs.Causes.{Rose, Still}
+use Rattle.edge_traits.specs.Links.{LinkView}
+use Rattle.edge_traits.specs.Keepers.{KeeperView, IsIdle, IsPending, HasPending}
+use Rattle.reply_stream.specs.Objects.{with_object}
+use Rattle.remote_transfer.specs.declared.answers.Attempt.{Attempt}
+use Rattle.remote_transfer.specs.declared.answers.Attempt.TheVariants as attempts
+use Rattle.remote_transfer.specs.declared.answers.Landing.{Landing}
+use Rattle.remote_transfer.specs.declared.answers.Landing.TheVariants.{Pending, Lost as LostObject, Nothing}
+use Rattle.remote_transfer.specs.declared.answers.Landed.{Landed}
+use Rattle.remote_transfer.specs.declared.answers.Landed.TheVariants as landeds
+use Rattle.remote_transfer.specs.declared.answers.Stop.{Stop}
+use Rattle.remote_transfer.specs.declared.answers.Stop.TheVariants.{Memory}
+use Rattle.remote_transfer.specs.declared.landing.Course.{Course}
+use Rattle.remote_transfer.specs.declared.landing.Course.TheVariants.{Waiting, Begun, Lost}
+use Rattle.remote_transfer.specs.Answers.{answer_of}
+use Rattle.remote_transfer.specs.Attempts.{ExchangeIs, EndsBy, AttemptAdds}
+use Rattle.remote_transfer.specs.Links.{Given, ReplyIs, IsFor, Passed}
+
+-- The keeper's files and entries are as they were, so it did no more than a put that isn't committed.
+pub record KeeperStays (old new : KeeperView) : Type 0 where
+  pub files : Became old.files new.files old.files.value
+  pub puts : Grew old.puts new.puts []
+  pub fetches : Grew old.fetches new.fetches []
+  pub overruns : old.overruns ≤ new.overruns
+  pub faults : old.faults ≤ new.faults
+
+-- where the object of a whole reply is, which has these bytes, after the keeper's count stood at before
+abbrev pub IsLanding : Landing → Outcome → List ℕ → List ℕ → ℕ → KeeperView → Type 0
+IsLanding Pending o path object before now = (o.status ≡ 0) × HasPending now path object
+IsLanding LostObject o path object before now = (o.status ≡ 0) × IsIdle now × Rose before now.faults
+IsLanding Nothing o path object before now = (o.status ≢ 0) × IsIdle now × (object ≡ [])
+
+-- the answer of an attempt whose outcome has this object
+abbrev pub attempt_of : Landed → List ℕ → Attempt
+attempt_of (landeds.Whole outcome landing) object = attempts.Whole (with_object outcome object)
+attempt_of (landeds.Broke cause) object = attempts.Broke cause
+attempt_of (landeds.Memory dialed) object = attempts.Memory dialed
+
+-- The outcome comes without its object, which is where the answer says. Without a whole reply no put is pending.
+abbrev pub Lands : Landed → List ℕ → List ℕ → ℕ → KeeperView → Type 0
+Lands (landeds.Whole outcome landing) path object before now = (outcome.object ≡ []) × IsLanding landing outcome path object before now
+Lands (landeds.Broke cause) path object before now = IsIdle now
+Lands (landeds.Memory dialed) path object before now = IsIdle now
+
+-- The exchange is that of an attempt whose outcome has an object, and this object is where the answer says.
+pub record LandedAdds (may_give : List ℕ → List ℕ → Type 0) (q : Request) (h : Host) (landed : Landed) (path : List ℕ) (old new : Told (List Exchange)) (before now : KeeperView) : Type 0 where
+  pub object : List ℕ
+  pub adds : AttemptAdds may_give q h (attempt_of landed object) old new
+  pub lands : Lands landed path object before.faults now
+
+-- A dial that failed goes with a rise of the dialer's count, and no other answer does.
+abbrev pub LandedCause : Landed → ℕ → ℕ → Type 0
+LandedCause (landeds.Broke Dial) before now = Rose before now
+LandedCause other before now = Still before now
+
+-- ---- the parts of such an attempt
+
+-- how far the object has come with these bytes, after the keeper's count stood at before
+abbrev pub LandsAt : Course → List ℕ → List ℕ → ℕ → KeeperView → Type 0
+LandsAt Waiting path object before now = IsIdle now × (object ≡ [])
+LandsAt Begun path object before now = HasPending now path object
+LandsAt Lost path object before now = IsIdle now × Rose before now.faults
+
+-- the keeper is ready for more bytes
+abbrev pub CanLand : Course → KeeperView → Type 0
+CanLand Waiting now = IsIdle now
+CanLand Begun now = IsPending now
+CanLand Lost now = IsIdle now
+
+-- where an object of status 0 is
+abbrev pub LandedAt : Landing → List ℕ → List ℕ → ℕ → KeeperView → Type 0
+LandedAt Pending path object before now = HasPending now path object
+LandedAt LostObject path object before now = IsIdle now × Rose before now.faults
+LandedAt Nothing path object before now = ⊥
+
+-- An `Err` is want of memory, and none is pending then.
+abbrev pub WantsMemory : {T : Type 0} → Result T Stop → KeeperView → Type 0
+WantsMemory (Ok done) now = Unit {0}
+WantsMemory (Err stop) now = (stop ≡ Memory) × IsIdle now
+
+-- an outcome with where its object is
+abbrev pub paired : Outcome → Result Landing Stop → Result (Outcome × Landing) Stop
+paired outcome (Ok landing) = Ok (outcome, landing)
+paired outcome (Err stop) = Err stop
+
+-- what was received, with this object
+abbrev pub received_of : Result (Outcome × Landing) Stop → List ℕ → Result Outcome Stop
+received_of (Ok received) object = Ok (with_object received.0 object)
+received_of (Err stop) object = Err stop
+
+abbrev pub LandsIf : Result (Outcome × Landing) Stop → List ℕ → List ℕ → ℕ → KeeperView → Type 0
+LandsIf (Ok received) path object before now = (received.0.object ≡ []) × IsLanding received.1 received.0 path object before now
+LandsIf (Err stop) path object before now = Unit {0}
+
+-- A reply was received, and its object is where the result says. Where it isn't whole, a put may be pending.
+pub record ReceivedInto (result : Result (Outcome × Landing) Stop) (path : List ℕ) (old new : LinkView) (before now : KeeperView) : Type 0 where
+  pub object : List ℕ
+  pub given : Given (ReplyIs (received_of result object) old new) old.given new.given
+  pub lands : LandsIf result path object before.faults now
+
+-- the same, with no put pending where the reply isn't whole
+abbrev pub LandsOr : Result (Outcome × Landing) Stop → List ℕ → List ℕ → ℕ → KeeperView → Type 0
+LandsOr (Ok received) path object before now = (received.0.object ≡ []) × IsLanding received.1 received.0 path object before now
+LandsOr (Err stop) path object before now = IsIdle now
+
+pub record LandsInto (result : Result (Outcome × Landing) Stop) (path : List ℕ) (old new : LinkView) (before now : KeeperView) : Type 0 where
+  pub object : List ℕ
+  pub given : Given (ReplyIs (received_of result object) old new) old.given new.given
+  pub lands : LandsOr result path object before.faults now
+
+-- what passed over a link is what an attempt says of it whose outcome has an object, and this object is where the answer says
+pub record PassedInto (result : Result (Outcome × Landing) Stop) (path text : List ℕ) (old new : LinkView) (before now : KeeperView) : Type 0 where
+  pub object : List ℕ
+  pub passed : (q : Request) (h : Host) → IsFor q h text old → Passed old new (λ x. ExchangeIs q h (answer_of (received_of result object)) x × EndsBy (answer_of (received_of result object)) x)
+  pub lands : LandsOr result path object before.faults now
