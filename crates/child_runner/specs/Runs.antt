@@ -17,12 +17,12 @@ IsUnpreprocessed other = ⊥
 
 -- the most bytes of what a preprocessor gives
 abbrev pub preprocessor_bounds : Bounds
-preprocessor_bounds = record { out = 41943040; err = 1048576; object = 0 }
+preprocessor_bounds = record { out = 41943040; err = 1048576; object = 33554432 }
 
 -- the most bytes of what a compile gives
 abbrev pub compile_bounds : Bounds
 compile_bounds = record { out = 1048576; err = 1048576; object = 33554432 }
 
--- the most bytes of what a command in place gives: its files are its own
+-- the most bytes of what a command in place gives
 abbrev pub in_place_bounds : Bounds
-in_place_bounds = record { out = 8388608; err = 1048576; object = 0 }
+in_place_bounds = record { out = 8388608; err = 1048576; object = 33554432 }

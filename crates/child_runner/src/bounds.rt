@@ -11,7 +11,7 @@ use farm_types::limits::{
 pub(crate) const PREPROCESSOR: Bounds = Bounds {
     out: PREPROCESSED_MAX,
     err: CHILD_ERR_MAX,
-    object: 0,
+    object: OBJECT_MAX as u32,
 };
 
 /// Of a compile.
@@ -25,5 +25,5 @@ pub(crate) const COMPILE: Bounds = Bounds {
 pub(crate) const IN_PLACE: Bounds = Bounds {
     out: IN_PLACE_OUT_MAX,
     err: CHILD_ERR_MAX,
-    object: 0,
+    object: OBJECT_MAX as u32,
 };

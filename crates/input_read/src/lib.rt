@@ -1,7 +1,8 @@
 //! Reads an input to its end, or to a limit.
 #![tactic(auto)]
 
-ghost use Rattle.std.specs.Prelude.{◌≡◌, ◌<◌, false, IfOk};
+ghost use Rattle.std.specs.Prelude.{◌≡◌, ◌<◌, false, IfOk, OnErr};
+ghost use Rattle.edge_traits.specs.Causes.{Still};
 ghost use Rattle.input_read.specs.Reads.{HasRead, HasReadSome};
 
 use edge_traits::{EdgeFault, Source};
@@ -16,7 +17,8 @@ pub enum Input {
     Unread,
 }
 
-/// Reads the input to its end, until it has given so many bytes, or until its count rose.
+/// Reads the input to its end, until it has given so many bytes, or until its count rose. It wants memory only where that
+/// count stands still.
 pub fn read_input<R: Source>(
     alloc: Global,
     source: &mut R,
@@ -24,6 +26,7 @@ pub fn read_input<R: Source>(
 ) -> Result<Input, AllocError>
     requires { (R.shows source.old).ended ≡ false }
     ensures read { IfOk result (λ input. HasRead limit input (R.shows source.old) (R.shows source.new)) }
+    ensures memory { OnErr result (Still (R.shows source.old).faults (R.shows source.new).faults) }
     ensures some { HasReadSome (R.shows source.old) (R.shows source.new) }
 {
     let mut room = [0; 512];

@@ -6,8 +6,8 @@ use Rattle.stream_print.specs.declared.one.PrintStop.{PrintStop}
 use Rattle.stream_print.specs.declared.one.PrintStop.TheVariants.{Stopped, Memory}
 use Rattle.stream_print.specs.declared.pieces.SinkKind.TheVariants.{Err as ErrSink}
 use Rattle.stream_print.specs.declared.pieces.Piece.{Piece}
-use Rattle.stream_print.specs.Prints.{SinksView, Printed, PrintedPart, DidStop, Later, cut}
-use Rattle.stream_print.proofs.PrintLemmas.{Printed-join, Printed-err, part_of_one, DidStopOn-after}
+use Rattle.stream_print.specs.Prints.{SinksView, Printed, PrintedPart, GoesOn, DidStop, Later, cut}
+use Rattle.stream_print.proofs.PrintLemmas.{Printed-join, Printed-err, goes-same, part_of_one, DidStopOn-after}
 use Rattle.stream_print.specs.Ends.{complaint, WantTold, told_whole, told_stopped, told_wanted, WantOf, Ends, PrintedFront, all_printed, memory_wanted}
 
 -- the text for want of memory was printed whole
@@ -33,8 +33,8 @@ want_after pieces status a b c answer part later want =
     memory_wanted (inr (part.next, part.part)) (record { told = want.told; printed = Printed-join part.printed want.printed; end = WantTold-after a b c answer later want.end })
 
 -- a part of one text on the sink of errors
-pub complaint_part : (text : List ℕ) (stop : PrintStop) (out old new : SinkView) → (n : ℕ) × (n < length text) × Grew old.written new.written (take n text) → (stop ≡ Stopped → DidStop old new) → PrintedPart (complaint text ∷ []) stop (record { out = out; err = old }) (record { out = out; err = new })
-complaint_part text stop out old new part stopped = record { done = complaint (take part.0 text) ∷ []; next = complaint text; part = part_of_one (complaint text) part.0 part.1; printed = Printed-err part.2 refl; stopped = stopped }
+pub complaint_part : (text : List ℕ) (stop : PrintStop) (out old new : SinkView) → (n : ℕ) × (n < length text) × Grew old.written new.written (take n text) → (stop ≡ Stopped → DidStop old new) → (stop ≡ Memory → GoesOn old new) → PrintedPart (complaint text ∷ []) stop (record { out = out; err = old }) (record { out = out; err = new })
+complaint_part text stop out old new part stopped memory = record { done = complaint (take part.0 text) ∷ []; next = complaint text; part = part_of_one (complaint text) part.0 part.1; printed = Printed-err part.2 refl; stopped = stopped; memory = λ is. record { out = goes-same out; err = memory is } }
 
 pub complaint_whole : {notice : List ℕ} (text : List ℕ) (status : ℕ) (out old new : SinkView) → Grew old.written new.written text → Ends notice (complaint text ∷ []) status (record { out = out; err = old }) (record { out = out; err = new }) status
 complaint_whole text status out old new grew = all_printed (Printed-err grew refl) refl
@@ -50,7 +50,7 @@ want_front pieces status a b c answer front later want =
 
 -- a part of some texts is a front of them
 pub front_of_part : {stop : PrintStop} (pieces : List Piece) (a b : SinksView) → PrintedPart pieces stop a b → PrintedFront pieces stop a b
-front_of_part pieces a b part = record { done = part.done; front = inr (part.next, part.part); printed = part.printed; stopped = λ is. record { done = part.done; next = part.next; part = part.part; printed = part.printed; stopped = λ same. part.stopped is } }
+front_of_part pieces a b part = record { done = part.done; front = inr (part.next, part.part); printed = part.printed; stopped = λ is. record { done = part.done; next = part.next; part = part.part; printed = part.printed; stopped = λ same. part.stopped is; memory = λ other. absurd (cc) } }
 
 -- some first texts were printed, and then memory was wanting
 pub front_whole : {pieces done : List Piece} {a b : SinksView} (rest : List Piece) → done ++ rest ≡ pieces → Printed a b done → PrintedFront pieces Memory a b

@@ -5,13 +5,13 @@ use Rattle.std.proofs.lemmas.List.{append-nil, take-append-drop}
 use Rattle.edge_traits.specs.Told.{Grew}
 use Rattle.edge_traits.specs.Causes.{Rose}
 use Rattle.edge_traits.specs.Sinks.{SinkView}
-use Rattle.stream_print.specs.declared.one.PrintStop.TheVariants.{Stopped}
+use Rattle.stream_print.specs.declared.one.PrintStop.TheVariants.{Stopped, Memory}
 use Rattle.edge_traits.proofs.ToldLemmas.{Grew-join, Grew-refl, Grew-by}
 use Rattle.stream_print.specs.declared.one.PrintStop.{PrintStop}
 use Rattle.stream_print.specs.declared.pieces.SinkKind.{SinkKind}
 use Rattle.stream_print.specs.declared.pieces.SinkKind.TheVariants.{Out, Err as ErrSink}
 use Rattle.stream_print.specs.declared.pieces.Piece.{Piece}
-use Rattle.stream_print.specs.Prints.{SinksView, Printed, PrintedPart, IsPart, Later, DidStop, DidStopOn, out_bytes, err_bytes, for_out, for_err, cut}
+use Rattle.stream_print.specs.Prints.{SinksView, Printed, PrintedPart, IsPart, Later, GoesOn, BothGoOn, DidStop, DidStopOn, out_bytes, err_bytes, for_out, for_err, cut}
 
 pub out_bytes-append : (a b : List Piece) → out_bytes a ++ out_bytes b ≡ out_bytes (a ++ b)
 out_bytes-append [] b = refl
@@ -78,14 +78,27 @@ Later-refl a = record { out = omega arith; err = omega arith }
 pub Later-join : {a b c : SinksView} → Later a b → Later b c → Later a c
 Later-join first second = record { out = omega arith; err = omega arith }
 
+pub goes-join : {a b c : SinksView} → BothGoOn a b → BothGoOn b c → BothGoOn a c
+goes-join first second = record {
+  out = record { faults = second.out.faults ∙ first.out.faults; stopped = second.out.stopped ∙ first.out.stopped };
+  err = record { faults = second.err.faults ∙ first.err.faults; stopped = second.err.stopped ∙ first.err.stopped };
+}
+
+pub goes-same : (a : SinkView) → GoesOn a a
+goes-same a = record { faults = refl; stopped = refl }
+
+pub goes-later : {a b : SinksView} → BothGoOn a b → Later a b
+goes-later both = record { out = omega (arith, both.out.faults); err = omega (arith, both.err.faults) }
+
 -- a part, after some whole pieces
-pub PrintedPart-after : {stop : PrintStop} {pieces : List Piece} {a b c : SinksView} (before after all : List Piece) → before ++ (pieces ++ after) ≡ all → Printed a b before → Later a b → PrintedPart pieces stop b c → PrintedPart all stop a c
-PrintedPart-after {a = a} {b = b} {c = c} before after all are printed later part = record {
+pub PrintedPart-after : {stop : PrintStop} {pieces : List Piece} {a b c : SinksView} (before after all : List Piece) → before ++ (pieces ++ after) ≡ all → Printed a b before → Later a b → (stop ≡ Memory → BothGoOn a b) → PrintedPart pieces stop b c → PrintedPart all stop a c
+PrintedPart-after {a = a} {b = b} {c = c} before after all are printed later goes part = record {
   done = before ++ part.done;
   next = part.next;
   part = subst (λ ps. IsPart ps (before ++ part.done) part.next) are (IsPart-after before after part.part);
   printed = Printed-join printed part.printed;
   stopped = λ stop. DidStopOn-after part.next.sink a b c later (part.stopped stop);
+  memory = λ is. goes-join (goes is) (part.memory is);
 }
 
 -- one more
@@ -98,26 +111,28 @@ around pieces i piece within is =
     ap (λ p. take i pieces ++ (p ∷ drop (suc i) pieces)) is ∙ ap (λ ps. take i pieces ++ ps) (sym (drop-cons pieces i piece within)) ∙ take-append-drop i pieces
 
 module _ {T : Type 0} (result : Result T PrintStop) (piece : Piece) (bytes : List ℕ) (same : bytes ≡ piece.bytes) where
-  pub out_part : (old new err : SinkView) → piece.sink ≡ Out → OnErr result ((n : ℕ) × (n < length bytes) × Grew old.written new.written (take n bytes)) → (IsErrOf result Stopped → DidStop old new) → IfErr result (λ stop. PrintedPart (piece ∷ []) stop (record { out = old; err = err }) (record { out = new; err = err }))
-  out_part old new err on part stop = elim result as (λ r. OnErr r ((n : ℕ) × (n < length bytes) × Grew old.written new.written (take n bytes)) → (IsErrOf r Stopped → DidStop old new) → IfErr r (λ stop. PrintedPart (piece ∷ []) stop (record { out = old; err = err }) (record { out = new; err = err }))) [
-    | Ok x ↦ λ p s. tt
-    | Err e ↦ λ p s. record {
+  pub out_part : (old new err : SinkView) → piece.sink ≡ Out → OnErr result ((n : ℕ) × (n < length bytes) × Grew old.written new.written (take n bytes)) → (IsErrOf result Stopped → DidStop old new) → (IsErrOf result Memory → GoesOn old new) → IfErr result (λ stop. PrintedPart (piece ∷ []) stop (record { out = old; err = err }) (record { out = new; err = err }))
+  out_part old new err on part stop memory = elim result as (λ r. OnErr r ((n : ℕ) × (n < length bytes) × Grew old.written new.written (take n bytes)) → (IsErrOf r Stopped → DidStop old new) → (IsErrOf r Memory → GoesOn old new) → IfErr r (λ stop. PrintedPart (piece ∷ []) stop (record { out = old; err = err }) (record { out = new; err = err }))) [
+    | Ok x ↦ λ p s m. tt
+    | Err e ↦ λ p s m. record {
       done = cut p.0 piece ∷ [];
       next = piece;
       part = part_of_one piece p.0 (subst (λ b. p.0 < length b) same p.1);
       printed = subst (λ o. Printed (record { out = old; err = err }) (record { out = new; err = err }) (record { sink = o; bytes = take p.0 piece.bytes } ∷ [])) (sym on) (Printed-out (subst (λ b. Grew old.written new.written (take p.0 b)) same p.2) refl);
       stopped = λ stop. subst (λ o. DidStopOn o (record { out = old; err = err }) (record { out = new; err = err })) (sym on) (s (ap (λ e. Err e) stop));
+      memory = λ is. record { out = m (ap (λ e. Err e) is); err = goes-same err };
     }
-  ] part stop
+  ] part stop memory
 
-  pub err_part : (old new out : SinkView) → piece.sink ≡ ErrSink → OnErr result ((n : ℕ) × (n < length bytes) × Grew old.written new.written (take n bytes)) → (IsErrOf result Stopped → DidStop old new) → IfErr result (λ stop. PrintedPart (piece ∷ []) stop (record { out = out; err = old }) (record { out = out; err = new }))
-  err_part old new out on part stop = elim result as (λ r. OnErr r ((n : ℕ) × (n < length bytes) × Grew old.written new.written (take n bytes)) → (IsErrOf r Stopped → DidStop old new) → IfErr r (λ stop. PrintedPart (piece ∷ []) stop (record { out = out; err = old }) (record { out = out; err = new }))) [
-    | Ok x ↦ λ p s. tt
-    | Err e ↦ λ p s. record {
+  pub err_part : (old new out : SinkView) → piece.sink ≡ ErrSink → OnErr result ((n : ℕ) × (n < length bytes) × Grew old.written new.written (take n bytes)) → (IsErrOf result Stopped → DidStop old new) → (IsErrOf result Memory → GoesOn old new) → IfErr result (λ stop. PrintedPart (piece ∷ []) stop (record { out = out; err = old }) (record { out = out; err = new }))
+  err_part old new out on part stop memory = elim result as (λ r. OnErr r ((n : ℕ) × (n < length bytes) × Grew old.written new.written (take n bytes)) → (IsErrOf r Stopped → DidStop old new) → (IsErrOf r Memory → GoesOn old new) → IfErr r (λ stop. PrintedPart (piece ∷ []) stop (record { out = out; err = old }) (record { out = out; err = new }))) [
+    | Ok x ↦ λ p s m. tt
+    | Err e ↦ λ p s m. record {
       done = cut p.0 piece ∷ [];
       next = piece;
       part = part_of_one piece p.0 (subst (λ b. p.0 < length b) same p.1);
       printed = subst (λ o. Printed (record { out = out; err = old }) (record { out = out; err = new }) (record { sink = o; bytes = take p.0 piece.bytes } ∷ [])) (sym on) (Printed-err (subst (λ b. Grew old.written new.written (take p.0 b)) same p.2) refl);
       stopped = λ stop. subst (λ o. DidStopOn o (record { out = out; err = old }) (record { out = out; err = new })) (sym on) (s (ap (λ e. Err e) stop));
+      memory = λ is. record { out = goes-same out; err = m (ap (λ e. Err e) is) };
     }
-  ] part stop
+  ] part stop memory

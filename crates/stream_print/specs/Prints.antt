@@ -1,10 +1,10 @@
 -- What two sinks got.
 use Rattle.std.specs.Prelude.{◌≡◌, ◌⊎◌, ℕ, ◌<◌, ◌≤◌, true, List, [], ◌∷◌, ◌++◌, length, take}
 use Rattle.edge_traits.specs.Told.{Grew}
-use Rattle.edge_traits.specs.Causes.{Rose}
+use Rattle.edge_traits.specs.Causes.{Rose, Still}
 use Rattle.edge_traits.specs.Sinks.{SinkView}
 use Rattle.stream_print.specs.declared.one.PrintStop.{PrintStop}
-use Rattle.stream_print.specs.declared.one.PrintStop.TheVariants.{Stopped}
+use Rattle.stream_print.specs.declared.one.PrintStop.TheVariants.{Stopped, Memory}
 use Rattle.stream_print.specs.declared.pieces.SinkKind.{SinkKind}
 use Rattle.stream_print.specs.declared.pieces.SinkKind.TheVariants.{Out, Err as ErrSink}
 use Rattle.stream_print.specs.declared.pieces.Piece.{Piece}
@@ -44,6 +44,15 @@ pub record Later (old new : SinksView) : Type 0 where
   pub out : old.out.faults ≤ new.out.faults
   pub err : old.err.faults ≤ new.err.faults
 
+-- the sink's count stands still, and no write took 0 bytes
+pub record GoesOn (old new : SinkView) : Type 0 where
+  pub faults : Still old.faults new.faults
+  pub stopped : new.stopped ≡ old.stopped
+
+pub record BothGoOn (old new : SinksView) : Type 0 where
+  pub out : GoesOn old.out new.out
+  pub err : GoesOn old.err new.err
+
 -- the sink's count rose, or it took 0 bytes
 abbrev pub DidStop : SinkView → SinkView → Type 0
 DidStop old new = Rose old.faults new.faults ⊎ (new.stopped ≡ true)
@@ -65,10 +74,11 @@ pub record IsPart (pieces done : List Piece) (next : Piece) : Type 0 where
   pub within : count < length next.bytes
   pub cut_short : done ≡ first ++ cut count next ∷ []
 
--- The sinks got a part of the pieces. Where the printing stopped, it was because the next piece's sink did.
+-- The sinks got a part of the pieces. Where the printing stopped, it was because the next piece's sink did; where memory was wanting, neither had.
 pub record PrintedPart (pieces : List Piece) (stop : PrintStop) (old new : SinksView) : Type 0 where
   pub done : List Piece
   pub next : Piece
   pub part : IsPart pieces done next
   pub printed : Printed old new done
   pub stopped : stop ≡ Stopped → DidStopOn next.sink old new
+  pub memory : stop ≡ Memory → BothGoOn old new

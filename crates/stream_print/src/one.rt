@@ -1,8 +1,8 @@
 //! One text on one sink.
 
-ghost use Rattle.std.specs.Prelude.{◌≡◌, ℕ, ◌<◌, ◌≤◌, length, take, OnOk, OnErr, IsErrOf};
+ghost use Rattle.std.specs.Prelude.{ℕ, ◌<◌, ◌≤◌, length, take, OnOk, OnErr, IsErrOf};
 ghost use Rattle.edge_traits.specs.Told.{Grew};
-ghost use Rattle.stream_print.specs.Prints.{DidStop};
+ghost use Rattle.stream_print.specs.Prints.{GoesOn, DidStop};
 
 use edge_traits::{EdgeFault, Sink};
 
@@ -22,7 +22,8 @@ pub fn print<W: Sink>(sink: &mut W, bytes: &[u8]) -> Result<(), PrintStop>
         × Grew (W.shows sink.old).written (W.shows sink.new).written (take n bytes.now)) }
     ensures later { (W.shows sink.old).faults ≤ (W.shows sink.new).faults }
     ensures stopped { IsErrOf result PrintStop.Stopped → DidStop (W.shows sink.old) (W.shows sink.new) }
-    ensures goes_on { OnOk result ((W.shows sink.new).stopped ≡ (W.shows sink.old).stopped) }
+    ensures goes_on { OnOk result (GoesOn (W.shows sink.old) (W.shows sink.new)) }
+    ensures memory { IsErrOf result PrintStop.Memory → GoesOn (W.shows sink.old) (W.shows sink.new) }
 {
     let mut done = 0;
     'printing: while done < bytes.len() {

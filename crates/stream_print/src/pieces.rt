@@ -1,7 +1,7 @@
 //! Texts for two sinks, in order.
 
 ghost use Rattle.std.specs.Prelude.{[], ◌∷◌, OnOk, IfErr};
-ghost use Rattle.stream_print.specs.Prints.{sinks_view, Printed, PrintedPart, Later};
+ghost use Rattle.stream_print.specs.Prints.{sinks_view, Printed, PrintedPart, BothGoOn, Later};
 
 use crate::{PrintStop, print};
 use edge_traits::Sink;
@@ -32,6 +32,8 @@ pub fn print_piece<O: Sink, E: Sink>(
     ensures part { IfErr result (λ stop. PrintedPart (piece.now ∷ []) stop
         (sinks_view O.shows E.shows out.old err.old)
         (sinks_view O.shows E.shows out.new err.new)) }
+    ensures goes_on { OnOk result (BothGoOn (sinks_view O.shows E.shows out.old err.old)
+        (sinks_view O.shows E.shows out.new err.new)) }
     ensures later { Later (sinks_view O.shows E.shows out.old err.old)
         (sinks_view O.shows E.shows out.new err.new) }
 {
@@ -52,6 +54,8 @@ pub fn print_all<O: Sink, E: Sink>(
         (sinks_view O.shows E.shows out.new err.new) pieces.now) }
     ensures part { IfErr result (λ stop. PrintedPart pieces.now stop
         (sinks_view O.shows E.shows out.old err.old)
+        (sinks_view O.shows E.shows out.new err.new)) }
+    ensures goes_on { OnOk result (BothGoOn (sinks_view O.shows E.shows out.old err.old)
         (sinks_view O.shows E.shows out.new err.new)) }
     ensures later { Later (sinks_view O.shows E.shows out.old err.old)
         (sinks_view O.shows E.shows out.new err.new) }

@@ -1,4 +1,5 @@
 use Rattle.std.proofs.Common.{◌≡◌, ◌≤◌, ◌-◌, false, length}
+use Rattle.edge_traits.specs.Causes.{Still}
 use Rattle.input_read.specs.Reads.{TookIn}
 use Rattle.input_read.proofs.read_input.Given as goal
 
@@ -10,6 +11,7 @@ invariant-reading g l =
       took : TookIn old now l.got;
       within : length l.got ≤ l.limit;
       ended : now.ended ≡ false;
+      still : Still old.faults now.faults;
     }
 
 abbrev pub decreases-reading : goal.decreases-reading

@@ -1,4 +1,4 @@
-use Rattle.std.proofs.Common.{arith}
+use Rattle.std.proofs.Common.{◌∙◌, arith}
 use Rattle.std.proofs.lemmas.Grind.{common_steps}
 use Rattle.std.proofs.lemmas.Bool.Decides.{nat_tests}
 use Rattle.std.proofs.Math.Seq.{take-add}
@@ -12,6 +12,8 @@ printing-preserved g c =
     record {
       within = grind (arith, common_steps, after.bound);
       written = Grew-join before.written after.written (grind (arith, common_steps, take-add));
-      later = grind (arith, after.cause.later);
-      goes_on = grind (arith, common_steps, nat_tests, after.stopped, before.goes_on);
+      goes_on = record {
+        faults = after.cause.done ∙ before.goes_on.faults;
+        stopped = grind (arith, common_steps, nat_tests, after.stopped, before.goes_on.stopped);
+      };
     }

@@ -1,5 +1,6 @@
-use Rattle.std.proofs.Common.{◌≡◌, ◌≤◌, ◌-◌, length, take}
+use Rattle.std.proofs.Common.{◌≤◌, ◌-◌, length, take}
 use Rattle.edge_traits.specs.Told.{Grew}
+use Rattle.stream_print.specs.Prints.{GoesOn}
 use Rattle.stream_print.proofs.one.print.Given as goal
 
 abbrev pub invariant-printing : goal.invariant-printing
@@ -9,8 +10,7 @@ invariant-printing g l =
     record {
       within : l.done ≤ length l.bytes;
       written : Grew old.written now.written (take l.done l.bytes);
-      later : old.faults ≤ now.faults;
-      goes_on : now.stopped ≡ old.stopped;
+      goes_on : GoesOn old now;
     }
 
 abbrev pub decreases-printing : goal.decreases-printing

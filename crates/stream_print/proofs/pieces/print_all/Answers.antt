@@ -1,6 +1,6 @@
 use Rattle.std.proofs.Common.{take, drop, suc, subst}
 use Rattle.stream_print.specs.Prints.{sinks_view, Printed}
-use Rattle.stream_print.proofs.PrintLemmas.{Printed-join, PrintedPart-after, Later-join, around, take_more}
+use Rattle.stream_print.proofs.PrintLemmas.{Printed-join, PrintedPart-after, goes-later, goes-join, around, take_more}
 use Rattle.stream_print.proofs.pieces.print_all.Goals as goal
 
 pub returns-in-Err-clause-part : goal.returns-in-Err-clause-part
@@ -8,7 +8,7 @@ returns-in-Err-clause-part g c =
     let i = c.loop-piece.piece-index in
     PrintedPart-after (take i c.args.pieces.now) (drop (suc i) c.args.pieces.now) c.args.pieces.now
     (around c.args.pieces.now i c.piece-item.result c.loop-piece-test.true c.piece-item.is)
-    c.loop-piece.invariant.printed c.loop-piece.invariant.later c.in-Err.ensures.part
+    c.loop-piece.invariant.printed (goes-later c.loop-piece.invariant.goes_on) (λ is. c.loop-piece.invariant.goes_on) c.in-Err.ensures.part
 
 pub loop-piece-preserved : goal.loop-piece-preserved
 loop-piece-preserved g c =
@@ -17,5 +17,5 @@ loop-piece-preserved g c =
       printed = subst (λ ps. Printed (sinks_view g.O.Sink.shows g.E.Sink.shows c.args.out.now c.args.err.now) (sinks_view g.O.Sink.shows g.E.Sink.shows c.print_piece.new.out c.print_piece.new.err) ps)
           (take_more c.args.pieces.now i c.piece-item.result c.loop-piece-test.true c.piece-item.is)
           (Printed-join c.loop-piece.invariant.printed c.in-Ok.ensures.all);
-      later = Later-join c.loop-piece.invariant.later c.in-Ok.ensures.later;
+      goes_on = goes-join c.loop-piece.invariant.goes_on c.in-Ok.ensures.goes_on;
     }

@@ -1,5 +1,5 @@
 use Rattle.std.proofs.Common.{take}
-use Rattle.stream_print.specs.Prints.{sinks_view, Printed, Later}
+use Rattle.stream_print.specs.Prints.{sinks_view, Printed, BothGoOn}
 use Rattle.stream_print.proofs.pieces.print_all.Given as goal
 
 abbrev pub invariant-loop-piece : goal.invariant-loop-piece
@@ -8,5 +8,5 @@ invariant-loop-piece g l =
     let now = sinks_view g.O.Sink.shows g.E.Sink.shows l.out l.err in
     record {
       printed : Printed old now (take l.piece-index l.pieces);
-      later : Later old now;
+      goes_on : BothGoOn old now;
     }
