@@ -12,13 +12,34 @@ use sample::Sample;
 use std::env;
 use std::rt::Runtime;
 
-const TASKS: [(&str, Task); 6] = [
+const TASKS: [(&str, Task); 9] = [
     ("encode a request", Task::EncodeRequest),
     ("encode a reply", Task::EncodeReply),
     ("decode a reply", Task::Decode),
-    ("feed in pieces of 65,536 bytes", Task::Feed(Piece::Large)),
-    ("feed in pieces of 1,460 bytes", Task::Feed(Piece::Packet)),
-    ("feed in pieces of 1 byte", Task::Feed(Piece::Byte)),
+    (
+        "feed a request in pieces of 65,536 bytes",
+        Task::Feed(Piece::Large),
+    ),
+    (
+        "feed a request in pieces of 1,460 bytes",
+        Task::Feed(Piece::Packet),
+    ),
+    (
+        "feed a request in pieces of 1 byte",
+        Task::Feed(Piece::Byte),
+    ),
+    (
+        "feed a reply in pieces of 65,536 bytes",
+        Task::FeedReply(Piece::Large),
+    ),
+    (
+        "feed a reply in pieces of 1,460 bytes",
+        Task::FeedReply(Piece::Packet),
+    ),
+    (
+        "feed a reply in pieces of 1 byte",
+        Task::FeedReply(Piece::Byte),
+    ),
 ];
 
 fn wants_measuring<R: Runtime>(rt: &R) -> anyhow::Result<bool> {

@@ -6,6 +6,7 @@ use crate::sample::Sample;
 use compile_reply::Reply;
 use compile_request::{RequestReader, Step};
 use farm_types::Bytes;
+use reply_stream::{Part, ReplyReader};
 use std::alloc::Global;
 use std::rt::Runtime;
 use std::time::Instant;
@@ -27,6 +28,7 @@ pub enum Task {
     EncodeReply,
     Decode,
     Feed(Piece),
+    FeedReply(Piece),
 }
 
 /// Microseconds of the fastest round.
@@ -49,18 +51,37 @@ impl Times {
     }
 }
 
+/// How many bytes a piece has.
+fn len_of(piece: Piece) -> usize
+    ensures { 0 < result }
+{
+    match piece {
+        Piece::Large => 65_536,
+        Piece::Packet => 1_460,
+        Piece::Byte => 1,
+    }
+}
+
 fn feed(alloc: Global, text: &[u8], piece: Piece) -> bool {
     let mut reader = RequestReader::new(alloc);
-    let pieces = match piece {
-        Piece::Large => text.chunks(65_536),
-        Piece::Packet => text.chunks(1_460),
-        Piece::Byte => text.chunks(1),
-    };
-    for piece in pieces {
+    for piece in text.chunks(len_of(piece)) {
         if reader.is_spent() {
             return false;
         }
         if let Step::Whole { .. } = reader.feed(piece) {
+            return true;
+        }
+    }
+    false
+}
+
+fn feed_reply(alloc: Global, text: &[u8], piece: Piece) -> bool {
+    let mut reader = ReplyReader::new(alloc);
+    for piece in text.chunks(len_of(piece)) {
+        if reader.is_spent() {
+            return false;
+        }
+        if let Part::Whole { .. } = reader.feed(piece) {
             return true;
         }
     }
@@ -83,6 +104,7 @@ fn run(alloc: Global, task: Task, sample: &Sample) -> bool {
             Reply::Whole { .. }
         ),
         Task::Feed(piece) => feed(alloc, sample.request_text.as_slice(), piece),
+        Task::FeedReply(piece) => feed_reply(alloc, sample.reply_text.as_slice(), piece),
     }
 }
 
