@@ -95,6 +95,25 @@ fn answers(rt: HostRuntime) -> Result<(), Fail> {
             }
             Err(_) => return Err("the run went well".into()),
         }
+        let runs = station.into_runs().into_items(alloc)?;
+        assert_eq!(rt; runs.len(), 1, "{line}");
+    }
+    Ok(())
+}
+
+#[test]
+fn a_preprocessor_gives_at_most_its_limit(rt: HostRuntime) -> Result<(), Fail> {
+    let alloc = rt.alloc();
+    for len in [41_943_040, 41_943_041] {
+        let out = vec![in alloc; b'x'; len]?;
+        let mut station = station(alloc, ran(alloc, 0, &out, b"", b"")?, false)?;
+        match run(alloc, Call::Preprocess, "scc -c x.c", &mut station)? {
+            Ok(ran) => assert_eq!(rt; (len, ran.out.len()), (41_943_040, 41_943_040)),
+            Err(StationFault::TooMuch { bytes, .. }) => {
+                assert_eq!(rt; (len, bytes), (41_943_041, 41_943_041));
+            }
+            Err(_) => return Err("the output is as long as it is".into()),
+        }
     }
     Ok(())
 }

@@ -2,7 +2,7 @@ use super::*;
 use farm_types::{Bytes, Outcome};
 use std::alloc::Global;
 use std::test::Fail;
-use wire_tokens::{DONE, ReplyFault, SERR, STAT, Which, push_body, push_token};
+use wire_tokens::{DONE, DOTO, ReplyFault, SERR, SOUT, STAT, Which, push_body, push_token};
 
 /// What a text in pieces came to.
 #[derive(Clone, Copy, Debug, PartialEq, Eq)]
@@ -273,5 +273,30 @@ fn reads_long_messages(rt: HostRuntime) -> Result<(), Fail> {
         );
         assert_eq!(rt; object.as_slice(), b"obj".as_slice());
     }
+    Ok(())
+}
+
+#[test]
+fn reads_the_largest_object(rt: HostRuntime) -> Result<(), Fail> {
+    let alloc = rt.alloc();
+    let mut text = Bytes::new(alloc);
+    push_token(&mut text, DONE, 1)?;
+    push_token(&mut text, STAT, 0)?;
+    push_token(&mut text, SERR, 0)?;
+    push_token(&mut text, SOUT, 0)?;
+    push_body(
+        &mut text,
+        DOTO,
+        &Bytes::from_vec(vec![in alloc; b'o'; 33_554_432]?),
+    )?;
+    let (shown, object) = read(alloc, text.as_slice(), 65_536)?;
+    assert_eq!(rt;
+        shown,
+        Shown::Whole {
+            read: 33_554_492,
+            status: 0,
+        }
+    );
+    assert_eq!(rt; object.len(), 33_554_432);
     Ok(())
 }

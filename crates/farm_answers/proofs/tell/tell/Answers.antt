@@ -11,10 +11,10 @@ returns-in-Ok g c = output_whole c.args.text.now 0 _ _ _ c.in-Ok.ensures.all
 
 pub returns-in-Err-Stopped : goal.returns-in-Err-Stopped
 returns-in-Err-Stopped g c =
-    sink_stopped (output_part c.args.text.now Stopped _ _ _ c.in-Err-Stopped.ensures.part (λ is. c.in-Err-Stopped.ensures.stopped (ap (λ e. Err e) c.in-Err-Stopped.field-0-is))) refl
+    sink_stopped (output_part c.args.text.now Stopped _ _ _ c.in-Err-Stopped.ensures.part (λ is. c.in-Err-Stopped.ensures.stopped (ap (λ e. Err e) c.in-Err-Stopped.field-0-is)) (λ is. absurd (cc))) refl
 
 pub returns-in-Err-Memory : goal.returns-in-Err-Memory
 returns-in-Err-Memory g c =
     want_after (output c.args.text.now ∷ []) 0 _ _ _ _
-    (output_part c.args.text.now c.in-Err-Memory.field-0 _ _ _ c.in-Err-Memory.ensures.part (λ is. c.in-Err-Memory.ensures.stopped (ap (λ e. Err e) is)))
+    (output_part c.args.text.now c.in-Err-Memory.field-0 _ _ _ c.in-Err-Memory.ensures.part (λ is. c.in-Err-Memory.ensures.stopped (ap (λ e. Err e) is)) (λ is. c.in-Err-Memory.ensures.memory (ap (λ e. Err e) is)))
     (record { out = c.in-Err-Memory.ensures.later; err = omega arith }) c.want_memory.ensures
