@@ -57,6 +57,12 @@ slots_of [] = []
 slots_of (Did d ∷ acts) = slots_of acts
 slots_of (Met e ∷ acts) = e ∷ slots_of acts
 
+-- the deeds among the acts
+abbrev pub deeds_of : List Act → List Deed
+deeds_of [] = []
+deeds_of (Did d ∷ acts) = d ∷ deeds_of acts
+deeds_of (Met x ∷ acts) = deeds_of acts
+
 -- the first slot event among the acts
 abbrev pub next_met : List Act → Option SlotEvent
 next_met [] = None

@@ -3,7 +3,7 @@ use Rattle.std.specs.Prelude.{◌≤◌, ◌⊎◌}
 use Rattle.edge_traits.specs.declared.cause.Cause.TheVariants.{Dial}
 use Rattle.edge_traits.specs.Causes.{Rose}
 use Rattle.edge_traits.specs.Kits.{KitView}
-use Rattle.farm_machine.specs.declared.reports.Why5.TheVariants.{Station, Put as NotPut, Broke}
+use Rattle.farm_machine.specs.declared.reports.Why5.TheVariants.{Station, Put as NotPut, Broke, Fetch}
 use Rattle.farm_machine.specs.declared.reports.End.{End}
 use Rattle.farm_machine.specs.declared.reports.End.TheVariants.{Failed}
 
@@ -11,6 +11,7 @@ use Rattle.farm_machine.specs.declared.reports.End.TheVariants.{Failed}
 abbrev pub HasEndCause : End → KitView → KitView → Type 0
 HasEndCause (Failed Station) old new = Rose old.station.faults new.station.faults ⊎ Rose old.station.overruns new.station.overruns
 HasEndCause (Failed NotPut) old new = Rose old.keeper.faults new.keeper.faults
+HasEndCause (Failed Fetch) old new = Rose old.keeper.faults new.keeper.faults ⊎ Rose old.keeper.overruns new.keeper.overruns
 HasEndCause (Failed (Broke host Dial)) old new = Rose old.dialer.faults new.dialer.faults
 HasEndCause other old new = Unit {0}
 

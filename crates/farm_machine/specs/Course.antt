@@ -90,7 +90,7 @@ no_host (t ∷ tried) = Broke t.host t.cause
 -- after a broken exchange the job asks another host, as long as it has tries left
 abbrev pub after_broken : Job → ℕ → Cause → List ℕ → List ℕ → List Tried → At
 after_broken j host cause source note tried =
-    cond (nat_lt (length tried + 1) j.tries) (Send source note (tried_too host cause tried)) (or_here j source note (Failed (Broke host cause)))
+    cond (nat_lt (length tried + 1) j.config.tries) (Send source note (tried_too host cause tried)) (or_here j source note (Failed (Broke host cause)))
 
 -- a host's outcome of status 0 is the job's; another ends the job, or with fallback and retry the job is compiled here
 -- once more
@@ -149,6 +149,11 @@ Ends j (Finish by note o) end =
     ⊎ ((o.status ≢ 0) × (end ≡ Done o.status note o.err o.out by))
 Ends j (Over e) end = end ≡ e
 Ends j at end = ⊥
+
+-- these acts lead from one place to another
+abbrev pub Reach : Job → At → List Act → At → Type 0
+Reach j at [] c = at ≡ c
+Reach j at (a ∷ acts) c = (b : At) × Next j at a b × Reach j b acts c
 
 -- from here a job may go on by these acts to this end
 abbrev pub From : Job → At → List Act → End → Type 0

@@ -40,6 +40,7 @@ DidCourses jobs n done = (worker : ℕ) → worker < n → Each (λ job. Course 
 -- of both is a run, and every grant was given back.
 pub record WorkersRun {h : ℕ} (l : Limits h) (jobs : ℕ → Job) (n : ℕ) (done : ℕ → List DoneJob) (calls : List CallEntry) : Type 0 where
   pub reports : Reports
+  pub workers : (j : ℕ) → j < l.jobs → reports.worker j < n
   pub reported : (worker : ℕ) → worker < n
       → Each (λ job. IsReported reports worker job × (reports.ends job.number ≡ job.end)) (done worker)
   pub courses : (j : ℕ) → j < l.jobs → Course (jobs j) (reports.acts j) (reports.ends j)

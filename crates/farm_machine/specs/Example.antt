@@ -46,10 +46,10 @@ abbrev pub host : Host
 host = record { name = record { text = codes "a" }; port = 3632; limit = 1; local = false }
 
 abbrev pub config : JobConfig
-config = record { hosts = record { list = host ∷ []; local_slots = 1; local_cpp = 1; randomize = false }; fallback = false; retry = false; period = 60 }
+config = record { hosts = record { list = host ∷ []; local_slots = 1; local_cpp = 1; randomize = false }; fallback = false; retry = false; period = 60; tries = 1 }
 
 abbrev pub jobs : ℕ → Job
-jobs job = record { words = words_of job; config = config; tries = 1 }
+jobs job = record { words = words_of job; config = config }
 
 -- what the host answers
 abbrev pub outcome : Outcome

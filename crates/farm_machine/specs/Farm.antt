@@ -1,9 +1,12 @@
 -- The farm of some jobs, and what its machine keeps.
-use Rattle.std.specs.Prelude.{◌≡◌, ◌≢◌, ℕ, ◌+◌, ◌<◌, ◌≤◌, Bool, false, ◌&&◌, not, cond, List, [], ◌∷◌, ◌++◌, Option, Some, None, nat_eq, nat_lt}
-use Rattle.std.specs.List.{range_with_len}
+use Rattle.std.specs.Prelude.{◌≡◌, ◌≢◌, ℕ, ◌+◌, ◌<◌, ◌≤◌, Bool, false, ◌&&◌, not, cond, List, [], ◌∷◌, ◌++◌, Option, Some, None, nat_eq}
+use Rattle.std.specs.List.{range_with_len, list_all}
 use Rattle.slot_table.specs.declared.limits.Limits.{Limits}
 use Rattle.slot_table.specs.declared.calls.CallEntry.{CallEntry}
+use Rattle.slot_table.specs.declared.mask.Mask.{Mask}
 use Rattle.slot_table.specs.Limits.{is_local}
+use Rattle.slot_table.specs.Mask.{in_mask}
+use Rattle.slot_table.specs.Step.{entries}
 use Rattle.slot_table.specs.History.{Holding, holding_eq, host_eq, IsLegal, state_after, outstanding, jobs_drawn}
 use Rattle.slot_table.specs.Laws.{Agrees as SlotsAgree}
 use Rattle.farm_machine.specs.declared.reports.End.{End}
@@ -13,9 +16,14 @@ use Rattle.farm_machine.specs.Course.{Course}
 use Rattle.farm_machine.specs.Machine.{JobState, NotBegun, Begun, Returned, FarmState, start, FarmStep, calls_in, after_steps, Farm, IsAllowed, FarmRun}
 use Rattle.farm_machine.specs.Weave.{Reports, Agrees, weave}
 
--- A take asks for all entries but those that the job took before. With one try that is all of them.
-abbrev pub wanted : {h : ℕ} → Limits h → List SlotEvent → ℕ → Bool
-wanted l past host = nat_lt host l.count && not (took host past)
+-- the entry at this place is in the mask exactly where the job took no slot of it before
+abbrev pub is_as_wanted : List SlotEvent → Mask → ℕ → Bool
+is_as_wanted past mask host = cond (took host past) (not (in_mask mask host)) (in_mask mask host)
+
+-- Of the entries a take has in its mask all but those that the job took before. With one try that is all of them. What a mask says of places
+-- behind the last entry doesn't matter.
+abbrev pub wanted : {h : ℕ} → Limits h → List SlotEvent → Mask → Bool
+wanted l past mask = list_all (is_as_wanted past mask) (entries l)
 
 -- the farm of these jobs
 abbrev pub farm_of : {h : ℕ} → Limits h → (ℕ → Job) → Farm

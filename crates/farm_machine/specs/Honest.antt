@@ -1,5 +1,5 @@
 -- What a compiler may answer to a request, and which networks answer so.
-use Rattle.std.specs.Prelude.{◌≡◌, ℕ, List, [], if◌then◌else◌, ◌==◌}
+use Rattle.std.specs.Prelude.{◌≡◌, ℕ, List, [], ◌∷◌, if◌then◌else◌, ◌==◌}
 use Rattle.farm_types.specs.declared.placed.Word.{Word}
 use Rattle.farm_types.specs.declared.ran.Ran.{Ran}
 use Rattle.farm_types.specs.declared.ran.Outcome.{Outcome}
@@ -8,10 +8,18 @@ use Rattle.wire_tokens.specs.Request.{SpellsRequest}
 use Rattle.wire_tokens.specs.Reply.{BeginsReply}
 use Rattle.arg_scan.specs.Class.{IsRemote}
 use Rattle.arg_strip.specs.Words.{placed_words}
+use Rattle.edge_traits.specs.Deeds.{ran}
+use Rattle.farm_machine.specs.Acts.{Act, Did}
 
 -- what programs of these words on this input may leave, as a station says it
 abbrev pub Programs : Type 1
 Programs = List Word → List ℕ → Ran → Type 0
+
+-- the programs may have left what each run left
+abbrev pub AllRan : Programs → List Act → Type 0
+AllRan programs [] = Unit {0}
+AllRan programs (Did (ran x) ∷ acts) = programs x.words x.input x.ran × AllRan programs acts
+AllRan programs (act ∷ acts) = AllRan programs acts
 
 -- what peers may give for what was sent to them, as a dialer says it
 abbrev pub Peers : Type 1

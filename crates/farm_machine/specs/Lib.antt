@@ -3,6 +3,7 @@ pub mod Jobs
 pub mod Course
 pub mod Table
 pub mod Numbered
+pub mod Moments
 pub mod Honest
 pub mod Machine
 pub mod Weave
@@ -12,6 +13,4 @@ pub mod Farm
 pub mod Driver
 pub mod Example
 pub mod ExampleRun
-pub mod RemoteCourse
 pub mod Causes
-pub mod Plans

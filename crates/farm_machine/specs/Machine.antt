@@ -8,7 +8,6 @@ use Rattle.slot_table.specs.declared.calls.SlotCall.TheVariants.{Draw, Take, Giv
 use Rattle.slot_table.specs.declared.calls.SlotReply.{SlotReply}
 use Rattle.slot_table.specs.declared.calls.SlotReply.TheVariants.{Drawn, Got, Full, Down, Local, Given}
 use Rattle.slot_table.specs.declared.calls.CallEntry.{CallEntry}
-use Rattle.slot_table.specs.Mask.{in_mask}
 use Rattle.slot_table.specs.Step.{opening, slot_step}
 use Rattle.edge_traits.specs.Deeds.{Deed}
 use Rattle.farm_machine.specs.declared.reports.End.{End}
@@ -42,14 +41,14 @@ job_call call reply = Mismatched
 abbrev pub job_call_of : CallEntry → JobCall
 job_call_of e = job_call e.call e.reply
 
--- which entries a take asks for, after these slot events of its job
+-- which masks a take may have, after these slot events of its job
 abbrev pub Wants : Type 0
-Wants = List SlotEvent → ℕ → Bool
+Wants = List SlotEvent → Mask → Bool
 
--- a mask, where there is one, has exactly the entries that pass the test
-abbrev pub MaskIs : Option Mask → (ℕ → Bool) → Type 0
+-- a mask, where there is one, passes the test
+abbrev pub MaskIs : Option Mask → (Mask → Bool) → Type 0
 MaskIs None wanted = Unit {0}
-MaskIs (Some mask) wanted = (i : ℕ) → in_mask mask i ≡ wanted i
+MaskIs (Some mask) wanted = wanted mask ≡ true
 
 -- the function with this value at this place
 abbrev pub set_at : {A : Type 0} → (ℕ → A) → ℕ → A → ℕ → A
@@ -122,7 +121,7 @@ after l s (Calls e) = record { slots = (slot_step l s.slots e.call).0; jobs = jo
 after l s (Does j d) = record { slots = s.slots; jobs = set_at s.jobs j (with_act (s.jobs j) (Did d)) }
 after l s (Returns j end) = record { slots = s.slots; jobs = set_at s.jobs j (Returned end) }
 
--- what a farm works by: the courses of each job, and which entries a take asks for
+-- what a farm works by: the courses of each job, and which masks a take may have
 pub record Farm : Type 1 where
   pub Course : ℕ → List Act → End → Type 0
   pub wants : Wants

@@ -26,6 +26,16 @@ numbered at (Met FindsDown ∷ acts) = Down ∷ numbered at acts
 numbered at (Met TakesLocal ∷ acts) = TookLocal ∷ numbered at acts
 numbered at (Met GivesLocal ∷ acts) = GaveLocal ∷ numbered at acts
 
+-- the next places after these acts
+abbrev pub advanced : Places → List Act → Places
+advanced at [] = at
+advanced at (Did (ran x) ∷ acts) = advanced (record at { runs = at.runs + 1 }) acts
+advanced at (Did (fetched x) ∷ acts) = advanced (record at { fetches = at.fetches + 1 }) acts
+advanced at (Did (exchanged x) ∷ acts) = advanced (record at { exchanges = at.exchanges + 1 }) acts
+advanced at (Did (put x) ∷ acts) = advanced (record at { puts = at.puts + 1 }) acts
+advanced at (Did (timed moment) ∷ acts) = advanced at acts
+advanced at (Met x ∷ acts) = advanced at acts
+
 -- the entries after these acts, each of which adds its own at the end of its list
 abbrev pub added : Entries → List Act → Entries
 added es [] = es

@@ -58,13 +58,13 @@ SendPart j source note tried (Met (Takes host) ∷ Did (exchanged x) ∷ Met (Gi
     MayTake j source tried host × (k ≡ host) × (is_local_host j host ≡ false)
     × (((o : Outcome) × IsWholeWith j x source host o × WholeThen j host source note o acts end)
     ⊎ ((cause : Cause) × IsBrokenWith j x source host cause × (j.config.period ≡ 0)
-    × (((length tried + 1 < j.tries) × SendPart j source note (tried_too host cause tried) acts end)
-    ⊎ ((j.tries ≤ length tried + 1) × HereOr j source note (Failed (Broke host cause)) acts end))))
+    × (((length tried + 1 < j.config.tries) × SendPart j source note (tried_too host cause tried) acts end)
+    ⊎ ((j.config.tries ≤ length tried + 1) × HereOr j source note (Failed (Broke host cause)) acts end))))
 SendPart j source note tried (Met (Takes host) ∷ Did (exchanged x) ∷ Met (GivesBad k until) ∷ acts) end =
     MayTake j source tried host × (k ≡ host) × (is_local_host j host ≡ false)
     × ((cause : Cause) × IsBrokenWith j x source host cause × (0 < j.config.period) × IsBackOff j until
-    × (((length tried + 1 < j.tries) × SendPart j source note (tried_too host cause tried) acts end)
-    ⊎ ((j.tries ≤ length tried + 1) × HereOr j source note (Failed (Broke host cause)) acts end)))
+    × (((length tried + 1 < j.config.tries) × SendPart j source note (tried_too host cause tried) acts end)
+    ⊎ ((j.config.tries ≤ length tried + 1) × HereOr j source note (Failed (Broke host cause)) acts end)))
 SendPart j source note tried acts end = ⊥
 
 -- a request past its limits is compiled here, whether fallback is on or off

@@ -2,8 +2,6 @@
 //! weave, and what a compiler may answer.
 #![tactic(auto)]
 
-mod plans;
 mod reports;
 
-pub use plans::RemotePlan;
 pub use reports::{By, End, Event, EventList, Places, Report, ReportList, Why5};
