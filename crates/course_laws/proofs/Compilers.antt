@@ -16,9 +16,9 @@ use Rattle.farm_machine.specs.Acts.{Act, Did, Met}
 use Rattle.farm_machine.specs.Jobs.{Job, may_be_sent, compile_command, request_for}
 use Rattle.farm_machine.specs.Course.{IsRunOf, Course, outcome_of}
 use Rattle.farm_machine.specs.Table.{IsSource}
-use Rattle.farm_machine.specs.Honest.{Programs, Peers, Compiles, object_of}
+use Rattle.farm_machine.specs.Honest.{Programs, Peers, Compiles, object_of, AllRan}
 use Rattle.course_laws.specs.Laws.{IsAmong}
-use Rattle.course_laws.specs.Answers.{AllGiven, AllRan, WholeAnswerLaw, PutAnswerLaw}
+use Rattle.course_laws.specs.Answers.{AllGiven, WholeAnswerLaw, PutAnswerLaw}
 use Rattle.course_laws.proofs.Puts.{puts-last}
 
 module _ (peers : Peers) (programs : Programs) where

@@ -37,7 +37,7 @@ or_here-none j source note end = go j.config.fallback
     go false = refl
 
 after_broken-none : (j : Job) (host : ℕ) (cause : Cause) (source note : List ℕ) (tried : List Tried) → has_out (after_broken j host cause source note tried) ≡ None
-after_broken-none j host cause source note tried = go (nat_lt (length tried + 1) j.tries)
+after_broken-none j host cause source note tried = go (nat_lt (length tried + 1) j.config.tries)
   where
     go : (b : Bool) → has_out (cond b (Send source note (tried_too host cause tried)) (or_here j source note (Failed (Broke host cause)))) ≡ None
     go true = refl
@@ -186,7 +186,7 @@ tried-after_whole j host source note o past = go (nat_eq o.status 0) (j.config.f
     go false false = tt
 
 tried-after_broken : (j : Job) (host : ℕ) (cause : Cause) (source note : List ℕ) (tried : List Tried) (past : List SlotEvent) (x : SlotEvent) → (took host past ≡ true) × ((i : ℕ) → is_tried i tried ≡ true → took i past ≡ true) → TriedIn (after_broken j host cause source note tried) (past ++ x ∷ [])
-tried-after_broken j host cause source note tried past x h = go (nat_lt (length tried + 1) j.tries)
+tried-after_broken j host cause source note tried past x h = go (nat_lt (length tried + 1) j.config.tries)
   where
     in_ : (i : ℕ) → (b : Bool) → nat_eq host i ≡ b → (b || is_tried i tried) ≡ true → took i (past ++ x ∷ []) ≡ true
     in_ i true e t = took-more i past x (ap (λ (k : ℕ). took k past) (sym (eqb-true host i e)) ∙ h.0)

@@ -18,11 +18,11 @@ use Rattle.farm_machine.specs.declared.reports.End.{End}
 use Rattle.farm_machine.specs.declared.reports.End.TheVariants.{Done, Failed}
 use Rattle.farm_machine.specs.Acts.{Takes, Gives, GivesBad, FindsDown, TakesLocal, GivesLocal, Act, Did, Met, Loan}
 use Rattle.farm_machine.specs.Jobs.{Job, may_be_sent, is_source_ready, source_name, output_name, preprocessing_command, request_for, host_at, is_local_host}
-use Rattle.farm_machine.specs.Course.{IsBegunWith, IsBrokenWith, At, Start, LentInPlace, RanInPlace, Send, Lent, RanThere, Sent, Locally, LentHere, RanHere, Finish, Over, outcome_of, after_preprocessor, or_here, after_broken, after_whole, Tried, tried_too, no_host, Next, From, Course}
+use Rattle.farm_machine.specs.Course.{IsBegunWith, IsBrokenWith, At, Start, LentInPlace, RanInPlace, Send, Lent, RanThere, Sent, Locally, LentHere, RanHere, Finish, Over, outcome_of, after_preprocessor, or_here, after_broken, after_whole, Tried, tried_too, no_host, Next, From, Course, Reach}
 use Rattle.farm_machine.specs.Table.{gives_back, IsSource, IsCut, IsCutInExchange, MemoryLaw}
 use Rattle.course_laws.proofs.Courses.{has_out}
 use Rattle.course_laws.proofs.Requests.{can-request-or-not}
-use Rattle.course_laws.proofs.Sources.{Reach, join, split, reach-loan, SourceAt, reach-source, one-source}
+use Rattle.course_laws.proofs.Sources.{join, split, reach-loan, SourceAt, reach-source, one-source}
 use Rattle.course_laws.proofs.Tables.{forth, back, along, over}
 
 -- a job that can go on may stop, and gives back what is out
@@ -108,7 +108,7 @@ goes-send j source note tried =
     ]
 
 fin-broken : (j : Job) (host : ℕ) (cause : Cause) (source note : List ℕ) (tried : List Tried) → Fins j (after_broken j host cause source note tried)
-fin-broken j host cause source note tried = go (nat_lt (length tried + 1) j.tries)
+fin-broken j host cause source note tried = go (nat_lt (length tried + 1) j.config.tries)
   where
     go : (b : Bool) → Fins j (cond b (Send source note (tried_too host cause tried)) (or_here j source note (Failed (Broke host cause))))
     go true = let g = goes-send j source note (tried_too host cause tried) in record { acts = g.next ∷ g.rest; end = g.end; whole = g.whole; from = g.from }
@@ -217,7 +217,7 @@ fine-or_here j source note why other = go j.config.fallback
     go false = other
 
 fine-broken : (j : Job) (host : ℕ) (cause : Cause) (source note : List ℕ) (tried : List Tried) → Fine (after_broken j host cause source note tried)
-fine-broken j host cause source note tried = go (nat_lt (length tried + 1) j.tries)
+fine-broken j host cause source note tried = go (nat_lt (length tried + 1) j.config.tries)
   where
     go : (b : Bool) → Fine (cond b (Send source note (tried_too host cause tried)) (or_here j source note (Failed (Broke host cause))))
     go true = tt

@@ -17,13 +17,13 @@ use Rattle.course_laws.specs.Laws.{LengthLaw}
 -- From here a course may have n acts more: three for each host that may still be tried, and those of the compile here
 -- and of the put.
 abbrev Left : Job → At → ℕ → Type 0
-Left j Start n = 3 * j.tries + 5 ≤ n
+Left j Start n = 3 * j.config.tries + 5 ≤ n
 Left j LentInPlace n = 2 ≤ n
 Left j (RanInPlace r) n = 1 ≤ n
-Left j (Send source note tried) n = (length tried < j.tries) × (3 * (j.tries - length tried) + 4 ≤ n)
-Left j (Lent host source note tried) n = (length tried < j.tries) × (3 * (j.tries - length tried) + 3 ≤ n)
+Left j (Send source note tried) n = (length tried < j.config.tries) × (3 * (j.config.tries - length tried) + 4 ≤ n)
+Left j (Lent host source note tried) n = (length tried < j.config.tries) × (3 * (j.config.tries - length tried) + 3 ≤ n)
 Left j (RanThere host note r) n = 2 ≤ n
-Left j (Sent host source note tried x) n = (length tried < j.tries) × (3 * (j.tries - length tried) + 2 ≤ n)
+Left j (Sent host source note tried x) n = (length tried < j.config.tries) × (3 * (j.config.tries - length tried) + 2 ≤ n)
 Left j (Locally source note) n = 4 ≤ n
 Left j (LentHere source note) n = 3 ≤ n
 Left j (RanHere note r) n = 2 ≤ n
@@ -37,7 +37,7 @@ one-of : (j : Job) (n : ℕ) (c a b : At) → (c ≡ a) ⊎ (c ≡ b) → Left j
 one-of j n c a b (inl e) la lb = left-at j n c a e la
 one-of j n c a b (inr e) la lb = left-at j n c b e lb
 
-left-preprocessed : (j : Job) (n : ℕ) (r : Ran) → 1 ≤ j.tries → 3 * j.tries + 4 ≤ n → Left j (after_preprocessor r) n
+left-preprocessed : (j : Job) (n : ℕ) (r : Ran) → 1 ≤ j.config.tries → 3 * j.config.tries + 4 ≤ n → Left j (after_preprocessor r) n
 left-preprocessed j n r some h = go (nat_eq r.status 0)
   where
     go : (b : Bool) → Left j (cond b (Send r.out r.err []) (Over (Done r.status [] r.err [] Cpp))) n
@@ -51,11 +51,11 @@ left-or_here j n source note why h = go j.config.fallback
     go true = h
     go false = tt
 
-left-broken : (j : Job) (n host : ℕ) (cause : Cause) (source note : List ℕ) (tried : List Tried) → length tried < j.tries → 3 * (j.tries - length tried) + 1 ≤ n → Left j (after_broken j host cause source note tried) n
-left-broken j n host cause source note tried more h = go (nat_lt (length tried + 1) j.tries) refl
+left-broken : (j : Job) (n host : ℕ) (cause : Cause) (source note : List ℕ) (tried : List Tried) → length tried < j.config.tries → 3 * (j.config.tries - length tried) + 1 ≤ n → Left j (after_broken j host cause source note tried) n
+left-broken j n host cause source note tried more h = go (nat_lt (length tried + 1) j.config.tries) refl
   where
-    go : (b : Bool) → nat_lt (length tried + 1) j.tries ≡ b → Left j (cond b (Send source note (tried_too host cause tried)) (or_here j source note (Failed (Broke host cause)))) n
-    go true e = let again : length tried + 1 < j.tries = ltb-true (length tried + 1) j.tries e in (omega arith, omega arith)
+    go : (b : Bool) → nat_lt (length tried + 1) j.config.tries ≡ b → Left j (cond b (Send source note (tried_too host cause tried)) (or_here j source note (Failed (Broke host cause)))) n
+    go true e = let again : length tried + 1 < j.config.tries = ltb-true (length tried + 1) j.config.tries e in (omega arith, omega arith)
     go false e = left-or_here j n source note (Failed (Broke host cause)) (omega arith)
 
 left-whole : (j : Job) (n host : ℕ) (source note : List ℕ) (o : Outcome) → 4 ≤ n → Left j (after_whole j host source note o) n
@@ -66,7 +66,7 @@ left-whole j n host source note o h = go (nat_eq o.status 0) (j.config.fallback 
     go false true = h
     go false false = tt
 
-left-next : (j : Job) (n : ℕ) (at c : At) (a : Act) → 1 ≤ j.tries → Next j at a c → Left j at (n + 1) → Left j c n
+left-next : (j : Job) (n : ℕ) (at c : At) (a : Act) → 1 ≤ j.config.tries → Next j at a c → Left j at (n + 1) → Left j c n
 left-next j n Start c (Met TakesLocal) some h l = left-at j n c LentInPlace h.1 (omega arith)
 left-next j n Start c (Did (fetched x)) some h l = left-at j n c (Send x.bytes [] []) h.3 (some, omega arith)
 left-next j n Start c (Did (ran x)) some h l = left-at j n c (after_preprocessor x.ran) h.3 (left-preprocessed j n x.ran some (omega arith))
@@ -127,7 +127,7 @@ left-some j n (RanHere note r) c a h l = omega arith
 left-some j n (Finish by note o) c a h l = l
 left-some j n (Over e) c a h l = absurd h
 
-short-from : (j : Job) (acts : List Act) (n : ℕ) (at : At) (end : End) → 1 ≤ j.tries → Left j at n → From j at acts end → length acts ≤ n
+short-from : (j : Job) (acts : List Act) (n : ℕ) (at : At) (end : End) → 1 ≤ j.config.tries → Left j at n → From j at acts end → length acts ≤ n
 short-from j [] n at end some l h = omega arith
 short-from j (a ∷ acts) n at end some l (c, next, from) =
     let one : 1 ≤ n = left-some j n at c a next l in
@@ -136,4 +136,4 @@ short-from j (a ∷ acts) n at end some l (c, next, from) =
     omega arith
 
 pub short : LengthLaw
-short j acts end some course = short-from j acts (3 * j.tries + 5) Start end some (omega arith) course
+short j acts end some course = short-from j acts (3 * j.config.tries + 5) Start end some (omega arith) course

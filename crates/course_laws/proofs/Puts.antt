@@ -13,10 +13,10 @@ use Rattle.farm_machine.specs.declared.reports.End.{End}
 use Rattle.farm_machine.specs.declared.reports.End.TheVariants.{Done, Failed}
 use Rattle.farm_machine.specs.Acts.{Takes, Gives, GivesBad, FindsDown, TakesLocal, GivesLocal, Act, Did, Met}
 use Rattle.farm_machine.specs.Jobs.{Job, CanRequest, compile_command}
-use Rattle.farm_machine.specs.Course.{IsRunOf, At, Start, LentInPlace, RanInPlace, Send, Lent, RanThere, Sent, Locally, LentHere, RanHere, Finish, Over, outcome_of, after_preprocessor, or_here, after_broken, after_whole, Tried, tried_too, no_host, Next, From}
+use Rattle.farm_machine.specs.Course.{IsRunOf, At, Start, LentInPlace, RanInPlace, Send, Lent, RanThere, Sent, Locally, LentHere, RanHere, Finish, Over, outcome_of, after_preprocessor, or_here, after_broken, after_whole, Tried, tried_too, no_host, Next, From, Reach}
 use Rattle.farm_machine.specs.Table.{IsSource}
 use Rattle.course_laws.specs.Laws.{IsAmong, IsCompiled, PutsLast, PutLaw}
-use Rattle.course_laws.proofs.Sources.{Reach, split, SourceAt, more-source, source-next}
+use Rattle.course_laws.proofs.Sources.{split, SourceAt, more-source, source-next}
 use Rattle.course_laws.proofs.Tables.{along, over}
 
 among-more : (act : Act) (acts : List Act) (a : Act) → IsAmong act acts → IsAmong act (acts ++ a ∷ [])
@@ -64,7 +64,7 @@ known-or_here j acts source note why = go j.config.fallback
     go false = tt
 
 known-broken : (j : Job) (acts : List Act) (host : ℕ) (cause : Cause) (source note : List ℕ) (tried : List Tried) → KnownAt j acts (after_broken j host cause source note tried)
-known-broken j acts host cause source note tried = go (nat_lt (length tried + 1) j.tries)
+known-broken j acts host cause source note tried = go (nat_lt (length tried + 1) j.config.tries)
   where
     go : (b : Bool) → KnownAt j acts (cond b (Send source note (tried_too host cause tried)) (or_here j source note (Failed (Broke host cause))))
     go true = tt

@@ -11,15 +11,10 @@ use Rattle.farm_machine.specs.declared.reports.End.{End}
 use Rattle.farm_machine.specs.declared.reports.End.TheVariants.{Done, Failed}
 use Rattle.farm_machine.specs.Acts.{Takes, Gives, GivesBad, FindsDown, TakesLocal, GivesLocal, Act, Did, Met, slots_of, Loan, loan_of}
 use Rattle.farm_machine.specs.Jobs.{Job}
-use Rattle.farm_machine.specs.Course.{At, Start, LentInPlace, RanInPlace, Send, Lent, RanThere, Sent, Locally, LentHere, RanHere, Finish, Over, outcome_of, after_preprocessor, or_here, after_broken, after_whole, Tried, tried_too, no_host, Next, From}
+use Rattle.farm_machine.specs.Course.{At, Start, LentInPlace, RanInPlace, Send, Lent, RanThere, Sent, Locally, LentHere, RanHere, Finish, Over, outcome_of, after_preprocessor, or_here, after_broken, after_whole, Tried, tried_too, no_host, Next, Reach, From}
 use Rattle.farm_machine.specs.Table.{IsSource}
 use Rattle.course_laws.proofs.Courses.{has_out, next-did, next-met}
 use Rattle.course_laws.proofs.Tables.{along}
-
--- these acts lead from one place to another
-abbrev pub Reach : Job → At → List Act → At → Type 0
-Reach j at [] b = at ≡ b
-Reach j at (a ∷ acts) b = (c : At) × Next j at a c × Reach j c acts b
 
 pub join : (j : Job) (xs ys : List Act) (at b : At) (end : End) → Reach j at xs b → From j b ys end → From j at (xs ++ ys) end
 join j [] ys at b end e h = along j b at ys end (sym e) h
@@ -61,7 +56,7 @@ source-or_here j acts source note why h = go j.config.fallback
     go false = tt
 
 source-broken : (j : Job) (acts : List Act) (host : ℕ) (cause : Cause) (source note : List ℕ) (tried : List Tried) → IsSource acts source → SourceAt acts (after_broken j host cause source note tried)
-source-broken j acts host cause source note tried h = go (nat_lt (length tried + 1) j.tries)
+source-broken j acts host cause source note tried h = go (nat_lt (length tried + 1) j.config.tries)
   where
     go : (b : Bool) → SourceAt acts (cond b (Send source note (tried_too host cause tried)) (or_here j source note (Failed (Broke host cause))))
     go true = h

@@ -74,16 +74,16 @@ whole_then j host source note o acts end whole h = go (nat_eq o.status 0) refl (
 
 -- what follows a broken exchange
 abbrev BrokenThen : Job → ℕ → Cause → List ℕ → List ℕ → List Tried → List Act → End → Type 0
-BrokenThen j host cause source note tried acts end = ((length tried + 1 < j.tries) × SendPart j source note (tried_too host cause tried) acts end) ⊎ ((j.tries ≤ length tried + 1) × HereOr j source note (Failed (Broke host cause)) acts end)
+BrokenThen j host cause source note tried acts end = ((length tried + 1 < j.config.tries) × SendPart j source note (tried_too host cause tried) acts end) ⊎ ((j.config.tries ≤ length tried + 1) × HereOr j source note (Failed (Broke host cause)) acts end)
 
 broken_then : (j : Job) (host : ℕ) (cause : Cause) (source note : List ℕ) (tried : List Tried) (acts : List Act) (end : End) → end ≢ Failed Memory
     → (From j (Send source note (tried_too host cause tried)) acts end → SendPart j source note (tried_too host cause tried) acts end)
     → From j (after_broken j host cause source note tried) acts end → BrokenThen j host cause source note tried acts end
-broken_then j host cause source note tried acts end whole again h = go (nat_lt (length tried + 1) j.tries) refl h
+broken_then j host cause source note tried acts end whole again h = go (nat_lt (length tried + 1) j.config.tries) refl h
   where
-    go : (b : Bool) → nat_lt (length tried + 1) j.tries ≡ b → From j (cond b (Send source note (tried_too host cause tried)) (or_here j source note (Failed (Broke host cause)))) acts end → BrokenThen j host cause source note tried acts end
-    go true e h = inl (ltb-true (length tried + 1) j.tries e, again h)
-    go false e h = inr (ltb-false (length tried + 1) j.tries e, here_or j source note (Failed (Broke host cause)) acts end whole h)
+    go : (b : Bool) → nat_lt (length tried + 1) j.config.tries ≡ b → From j (cond b (Send source note (tried_too host cause tried)) (or_here j source note (Failed (Broke host cause)))) acts end → BrokenThen j host cause source note tried acts end
+    go true e h = inl (ltb-true (length tried + 1) j.config.tries e, again h)
+    go false e h = inr (ltb-false (length tried + 1) j.config.tries e, here_or j source note (Failed (Broke host cause)) acts end whole h)
 
 ran_there : (j : Job) (host : ℕ) (note : List ℕ) (r : Ran) (acts : List Act) (end : End) → end ≢ Failed Memory → From j (RanThere host note r) acts end → (k : ℕ) × (rest : List Act) × (acts ≡ Met (Gives k) ∷ rest) × (k ≡ host) × EndPart j Here note (outcome_of r) rest end
 ran_there j host note r (Met (Gives k) ∷ acts) end whole (c, next, from) =
@@ -239,8 +239,8 @@ broken_back : (j : Job) (host : ℕ) (cause : Cause) (source note : List ℕ) (t
     → BrokenThen j host cause source note tried acts end → From j (after_broken j host cause source note tried) acts end
 broken_back j host cause source note tried acts end again h =
     elim h [
-      | inl more ↦ subst (λ (b : Bool). From j (cond b (Send source note (tried_too host cause tried)) (or_here j source note (Failed (Broke host cause)))) acts end) (sym (lt-ltb (length tried + 1) j.tries more.0)) (again more.1)
-      | inr last ↦ subst (λ (b : Bool). From j (cond b (Send source note (tried_too host cause tried)) (or_here j source note (Failed (Broke host cause)))) acts end) (sym (le-ltb (length tried + 1) j.tries last.0)) (or_back j source note (Failed (Broke host cause)) acts end last.1)
+      | inl more ↦ subst (λ (b : Bool). From j (cond b (Send source note (tried_too host cause tried)) (or_here j source note (Failed (Broke host cause)))) acts end) (sym (lt-ltb (length tried + 1) j.config.tries more.0)) (again more.1)
+      | inr last ↦ subst (λ (b : Bool). From j (cond b (Send source note (tried_too host cause tried)) (or_here j source note (Failed (Broke host cause)))) acts end) (sym (le-ltb (length tried + 1) j.config.tries last.0)) (or_back j source note (Failed (Broke host cause)) acts end last.1)
     ]
 
 send_back : (j : Job) (source note : List ℕ) (acts : List Act) (tried : List Tried) (end : End) → SendPart j source note tried acts end → From j (Send source note tried) acts end

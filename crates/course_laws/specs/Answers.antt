@@ -3,25 +3,19 @@ use Rattle.std.specs.Prelude.{◌≡◌, ◌⊎◌, ℕ, true, List, [], ◌∷�
 use Rattle.farm_types.specs.declared.ran.Outcome.{Outcome}
 use Rattle.edge_traits.specs.declared.entries.Exchange.{Exchange}
 use Rattle.edge_traits.specs.declared.entries.Put.{Put}
-use Rattle.edge_traits.specs.Deeds.{ran, exchanged, put}
+use Rattle.edge_traits.specs.Deeds.{exchanged, put}
 use Rattle.farm_machine.specs.declared.reports.End.{End}
 use Rattle.farm_machine.specs.Acts.{Act, Did}
 use Rattle.farm_machine.specs.Jobs.{Job, CanRequest, request_for}
 use Rattle.farm_machine.specs.Course.{IsWholeWith, Course}
 use Rattle.farm_machine.specs.Table.{IsSource}
-use Rattle.farm_machine.specs.Honest.{Programs, Peers, Compiles, IsHonest, IsFullyHonest}
+use Rattle.farm_machine.specs.Honest.{Programs, Peers, AllRan, Compiles, IsHonest, IsFullyHonest}
 
 -- the peers may have given what each dialed exchange was given
 abbrev pub AllGiven : Peers → List Act → Type 0
 AllGiven peers [] = Unit {0}
 AllGiven peers (Did (exchanged x) ∷ acts) = (x.dialed ≡ true → peers x.sent x.given) × AllGiven peers acts
 AllGiven peers (act ∷ acts) = AllGiven peers acts
-
--- the programs may have left what each run left
-abbrev pub AllRan : Programs → List Act → Type 0
-AllRan programs [] = Unit {0}
-AllRan programs (Did (ran x) ∷ acts) = programs x.words x.input x.ran × AllRan programs acts
-AllRan programs (act ∷ acts) = AllRan programs acts
 
 -- A whole exchange over honest peers has an outcome that a compiler may answer to the job's request, where its status
 -- is 0, and over fully honest ones in any case.

@@ -1,21 +1,19 @@
 -- What holds of every course.
-use Rattle.std.specs.Prelude.{◌≡◌, ◌⊎◌, ◌↔◌, ℕ, ◌+◌, ◌*◌, ◌<◌, ◌≤◌, true, false, List, [], ◌∷◌, ◌++◌, length, None}
+use Rattle.std.specs.Prelude.{◌≡◌, ◌⊎◌, ℕ, ◌+◌, ◌*◌, ◌<◌, ◌≤◌, false, List, [], ◌∷◌, ◌++◌, length, None}
 use Rattle.farm_types.specs.declared.ran.Outcome.{Outcome}
 use Rattle.edge_traits.specs.declared.entries.Run.{Run}
 use Rattle.edge_traits.specs.declared.entries.Exchange.{Exchange}
 use Rattle.edge_traits.specs.declared.entries.Put.{Put}
-use Rattle.edge_traits.specs.Deeds.{Deed, ran, exchanged, put}
+use Rattle.edge_traits.specs.Deeds.{ran, exchanged, put}
 use Rattle.farm_machine.specs.declared.reports.By.{By}
 use Rattle.farm_machine.specs.declared.reports.Why5.TheVariants.{Memory}
 use Rattle.farm_machine.specs.declared.reports.End.{End}
 use Rattle.farm_machine.specs.declared.reports.End.TheVariants.{Done, Failed}
-use Rattle.farm_machine.specs.Acts.{SlotEvent, Takes, Gives, GivesBad, FindsDown, Act, Did, Met, slots_of, took, IsOrderly}
-use Rattle.farm_machine.specs.Jobs.{Job, CanRequest, may_be_sent, is_source_ready, output_name, compile_command, host_count, host_at, is_local_host}
+use Rattle.farm_machine.specs.Acts.{Takes, Gives, FindsDown, Act, Did, Met, slots_of, took, IsOrderly}
+use Rattle.farm_machine.specs.Jobs.{Job, CanRequest, output_name, compile_command, host_count, is_local_host}
 use Rattle.farm_machine.specs.Course.{IsRunOf, IsWholeWith, outcome_of, Course}
 use Rattle.farm_machine.specs.Table.{IsSource}
 use Rattle.farm_machine.specs.Numbered.{untimed}
-use Rattle.farm_machine.specs.Plans.{plan_for}
-use Rattle.farm_machine.specs.RemoteCourse.{RemoteCourse}
 
 -- each slot event of a course comes in its turn, and at the end nothing is out
 abbrev pub OrderLaw : Type 0
@@ -29,38 +27,6 @@ DownLaw = (j : Job) (host : ℕ) (acts rest : List Act) (end : End) → host < h
 -- No course has a look at the clock: so its events, numbered on, read as its acts.
 abbrev pub UntimedLaw : Type 0
 UntimedLaw = (j : Job) (acts : List Act) (end : End) → Course j acts end → untimed acts ≡ acts
-
--- A job that asks this one host, which isn't local: its command may be sent, its source isn't preprocessed yet, it has
--- one try, and no compile here stands in for a host's.
-pub record AsksOneHost (j : Job) (host : ℕ) : Type 0 where
-  pub sent : may_be_sent j ≡ true
-  pub source : is_source_ready j ≡ false
-  pub entry : host < host_count j
-  pub remote : is_local_host j host ≡ false
-  pub tries : j.tries ≤ 1
-  pub fallback : j.config.fallback ≡ false
-
--- what each run wrote to standard output may be the source of a request
-abbrev pub RunsFit : Job → List Deed → Type 0
-RunsFit j [] = Unit {0}
-RunsFit j (ran x ∷ deeds) = CanRequest j x.ran.out × RunsFit j deeds
-RunsFit j (d ∷ deeds) = RunsFit j deeds
-
--- the deeds, with a slot of the host taken right before each exchange and given back right after it
-abbrev pub with_slots : ℕ → SlotEvent → List Deed → List Act
-with_slots host give [] = []
-with_slots host give (exchanged x ∷ deeds) = Met (Takes host) ∷ Did (exchanged x) ∷ Met give ∷ with_slots host give deeds
-with_slots host give (d ∷ deeds) = Did d ∷ with_slots host give deeds
-
--- this slot event gives a slot of the host back
-abbrev pub GivesBack : ℕ → SlotEvent → Type 0
-GivesBack host give = (give ≡ Gives host) ⊎ ((until : ℕ) × (give ≡ GivesBad host until))
-
--- The courses by one host and no compile here are exactly the deeds of the courses in which the slots are used so.
-abbrev pub RemoteCourseLaw : Type 0
-RemoteCourseLaw = (j : Job) (host : ℕ) (deeds : List Deed) (end : End) → AsksOneHost j host → RunsFit j deeds
-    → RemoteCourse (plan_for j.words) (host_at j host) host deeds end
-    ↔ ((give : SlotEvent) × GivesBack host give × Course j (with_slots host give deeds) end)
 
 -- this act is among these
 abbrev pub IsAmong : Act → List Act → Type 0
@@ -92,4 +58,4 @@ PutLaw = (j : Job) (before : List Act) (x : Put) (rest : List Act) (end : End) �
 
 -- a course is so long at most: three acts for each try, and five for all else
 abbrev pub LengthLaw : Type 0
-LengthLaw = (j : Job) (acts : List Act) (end : End) → 1 ≤ j.tries → Course j acts end → length acts ≤ 3 * j.tries + 5
+LengthLaw = (j : Job) (acts : List Act) (end : End) → 1 ≤ j.config.tries → Course j acts end → length acts ≤ 3 * j.config.tries + 5

@@ -2,7 +2,7 @@
 #![tactic(auto)]
 
 ghost use Rattle.course_laws.specs.Answers.{PutAnswerLaw, WholeAnswerLaw};
-ghost use Rattle.course_laws.specs.Laws.{DownLaw, LengthLaw, OrderLaw, PutLaw, RemoteCourseLaw, UntimedLaw};
+ghost use Rattle.course_laws.specs.Laws.{DownLaw, LengthLaw, OrderLaw, PutLaw, UntimedLaw};
 ghost use Rattle.farm_machine.specs.Numbered.{NumberedLaw};
 ghost use Rattle.farm_machine.specs.Table.{MemoryLaw, TableLaw};
 
@@ -36,12 +36,6 @@ pub fn table_law()
 pub fn numbered_law()
     ensures numbered { NumberedLaw }
     ensures untimed { UntimedLaw }
-{}
-
-/// The courses by one host and no compile here are exactly the deeds of those courses of the table in which a slot of
-/// the host is taken right before each exchange and given back right after it, and no other slot is used.
-pub fn remote_course_law()
-    ensures { RemoteCourseLaw }
 {}
 
 /// A put of a course is its last act, under the output's name, of the object of a compile of the job's own source with

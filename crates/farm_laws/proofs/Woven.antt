@@ -5,6 +5,7 @@ use Rattle.std.proofs.lemmas.Bool.{cases_lt, cases_eq}
 use Rattle.slot_table.specs.declared.limits.Limits.{Limits}
 use Rattle.slot_table.specs.declared.state.SlotState.{SlotState}
 use Rattle.slot_table.specs.declared.mask.Mask.{Mask}
+use Rattle.slot_table.specs.Mask.{in_mask}
 use Rattle.slot_table.specs.declared.calls.CallEntry.{CallEntry}
 use Rattle.slot_table.specs.Step.{slot_step}
 use Rattle.slot_table.specs.History.{Holding, outstanding_then, IsLegalFrom, state_from, state_after}
@@ -26,9 +27,9 @@ pub run-allowed : {h : ℕ} (f : Farm) (l : Limits h) (steps : List FarmStep) (s
 run-allowed f l [] s run = (tt, run)
 run-allowed f l (step ∷ steps) s run = let more = run-allowed f l steps (after l s step) run.1 in ((run.0, more.0), more.1)
 
--- where a job may find all hosts down, it might have taken a slot of any host of its mask
+-- where a job may find all hosts down, it might have taken a slot of any host of a mask that is wanted
 abbrev pub TakesWhereDown : {h : ℕ} → Limits h → Farm → Type 0
-TakesWhereDown l f = (j : ℕ) (acts : List Act) (host : ℕ) → j < l.jobs → host < l.count → f.wants (slots_of acts) host ≡ true → MayBeNext f j acts (Met FindsDown) → MayBeNext f j acts (Met (Takes host))
+TakesWhereDown l f = (j : ℕ) (acts : List Act) (host : ℕ) (mask : Mask) → j < l.jobs → host < l.count → in_mask mask host ≡ true → f.wants (slots_of acts) mask ≡ true → MayBeNext f j acts (Met FindsDown) → MayBeNext f j acts (Met (Takes host))
 
 -- a begun job whose next act is a slot event
 pub record IsOpen (r : Reports) (j : ℕ) (stage : JobState) (past : List SlotEvent) (rest : List Act) : Type 0 where
@@ -125,7 +126,7 @@ open-next f r j stage past rest course o x is =
 may_wait : {h : ℕ} (f : Farm) (l : Limits h) (j : ℕ) (done : List Act) (mask : Option Mask) (kind : SlotKind) (x : SlotEvent) → TakesWhereDown l f → j < l.jobs → HasRoom l (Waits j mask kind) → MaskIs mask (f.wants (slots_of done)) → IsWaitedFor kind x → MayBeNext f j done (Met x) → MayWait f j done kind
 may_wait f l j done (Some mask) HostSlot x turns below room is waited next =
     elim waited [
-      | inl down ↦ (room.0, turns j done room.0 below room.1 (sym (is room.0) ∙ room.2) (subst (λ (y : SlotEvent). MayBeNext f j done (Met y)) down next))
+      | inl down ↦ (room.0, turns j done room.0 mask below room.1 room.2 is (subst (λ (y : SlotEvent). MayBeNext f j done (Met y)) down next))
       | inr got ↦ (got.0, subst (λ (y : SlotEvent). MayBeNext f j done (Met y)) got.1 next)
     ]
 may_wait f l j done None HostSlot x turns below room is waited next = absurd room

@@ -1,5 +1,6 @@
 -- The example agrees.
-use Rattle.std.proofs.Common.{◌≡◌, ℕ, zero, suc, ◌<◌, Bool, true, false, ◌&&◌, nat_lt, [], Some, refl, ◌∙◌, inr, arith}
+use Rattle.std.proofs.Common.{◌≡◌, ℕ, zero, suc, ◌<◌, Bool, true, false, ◌&&◌, [], Some, refl, inr, arith}
+use Rattle.slot_table.specs.Mask.{in_mask}
 use Rattle.slot_table.proofs.Masks.{mask-all}
 use Rattle.farm_machine.specs.Acts.{Takes}
 use Rattle.farm_machine.specs.Machine.{MaskIs}
@@ -8,13 +9,13 @@ use Rattle.farm_machine.specs.Farm.{wanted}
 use Rattle.farm_machine.specs.Example.{limits, all_hosts, calls}
 use Rattle.farm_machine.specs.ExampleRun.{reports}
 
-and-true : (b : Bool) → b ≡ (b && true)
-and-true true = refl
-and-true false = refl
+and-true : (b : Bool) → b ≡ true → (b && true) ≡ true
+and-true true e = refl
+and-true false e = e
 
--- the mask has all entries, and no job took one before
+-- the mask has the one entry, and no job took it before
 pub mask-is : MaskIs (Some all_hosts) (wanted limits [])
-mask-is i = mask-all 1 i (omega arith) ∙ and-true (nat_lt i 1)
+mask-is = and-true (in_mask all_hosts 0) (mask-all 1 0 (omega arith))
 
 used : (j : ℕ) → j < 3 → IsUsedUp (last_progress (no_progress reports) calls) j
 used zero h = refl

@@ -147,7 +147,7 @@ at-number P j (job ∷ jobs) each (inl here) = (job, here, each.0)
 at-number P j (job ∷ jobs) each (inr there) = at-number P j jobs each.1 there
 
 pub workers-run : WorkersRunLaw
-workers-run h l jobs n done calls of legal worked did = record { reports = r; reported = reported; courses = courses; agrees = agrees; run = weave-law h l jobs r calls of courses agrees; back = all-back h l jobs r calls of courses agrees }
+workers-run h l jobs n done calls of legal worked did = record { reports = r; workers = workers; reported = reported; courses = courses; agrees = agrees; run = weave-law h l jobs r calls of courses agrees; back = all-back h l jobs r calls of courses agrees }
   where
     r : Reports
     r = reports_of done calls
@@ -164,6 +164,13 @@ workers-run h l jobs n done calls of legal worked did = record { reports = r; re
         (λ job by is.
         let at : lookup job.number (done (drawer job.number calls)) ≡ Some job = ap (λ (v : ℕ). lookup job.number (done v)) by ∙ is in ((by, ap acts_of at), ap end_of at))
         drawn (looked-up (done w) (jobs-apart (wanted l) w (done w) one.0 (entry w Draw (Drawn None) ∷ []) 0 one.1 own).0)
+
+    workers : (j : ℕ) → j < l.jobs → r.worker j < n
+    workers j below =
+        let f = (driver h l (wanted l) n done calls legal worked).found j below in
+        let w = f.0 in
+        let one = at-number (λ job. r.worker job.number ≡ w) j (done w) (each-map (HasAll r w) (λ job. r.worker job.number ≡ w) (done w) (λ job all. all.0.0) (reported w f.1)) f.2 in
+        subst (λ (v : ℕ). v < n) (sym (ap r.worker (sym one.1) ∙ one.2)) f.1
 
     agrees : Agrees l r (wanted l) calls
     agrees = (driver h l (wanted l) n done calls legal worked).agrees r (λ w inside. each-map (HasAll r w) (IsReported r w) (done w) (λ job all. all.0) (reported w inside))
