@@ -1,5 +1,5 @@
 -- Files as a map: what one write or removal after another gives.
-use Rattle.std.proofs.Common.{◌≡◌, ℕ, Bool, true, false, cond, not, List, refl, ◌∙◌, sym, ap}
+use Rattle.std.proofs.Common.{◌≡◌, ℕ, Bool, true, false, cond, not, List, refl, ◌∙◌, sym, ap, append_assoc, append-nil}
 use lib.Pointwise.{pointwise}
 use Rattle.std.specs.Prelude.{nat_eq, Option, Some, None, ◌++◌, [], unwrap_or}
 use Rattle.std.specs.Ordering.{nat_cmp, eq_by_cmp, is_eq}
@@ -9,7 +9,8 @@ use Rattle.std.specs.Cmp.Lexicographic.{slice_cmp, nat_list_cmp_total, texts_tie
 use Rattle.std.specs.FinMap.{get, insert, remove, retain_keys, get-insert, get-remove, get-retain_keys, slice_cmp-IsAntisymmetric, nat_cmp-IsAntisymmetric}
 use Rattle.edge_traits.specs.FileMaps.{Files}
 use Rattle.edge_traits.proofs.FileLemmas.{same_files, put-put}
-use Rattle.object_delivery.specs.FileViews.{appended, with_moved, moved_file}
+use Rattle.object_delivery.specs.FileViews.{content_of, appended, with_moved, moved_file}
+use Rattle.object_delivery.specs.Staging.{HasFile}
 
 -- the names are one
 abbrev pub is_name : List ℕ → List ℕ → Bool
@@ -63,6 +64,30 @@ pub appended-insert : (files : Files) (name first second : List ℕ) → appende
 appended-insert files name first second =
     ap (λ content. insert (insert files name first) name (unwrap_or content [] ++ second)) (at_written files name first)
     ∙ put-put files name first (first ++ second)
+
+-- what was just written
+pub content-insert : (files : Files) (name bytes : List ℕ) → content_of (insert files name bytes) name ≡ bytes
+content-insert files name bytes = ap (λ content. unwrap_or content []) (at_written files name bytes)
+
+-- nothing is added to a file that is there
+pub appended-nil : (files : Files) (name : List ℕ) → HasFile files name → files ≡ appended files name []
+appended-nil files name file =
+    let same : content_of files name ++ [] ≡ file.content = append-nil (content_of files name) ∙ ap (λ content. unwrap_or content []) file.there in
+    sym (ap (λ bytes. insert files name bytes) same ∙ same_files _ _ (λ q.
+    at_insert files name file.content q
+    ∙ elim (is_name q name) as (λ b. is_name q name ≡ b → cond b (Some file.content) (get files q) ≡ get files q) [
+      | true ↦ λ is. sym (ap (λ x. get files x) (one_name q name is) ∙ file.there)
+      | false ↦ λ is. refl
+    ] refl))
+
+-- bytes are added, and then others
+pub appended-appended : (files : Files) (name first second : List ℕ) → appended (appended files name first) name second ≡ appended files name (first ++ second)
+appended-appended files name first second =
+    appended-insert files name (content_of files name ++ first) second ∙ ap (λ bytes. insert files name bytes) (append_assoc (content_of files name) first second)
+
+-- a removal after bytes were added
+pub remove-appended : (files : Files) (name bytes : List ℕ) → remove (appended files name bytes) name ≡ remove files name
+remove-appended files name bytes = remove-insert files name (content_of files name ++ bytes)
 
 -- a file that was just written gets another name
 pub moved_file-insert : (files : Files) (from to bytes : List ℕ) → moved_file (insert files from bytes) from to ≡ insert (remove files from) to bytes

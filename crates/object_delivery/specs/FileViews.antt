@@ -1,7 +1,9 @@
 -- What files tell, and what the calls on them do.
-use Rattle.std.specs.Prelude.{ℕ, ◌≤◌, ◌++◌, ◌⊎◌, List, [], length, take, Option, Some, None, Result, Ok, Err, unwrap_or}
+use Rattle.std.specs.Prelude.{◌≡◌, ℕ, ◌<◌, ◌≤◌, ◌++◌, ◌⊎◌, List, [], length, take, Option, Some, None, Result, Ok, Err, IfOk, IsErrOf, unwrap_or}
 use Rattle.std.specs.FinMap.{get, insert, remove}
 use Rattle.edge_traits.specs.declared.faults.EdgeFault.{EdgeFault}
+use Rattle.edge_traits.specs.declared.faults.EdgeFault.TheVariants.{Failed, Memory}
+use Rattle.edge_traits.specs.Causes.{Rose, Still}
 use Rattle.edge_traits.specs.Told.{Told, Became, untold}
 use Rattle.edge_traits.specs.FileMaps.{Files}
 use Rattle.edge_traits.specs.Keepers.{KeeperView}
@@ -34,6 +36,14 @@ pub record FrontAppended (old new : Told Files) (name piece : List ℕ) : Type 0
 abbrev pub Appends : Told Files → Told Files → List ℕ → List ℕ → Result ℕ EdgeFault → Type 0
 Appends old new name piece (Ok count) = Became old new (appended old.value name (take count piece))
 Appends old new name piece (Err fault) = Became old new old.value ⊎ FrontAppended old new name piece
+
+-- Why an append may answer a fault. It may take nothing of a piece with bytes only where the count rose, and wants memory only where it stands still.
+pub record HasAppendCause (before now : ℕ) (piece : List ℕ) (result : Result ℕ EdgeFault) : Type 0 where
+  pub later : before ≤ now
+  pub failed : IsErrOf result Failed → Rose before now
+  pub taken : IfOk result (λ count. 0 < count → Still before now)
+  pub none : IfOk result (λ count. count ≡ 0 → 0 < length piece → Rose before now)
+  pub memory : IsErrOf result Memory → Still before now
 
 -- the files with the content of one, if it is there, moved to another name
 abbrev pub with_moved : Files → List ℕ → List ℕ → Option (List ℕ) → Files

@@ -47,12 +47,12 @@ impl MemFiles {
 }
 
 impl Files for MemFiles {
-    ghost use Rattle.std.specs.Prelude.{◌≡◌, ◌≢◌, Err, ◌≤◌, ◌↔◌, length, min, IsTrue, IsErrOf, IfOk, IfErr};
+    ghost use Rattle.std.specs.Prelude.{◌≡◌, ◌≢◌, Err, ◌≤◌, ◌↔◌, length, min, IsTrue, IsErrOf, IfOk, IfErr, OnOk};
     ghost use Rattle.edge_traits.specs.Calls.{names_next};
-    ghost use Rattle.edge_traits.specs.Causes.{HasCause};
-    ghost use Rattle.edge_traits.specs.Keepers.{FetchCause};
+    ghost use Rattle.edge_traits.specs.Causes.{HasCause, IsRemoval};
+    ghost use Rattle.edge_traits.specs.Keepers.{FetchCause, NoneRose};
     ghost use Rattle.edge_traits.specs.declared.faults.EdgeFault.TheVariants.{Failed};
-    ghost use Rattle.object_delivery.specs.FileViews.{as_keeper};
+    ghost use Rattle.object_delivery.specs.FileViews.{as_keeper, HasAppendCause};
     ghost use Rattle.object_delivery.specs.ScriptedFiles.{files_state, files_shows, after_create, after_append, after_rename, after_remove, IsLoadAnswer, after_load};
 
     ghost shows = { λ f. files_shows (files_state f) };
@@ -75,7 +75,7 @@ impl Files for MemFiles {
         ensures failed { IsErrOf result Failed ↔ IsTrue (names_next (files_state self.old).fails (files_state self.old).made) }
         ensures taken { IfOk result (λ n. n ≡ min (files_state self.old).most (length piece.now)) }
         ensures state { files_state self.new ≡ after_append (files_state self.old) name.now piece.now result }
-        ensures cause { HasCause (files_shows (files_state self.old)).faults (files_shows (files_state self.new)).faults result }
+        ensures cause { HasAppendCause (files_shows (files_state self.old)).faults (files_shows (files_state self.new)).faults piece.now result }
     {
         if self.calls.fails_next() {
             return Err(EdgeFault::Failed);
@@ -104,6 +104,7 @@ impl Files for MemFiles {
     fn remove(&mut self, name: &Bytes) -> Result<(), EdgeFault>
         ensures failed { IsErrOf result Failed ↔ IsTrue (names_next (files_state self.old).fails (files_state self.old).made) }
         ensures memory { result ≢ Err EdgeFault.Memory }
+        ensures once { IsRemoval (files_shows (files_state self.old)).faults (files_shows (files_state self.new)).faults }
         ensures state { files_state self.new ≡ after_remove (files_state self.old) name.now result }
         ensures cause { HasCause (files_shows (files_state self.old)).faults (files_shows (files_state self.new)).faults result }
     {
@@ -119,6 +120,7 @@ impl Files for MemFiles {
         ensures answer { IsLoadAnswer (files_state self.old) name.now bound result }
         ensures state { files_state self.new ≡ after_load (files_state self.old) result }
         ensures faults { (files_shows (files_state self.old)).faults ≤ (files_shows (files_state self.new)).faults }
+        ensures done { OnOk result (NoneRose (as_keeper (files_shows (files_state self.old))) (as_keeper (files_shows (files_state self.new)))) }
         ensures cause { IfErr result (FetchCause name.now bound (as_keeper (files_shows (files_state self.old))) (as_keeper (files_shows (files_state self.new)))) }
     {
         if self.calls.fails_next() {
