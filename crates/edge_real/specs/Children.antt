@@ -1,5 +1,5 @@
 -- What a program is given, and what a run of it that came to nothing may answer.
-use Rattle.std.specs.Prelude.{◌≡◌, ℕ, ◌<◌, ◌==◌, Bool, true, false, List, [], ◌∷◌, map, Option, None, Some, codes, if◌then◌else◌}
+use Rattle.std.specs.Prelude.{◌≡◌, ℕ, ◌<◌, ◌==◌, false, List, [], ◌∷◌, map, Option, None, Some, codes, if◌then◌else◌}
 use Rattle.std.specs.List.{list_any}
 use Rattle.std.specs.Option.{option_map}
 use Rattle.std.specs.Str.{IsUtf8}
@@ -13,7 +13,7 @@ use Rattle.edge_traits.specs.declared.faults.Bounds.{Bounds}
 use Rattle.edge_traits.specs.declared.faults.Stream.{Stream}
 use Rattle.edge_traits.specs.declared.faults.StationFault.{StationFault}
 use Rattle.edge_traits.specs.declared.faults.StationFault.TheVariants.{Failed, TooMuch, Memory}
-use Rattle.edge_traits.specs.Stations.{bound_of}
+use Rattle.edge_traits.specs.Stations.{bound_of, has_output}
 use Rattle.edge_real.specs.OwnNames.{NamesView, own_name}
 
 -- a stream that is named is above its bound
@@ -59,15 +59,6 @@ first_input [] = None
 first_input (Text bytes ∷ words) = first_input words
 first_input (Input ext ∷ words) = Some ext
 first_input (Output ∷ words) = first_input words
-
-abbrev pub is_output : Word → Bool
-is_output (Text bytes) = false
-is_output (Input ext) = false
-is_output Output = true
-
--- one of the words stands for the object
-abbrev pub has_output : List Word → Bool
-has_output words = list_any is_output words
 
 -- the ending of a name
 abbrev pub ending_text : Ext → List ℕ

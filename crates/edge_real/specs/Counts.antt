@@ -1,27 +1,31 @@
 -- How a call changes the counts of a device.
 use Rattle.std.specs.Prelude.{ℕ, ◌==◌, ◌&&◌, not, List, length, Result, Ok, Err, if◌then◌else◌}
+use Rattle.edge_traits.specs.declared.faults.EdgeFault.{EdgeFault}
+use Rattle.edge_traits.specs.declared.faults.EdgeFault.TheVariants.{Failed as CallFailed, Memory as CallMemory}
 use Rattle.edge_traits.specs.declared.faults.FetchFault.{FetchFault}
 use Rattle.edge_traits.specs.declared.faults.FetchFault.TheVariants.{Failed, Absent, TooMuch, Memory}
 use Rattle.edge_traits.specs.declared.faults.StationFault.{StationFault}
 use Rattle.edge_traits.specs.declared.faults.StationFault.TheVariants.{Failed as RunFailed, TooMuch as RunTooMuch, Memory as RunMemory}
 use Rattle.edge_traits.specs.Calls.{one_more}
 
--- one more where the call came to nothing
-abbrev pub call_faults : {T E : Type 0} → Result T E → ℕ → ℕ
+-- one more where the call failed. A call that only wanted memory isn't counted.
+abbrev pub call_faults : {T : Type 0} → Result T EdgeFault → ℕ → ℕ
 call_faults (Ok value) count = count
-call_faults (Err fault) count = one_more count
+call_faults (Err CallFailed) count = one_more count
+call_faults (Err CallMemory) count = count
 
--- one more for an append that came to nothing, or that took none of a piece with bytes
-abbrev pub append_faults : {E : Type 0} → Result ℕ E → List ℕ → ℕ → ℕ
+-- one more for an append that failed, or that took none of a piece with bytes
+abbrev pub append_faults : Result ℕ EdgeFault → List ℕ → ℕ → ℕ
 append_faults (Ok taken) piece count = if (taken == 0) && not (length piece == 0) then one_more count else count
-append_faults (Err fault) piece count = one_more count
+append_faults (Err CallFailed) piece count = one_more count
+append_faults (Err CallMemory) piece count = count
 
 -- a file that isn't there or is too long is no fault of the files, but an overrun
 abbrev pub fault_of_load : FetchFault → ℕ → ℕ
 fault_of_load Failed count = one_more count
 fault_of_load Absent count = count
 fault_of_load (TooMuch bytes) count = count
-fault_of_load Memory count = one_more count
+fault_of_load Memory count = count
 
 abbrev pub overrun_of_load : FetchFault → ℕ → ℕ
 overrun_of_load Failed count = count
@@ -41,7 +45,7 @@ load_overruns (Err fault) count = overrun_of_load fault count
 abbrev pub fault_of_run : StationFault → ℕ → ℕ
 fault_of_run RunFailed count = one_more count
 fault_of_run (RunTooMuch stream bytes) count = count
-fault_of_run RunMemory count = one_more count
+fault_of_run RunMemory count = count
 
 abbrev pub overrun_of_run : StationFault → ℕ → ℕ
 overrun_of_run RunFailed count = count

@@ -1,17 +1,20 @@
 -- The devices of one worker, as they begin.
-use Rattle.std.specs.Prelude.{◌≡◌, ℕ, List}
+use Rattle.std.specs.Prelude.{◌≡◌, ℕ, List, None}
 use Rattle.edge_traits.specs.declared.kit.Kit.{Kit}
 use Rattle.edge_real.specs.declared.tcp.TcpDialer.{TcpDialer}
 use Rattle.edge_real.specs.declared.child.ChildStation.{ChildStation}
 use Rattle.edge_real.specs.declared.disk.DiskFiles.{DiskFiles}
 use Rattle.edge_real.specs.declared.clock.WallClock.{WallClock}
+use Rattle.object_delivery.specs.Staging.{Kept}
 use Rattle.edge_real.specs.OwnNames.{first_names}
-use Rattle.edge_real.specs.Views.{dialer_view, counted_dialer, station_view, counted_station, names_of, files_view, counted_files, runtime_of}
+use Rattle.edge_real.specs.Views.{dialer_view, counted_dialer, station_view, counted_station, names_of, files_view, counted_files, files_names, runtime_of}
 
 -- nothing happened yet, and the station's own files are in this folder, under the number of this process
-pub record IsSystemKit {R : Type 0} (rt : R) (folder : List ℕ) (process : ℕ) (kit : Kit (TcpDialer R) (ChildStation R) (DiskFiles R) (WallClock R)) : Type 0 where
+pub record IsSystemKit {R : Type 0} (rt : R) (folder : List ℕ) (process : ℕ) (kit : Kit (TcpDialer R) (ChildStation R) (Kept (DiskFiles R)) (WallClock R)) : Type 0 where
   pub dialer : dialer_view kit.dialer ≡ counted_dialer 0
   pub station : station_view kit.station ≡ counted_station 0 0
   pub names : names_of kit.station ≡ first_names folder process
-  pub keeper : files_view kit.keeper ≡ counted_files 0 0
+  pub keeper : files_view kit.keeper.files ≡ counted_files 0 0
+  pub staged : files_names kit.keeper.files ≡ first_names folder process
+  pub idle : kit.keeper.pending ≡ None
   pub clock : runtime_of kit.clock ≡ rt

@@ -1,5 +1,5 @@
 -- The names of a station's own files.
-use Rattle.std.specs.Prelude.{◌≡◌, ℕ, ◌+◌, ◌%◌, ◌^◌, List, ◌++◌, codes, Option, string_bytes}
+use Rattle.std.specs.Prelude.{◌≡◌, ℕ, ◌+◌, ◌%◌, ◌^◌, ◌⊎◌, List, ◌++◌, take, codes, Option, string_bytes}
 use Rattle.std.specs.Option.{option_map}
 use Rattle.std.specs.Fmt.{decimal}
 use Rattle.edge_real.specs.declared.own_files.OwnNames.{OwnNames}
@@ -38,3 +38,14 @@ name_of file = string_bytes file.path
 -- the name of a file that may be there or not
 abbrev pub name_if : {R F D : Type 0} → Option (OwnFile R F D) → Option (List ℕ)
 name_if file = option_map name_of file
+
+-- the last part of the name of a file that is being written: `farm-PROCESS-SERIAL.farm~`
+abbrev pub numbered : ℕ → ℕ → List ℕ
+numbered process serial = codes "farm-" ++ decimal process ++ codes "-" ++ decimal serial ++ codes ".farm~"
+
+abbrev pub staged_text : NamesView → List ℕ
+staged_text names = numbered names.process names.serial
+
+-- this name is the text alone, or has it behind a front of the path and a slash
+abbrev pub IsBeside : List ℕ → List ℕ → List ℕ → Type 0
+IsBeside path text name = (name ≡ text) ⊎ ((count : ℕ) × (name ≡ take count path ++ codes "/" ++ text))

@@ -74,6 +74,10 @@ counted_files faults overruns = record { files = untold empty; faults = faults; 
 abbrev pub files_view : {R : Type 0} → DiskFiles R → FilesView
 files_view files = counted_files files.faults files.overruns
 
+-- the names of the files that are being written
+abbrev pub files_names : {R : Type 0} → DiskFiles R → NamesView
+files_names files = names_view files.names
+
 -- a clock doesn't tell what moments it gave
 abbrev pub clock_view : {R : Type 0} → WallClock R → ClockView
 clock_view clock = record { moments = untold [] }

@@ -1,9 +1,9 @@
 ghost use Rattle.std.specs.Prelude.{◌≡◌, ◌≤◌, ◌∷◌, ◌++◌, [], ⊤, false, length, map, IfSome, IfOk, IfErr, OnOk, MatchResult, All, string_bytes};
 ghost use Rattle.std.specs.Option.{unwrap_or};
 ghost use Rattle.std.specs.Process.{command_program, command_args, SameEnv, SameDir};
-ghost use Rattle.edge_traits.specs.Stations.{IsWithin};
+ghost use Rattle.edge_traits.specs.Stations.{IsWithin, has_output};
 ghost use Rattle.edge_real.specs.Counts.{run_faults, run_overruns};
-ghost use Rattle.edge_real.specs.Children.{IsRunFault, IsStreamFault, NamesNoStream, given_word, CanBeGiven, IsCommandOf, first_input, has_output, ending_text, input_name, output_name};
+ghost use Rattle.edge_real.specs.Children.{IsRunFault, IsStreamFault, NamesNoStream, given_word, CanBeGiven, IsCommandOf, first_input, ending_text, input_name, output_name};
 ghost use Rattle.edge_real.specs.OwnNames.{names_view, first_names, name_if, SameOwner};
 ghost use Rattle.edge_real.specs.Views.{station_view, counted_station, names_of};
 
@@ -11,11 +11,11 @@ use crate::counting::raise;
 use crate::disk::load;
 use crate::own_files::{OwnFile, OwnNames};
 use crate::reading::{Reading, read_to_end};
-use edge_traits::{Bounds, FetchFault, Station, StationFault, Stream};
+use edge_traits::{Bounds, FetchFault, Station, StationFault, Stream, has_output};
 use farm_types::{Bytes, Ext, Ran, Word};
 use std::alloc::Global;
 use std::fs::File;
-use std::io::{Read, Write};
+use std::io::{Read, Seek, Write};
 use std::os::unix::process::ExitStatusExt;
 use std::process::{Command, Processes, Stdio};
 use std::{rt, str};
@@ -23,8 +23,8 @@ use std::{rt, str};
 /// Runs programs as children of this process, and waits for their ends.
 ///
 /// The program is sought as the system seeks it, in `PATH` where its name has no slash. It has the environment and the folder of this process, and an
-/// empty standard input. The files that stand for `Input` and `Output`, and the one that takes its standard error, are in the folder that the
-/// station was given, and are gone when the run ends, whatever it answers.
+/// empty standard input. The files that stand for `Input` and `Output` are in the folder that the station was given, and are gone when the run
+/// ends, whatever it answers. So is the one that takes its standard error, which has a name only until it is open.
 #[derive(Drop)]
 pub struct ChildStation<R> {
     rt: R,
@@ -73,7 +73,8 @@ impl<R: Processes + rt::Files<File = File>> Station for ChildStation<R> {
         match ran {
             Ok(_) => {}
             Err(StationFault::TooMuch { .. }) => raise(&mut self.overruns),
-            Err(StationFault::Failed | StationFault::Memory) => raise(&mut self.faults),
+            Err(StationFault::Failed) => raise(&mut self.faults),
+            Err(StationFault::Memory) => {}
         }
         ran
     }
@@ -96,10 +97,10 @@ fn run_child<R: Processes + rt::Files<File = File>>(
 {
     let source = input_file(rt, names, alloc, words, input)?;
     let object = output_file(rt, names, alloc, words)?;
-    let (messages, errors) = OwnFile::create(rt, names, alloc, "err")?;
+    let mut messages = nameless_file(rt, names, alloc)?;
     let command = command_of(alloc, words, path_of(&source), path_of(&object))?;
-    let (status, out) = run_to_end(rt, command, errors, alloc, bounds.out)?;
-    let err = load_own(rt, alloc, messages.path(), bounds.err, Stream::Err)?;
+    let (status, out) = run_to_end(rt, command, &messages, alloc, bounds.out)?;
+    let err = read_again(&mut messages, alloc, bounds.err)?;
     let object = match &object {
         Some(file) => load_own(rt, alloc, file.path(), bounds.object, Stream::Object)?,
         None => Bytes::new(alloc),
@@ -152,15 +153,17 @@ fn output_file<'a, R: rt::Files>(
     Ok(Some(object))
 }
 
-fn has_output(words: &[Word]) -> bool
-    ensures { result ≡ has_output words.now }
+/// A file for the program's standard error. Its name is gone at once, so that nothing is left of it even where this process is killed.
+fn nameless_file<R: rt::Files<File = File>>(
+    rt: &R,
+    names: &mut OwnNames,
+    alloc: Global,
+) -> Result<File, StationFault>
+    ensures owner { SameOwner (names_view names.old) (names_view names.new) }
+    ensures fault { IfErr result NamesNoStream }
 {
-    for word in words {
-        if matches!(word, Word::Output) {
-            return true;
-        }
-    }
-    false
+    let (_named, file) = OwnFile::create(rt, names, alloc, "err")?;
+    Ok(file)
 }
 
 #[tactic(auto, using(crate::proofs::WordLemmas::inputs))]
@@ -270,13 +273,16 @@ fn text_of<'a>(word: &'a Word, source: &'a str, object: &'a str) -> Result<&'a s
 fn run_to_end<R: Processes>(
     rt: &R,
     command: Command,
-    errors: File,
+    messages: &File,
     alloc: Global,
     bound: u32,
 ) -> Result<(u32, Bytes), StationFault>
     ensures within { IfOk result (λ ended. length ended.1 ≤ bound) }
     ensures fault { IfErr result (IsStreamFault Stream.Out bound) }
 {
+    let Ok(errors) = messages.try_clone() else {
+        return Err(StationFault::Failed);
+    };
     let mut command = command;
     command
         .stdin(Stdio::null())
@@ -304,10 +310,34 @@ fn read_pipe<S: Read + Drop>(
     let Some(mut pipe) = pipe else {
         return Err(StationFault::Failed);
     };
-    match read_to_end(&mut pipe, alloc, bound)? {
+    read_stream(&mut pipe, alloc, bound, Stream::Out)
+}
+
+/// What was written into a file that is open still.
+fn read_again(file: &mut File, alloc: Global, bound: u32) -> Result<Bytes, StationFault>
+    ensures within { IfOk result (λ bytes. length bytes ≤ bound) }
+    ensures fault { IfErr result (IsStreamFault Stream.Err bound) }
+{
+    if file.rewind().is_err() {
+        return Err(StationFault::Failed);
+    }
+    read_stream(file, alloc, bound, Stream::Err)
+}
+
+fn read_stream<S: Read>(
+    stream: &mut S,
+    alloc: Global,
+    bound: u32,
+    which: Stream,
+) -> Result<Bytes, StationFault>
+    ensures within { IfOk result (λ bytes. length bytes ≤ bound) }
+    ensures fault { IfErr result (IsStreamFault which bound) }
+    ensures read { IfOk result (λ bytes. IfSome (S.remaining stream.old) (λ all. bytes ≡ all)) }
+{
+    match read_to_end(stream, alloc, bound)? {
         Reading::Whole(bytes) => Ok(bytes),
         Reading::Over(bytes) => Err(StationFault::TooMuch {
-            stream: Stream::Out,
+            stream: which,
             bytes,
         }),
         Reading::Failed => Err(StationFault::Failed),

@@ -1,63 +1,83 @@
-ghost use Rattle.std.specs.Prelude.{◌≡◌, ◌≢◌, ◌≤◌, length, IfOk, IfErr, OnOk, MatchResult, Err};
+ghost use Rattle.std.specs.Prelude.{◌≡◌, ◌≢◌, ◌≤◌, length, IfOk, IfErr, OnOk, MatchResult, Err, string_bytes};
 ghost use Rattle.std.specs.Str.{IsUtf8};
 ghost use Rattle.edge_real.specs.Counts.{call_faults, append_faults, load_faults, load_overruns};
+ghost use Rattle.edge_real.specs.OwnNames.{first_names, SameOwner};
 ghost use Rattle.edge_real.specs.Reading.{IsLoadFault};
-ghost use Rattle.edge_real.specs.Views.{files_view, counted_files};
+ghost use Rattle.edge_real.specs.Views.{files_view, counted_files, files_names};
 
 use crate::counting::raise;
+use crate::own_files::OwnNames;
 use crate::reading::{Reading, read_to_end};
-use crate::retrying::write_once;
+use crate::staging::{StagedFile, move_to, stage};
 use edge_traits::{EdgeFault, FetchFault};
 use farm_types::Bytes;
 use object_delivery::Files;
 use std::alloc::Global;
-use std::fs::{File, OpenOptions};
+use std::fs::File;
 use std::io::ErrorKind;
 use std::{fs, io, rt, str};
 
-/// The files of the system. A name that isn't UTF-8 counts as a fault.
+/// The files of the system, for a keeper that writes one file at a time. A name that isn't UTF-8 counts as a fault.
+///
+/// The name under which a file is written, its own with `.farm~` added, stands for a new file of a short name of its own
+/// in the same folder, `farm-PROCESS-SERIAL.farm~`. It is opened new, so no two processes write one file, and nothing that is
+/// there is written over. A character device keeps its place: what is for it is written in the folder that this value was
+/// given, and copied into it in the end. Anything else that is no regular file is never replaced.
 #[derive(Drop)]
 pub struct DiskFiles<R> {
     rt: R,
+    names: OwnNames,
+    staged: Option<StagedFile>,
     faults: u64,
     overruns: u64,
 }
 
-impl<R: rt::Files> DiskFiles<R> {
-    /// The files, without faults and overruns so far.
-    pub fn new(rt: R) -> DiskFiles<R>
-        ensures { files_view result ≡ counted_files 0 0 }
+impl<R: rt::Files<File = File>> DiskFiles<R> {
+    /// The files, without faults and overruns so far. What is for a device is written in `folder`, and `process` is the number of
+    /// this process.
+    pub fn new(rt: R, folder: String, process: u32) -> DiskFiles<R>
+        ensures view { files_view result ≡ counted_files 0 0 }
+        ensures names { files_names result ≡ first_names (string_bytes folder) process }
     {
         DiskFiles {
             rt,
+            names: OwnNames::new(folder, process),
+            staged: None,
             faults: 0,
             overruns: 0,
         }
     }
 }
 
-impl<R: rt::Files> Files for DiskFiles<R> {
+impl<R: rt::Files<File = File>> Files for DiskFiles<R> {
     ghost shows = { files_view };
 
-    fn create(&mut self, _alloc: Global, name: &Bytes) -> Result<(), EdgeFault>
+    fn create(&mut self, alloc: Global, name: &Bytes) -> Result<(), EdgeFault>
         ensures name { OnOk result (IsUtf8 name.now) }
+        ensures names { SameOwner (files_names self.old) (files_names self.new) }
         ensures overruns { (files_view self.new).overruns ≡ (files_view self.old).overruns }
         ensures faults { (files_view self.new).faults ≡ call_faults result (files_view self.old).faults }
     {
-        let created = create_file(&self.rt, name);
-        if created.is_err() {
-            raise(&mut self.faults);
+        match stage(&self.rt, &mut self.names, alloc, name) {
+            Ok(staged) => {
+                self.staged = Some(staged);
+                Ok(())
+            }
+            Err(EdgeFault::Failed) => {
+                raise(&mut self.faults);
+                Err(EdgeFault::Failed)
+            }
+            Err(EdgeFault::Memory) => Err(EdgeFault::Memory),
         }
-        created.map_err(|_| EdgeFault::Failed)
     }
 
     fn append(&mut self, _alloc: Global, name: &Bytes, piece: &[u8]) -> Result<usize, EdgeFault>
         ensures bound { IfOk result (λ n. n ≤ length piece.now) }
-        ensures name { OnOk result (IsUtf8 name.now) }
+        ensures names { files_names self.new ≡ files_names self.old }
         ensures overruns { (files_view self.new).overruns ≡ (files_view self.old).overruns }
         ensures faults { (files_view self.new).faults ≡ append_faults result piece.now (files_view self.old).faults }
     {
-        match append_piece(&self.rt, name, piece) {
+        match append_piece(&mut self.staged, name, piece) {
             Ok(taken) => {
                 if taken == 0 && !piece.is_empty() {
                     raise(&mut self.faults);
@@ -72,78 +92,109 @@ impl<R: rt::Files> Files for DiskFiles<R> {
     }
 
     fn rename(&mut self, _alloc: Global, from: &Bytes, to: &Bytes) -> Result<(), EdgeFault>
-        ensures name { OnOk result (IsUtf8 from.now × IsUtf8 to.now) }
+        ensures name { OnOk result (IsUtf8 to.now) }
+        ensures names { files_names self.new ≡ files_names self.old }
         ensures overruns { (files_view self.new).overruns ≡ (files_view self.old).overruns }
         ensures faults { (files_view self.new).faults ≡ call_faults result (files_view self.old).faults }
     {
-        let renamed = rename_file(&self.rt, from, to);
-        if renamed.is_err() {
-            raise(&mut self.faults);
+        match rename_file(&self.rt, &mut self.staged, from, to) {
+            Ok(()) => Ok(()),
+            Err(_) => {
+                raise(&mut self.faults);
+                Err(EdgeFault::Failed)
+            }
         }
-        renamed.map_err(|_| EdgeFault::Failed)
     }
 
     fn remove(&mut self, name: &Bytes) -> Result<(), EdgeFault>
-        ensures name { OnOk result (IsUtf8 name.now) }
+        ensures names { files_names self.new ≡ files_names self.old }
         ensures overruns { (files_view self.new).overruns ≡ (files_view self.old).overruns }
         ensures memory { result ≢ Err EdgeFault.Memory }
         ensures faults { (files_view self.new).faults ≡ call_faults result (files_view self.old).faults }
     {
-        let removed = remove_file(&self.rt, name);
-        if removed.is_err() {
-            raise(&mut self.faults);
+        match remove_file(&self.rt, &mut self.staged, name) {
+            Ok(()) => Ok(()),
+            Err(_) => {
+                raise(&mut self.faults);
+                Err(EdgeFault::Failed)
+            }
         }
-        removed.map_err(|_| EdgeFault::Failed)
     }
 
     fn load(&mut self, alloc: Global, name: &Bytes, bound: u32) -> Result<Bytes, FetchFault>
         ensures within { IfOk result (λ bytes. length bytes ≤ bound) }
         ensures cause { IfErr result (IsLoadFault bound) }
         ensures name { OnOk result (IsUtf8 name.now) }
+        ensures names { files_names self.new ≡ files_names self.old }
         ensures faults { (files_view self.new).faults ≡ load_faults result (files_view self.old).faults }
         ensures overruns { (files_view self.new).overruns ≡ load_overruns result (files_view self.old).overruns }
     {
         let loaded = load_file(&self.rt, alloc, name, bound);
         match loaded {
-            Ok(_) => {}
+            Ok(_) | Err(FetchFault::Memory) => {}
             Err(FetchFault::Absent | FetchFault::TooMuch { .. }) => raise(&mut self.overruns),
-            Err(FetchFault::Failed | FetchFault::Memory) => raise(&mut self.faults),
+            Err(FetchFault::Failed) => raise(&mut self.faults),
         }
         loaded
     }
 }
 
-fn text_of(name: &Bytes) -> io::Result<&str>
+/// A name as text. One that isn't UTF-8 has none.
+pub(crate) fn text_of(name: &Bytes) -> io::Result<&str>
     ensures { MatchResult result (λ text. (text.now ≡ name.now) × IsUtf8 name.now) (λ error. ¬ (IsUtf8 name.now)) }
 {
     str::from_utf8(name.as_slice()).map_err(|_| io::Error::from(ErrorKind::InvalidInput))
 }
 
-fn create_file<R: rt::Files>(rt: &R, name: &Bytes) -> io::Result<()>
-    ensures { OnOk result (IsUtf8 name.now) }
+fn append_piece(staged: &mut Option<StagedFile>, name: &Bytes, piece: &[u8]) -> io::Result<usize>
+    ensures { IfOk result (λ n. n ≤ length piece.now) }
 {
-    fs::create(rt, text_of(name)?)?;
+    match staged {
+        Some(file) => {
+            if !file.stands_for(name) {
+                return Err(io::Error::from(ErrorKind::NotFound));
+            }
+            file.write(piece)
+        }
+        None => Err(io::Error::from(ErrorKind::NotFound)),
+    }
+}
+
+/// Gives the file that is being written its own name. It is being written still where that fails.
+fn rename_file<R: rt::Files>(
+    rt: &R,
+    staged: &mut Option<StagedFile>,
+    from: &Bytes,
+    to: &Bytes,
+) -> io::Result<()>
+    ensures { OnOk result (IsUtf8 to.now) }
+{
+    let Some(file) = staged else {
+        return Err(io::Error::from(ErrorKind::NotFound));
+    };
+    if !file.stands_for(from) {
+        return Err(io::Error::from(ErrorKind::NotFound));
+    }
+    move_to(rt, file.path(), text_of(to)?)?;
+    *staged = None;
     Ok(())
 }
 
-fn append_piece<R: rt::Files>(rt: &R, name: &Bytes, piece: &[u8]) -> io::Result<usize>
-    ensures bound { IfOk result (λ n. n ≤ length piece.now) }
-    ensures name { OnOk result (IsUtf8 name.now) }
-{
-    let mut file = OpenOptions::new().append(true).open(rt, text_of(name)?)?;
-    write_once(&mut file, piece)
-}
-
-fn rename_file<R: rt::Files>(rt: &R, from: &Bytes, to: &Bytes) -> io::Result<()>
-    ensures { OnOk result (IsUtf8 from.now × IsUtf8 to.now) }
-{
-    fs::rename(rt, text_of(from)?, text_of(to)?)
-}
-
-fn remove_file<R: rt::Files>(rt: &R, name: &Bytes) -> io::Result<()>
-    ensures { OnOk result (IsUtf8 name.now) }
-{
-    fs::remove_file(rt, text_of(name)?)
+/// Takes the file that is being written away. It is being written no more, whatever the answer is.
+fn remove_file<R: rt::Files>(
+    rt: &R,
+    staged: &mut Option<StagedFile>,
+    name: &Bytes,
+) -> io::Result<()> {
+    match staged.take() {
+        Some(file) => {
+            if !file.stands_for(name) {
+                return Err(io::Error::from(ErrorKind::NotFound));
+            }
+            fs::remove_file(rt, file.path())
+        }
+        None => Err(io::Error::from(ErrorKind::NotFound)),
+    }
 }
 
 fn load_file<R: rt::Files>(

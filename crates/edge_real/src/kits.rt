@@ -13,20 +13,22 @@ use std::rt;
 /// The devices of one worker of `farm`, over the system.
 pub type SystemKit<R> = Kit<TcpDialer<R>, ChildStation<R>, FileKeeper<DiskFiles<R>>, WallClock<R>>;
 
-/// A worker's devices. Its station's own files are in `folder`, and `process` is the number of this process.
+/// A worker's devices. The files of its own are in `folder`, and `process` is the number of this process.
 pub fn system_kit<R: Net + Processes + rt::Files<File = File> + rt::Clock + Copy>(
     rt: R,
-    folder: String,
+    alloc: Global,
+    folder: &str,
     process: u32,
-) -> SystemKit<R>
-    ensures { IsSystemKit rt (string_bytes folder) process result }
+) -> Result<SystemKit<R>, AllocError>
+    ensures { IfOk result (IsSystemKit rt folder.now process) }
 {
-    Kit {
+    let staging = String::from_str(alloc, folder)?;
+    Ok(Kit {
         dialer: TcpDialer::new(rt),
-        station: ChildStation::new(rt, folder, process),
-        keeper: FileKeeper::new(DiskFiles::new(rt)),
+        station: ChildStation::new(rt, String::from_str(alloc, folder)?, process),
+        keeper: FileKeeper::new(DiskFiles::new(rt, staging, process)),
         clock: WallClock::new(rt),
-    }
+    })
 }
 
 /// So many kits.
@@ -42,7 +44,7 @@ pub fn system_kits<R: Net + Processes + rt::Files<File = File> + rt::Clock + Cop
 {
     let mut kits = Vec::with_capacity(alloc, count)?;
     for _ in 0..count {
-        kits.push(system_kit(rt, String::from_str(alloc, folder)?, process))?;
+        kits.push(system_kit(rt, alloc, folder, process)?)?;
     }
     Ok(kits)
 }

@@ -11,6 +11,7 @@ mod kits;
 mod own_files;
 mod reading;
 mod retrying;
+mod staging;
 mod stream;
 mod tcp;
 

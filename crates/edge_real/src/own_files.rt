@@ -1,7 +1,7 @@
 ghost use Rattle.std.specs.Prelude.{◌≡◌, true, IfOk, IfErr, string_bytes};
-ghost use Rattle.std.specs.Fs.{asks_write, asks_create_new};
+ghost use Rattle.std.specs.Fs.{asks_read, asks_write, asks_create_new};
 ghost use Rattle.edge_real.specs.Children.{NamesNoStream};
-ghost use Rattle.edge_real.specs.OwnNames.{names_view, first_names, next_names, own_name, name_of, SameOwner};
+ghost use Rattle.edge_real.specs.OwnNames.{names_view, first_names, next_names, own_name, name_of, SameOwner, IsBeside, numbered, staged_text};
 
 use edge_traits::StationFault;
 use std::alloc::{AllocError, Global};
@@ -43,13 +43,52 @@ impl OwnNames {
         Ok(name)
     }
 
-    fn next(&mut self, alloc: Global, ending: &str) -> Result<String, AllocError>
+    fn advance(&mut self)
+        ensures { names_view self.new ≡ next_names (names_view self.old) }
+    {
+        self.serial = self.serial.wrapping_add(1);
+    }
+
+    /// The next name for a file that is written beside this path.
+    pub fn next_beside(&mut self, alloc: Global, path: &str) -> Result<String, AllocError>
+        ensures names { names_view self.new ≡ next_names (names_view self.old) }
+        ensures text { IfOk result (λ name. IsBeside path.now (staged_text (names_view self.new)) (string_bytes name)) }
+    {
+        self.advance();
+        staged_beside(alloc, path, self.process, self.serial)
+    }
+
+    /// The next name in the folder.
+    pub fn next(&mut self, alloc: Global, ending: &str) -> Result<String, AllocError>
         ensures names { names_view self.new ≡ next_names (names_view self.old) }
         ensures text { IfOk result (λ name. string_bytes name ≡ own_name (names_view self.new) ending.now) }
     {
-        self.serial = self.serial.wrapping_add(1);
+        self.advance();
         self.current(alloc, ending)
     }
+}
+
+/// `farm-PROCESS-SERIAL.farm~` in the folder of this path.
+fn staged_beside(alloc: Global, path: &str, process: u32, serial: u64) -> Result<String, AllocError>
+    ensures { IfOk result (λ name. IsBeside path.now (numbered process serial) (string_bytes name)) }
+{
+    let number = numbered(alloc, process, serial)?;
+    match path.rsplit_once('/') {
+        Some((folder, _)) => {
+            let mut name = String::from_str(alloc, folder)?;
+            name.push_str("/")?;
+            name.push_str(number.as_str())?;
+            Ok(name)
+        }
+        None => Ok(number),
+    }
+}
+
+fn numbered(alloc: Global, process: u32, serial: u64) -> Result<String, AllocError>
+    ensures { IfOk result (λ name. string_bytes name ≡ numbered process serial) }
+{
+    let name = format!(in alloc; "farm-{process}-{serial}.farm~")?;
+    Ok(name)
 }
 
 /// A file of a station's own, which goes away with this value.
@@ -59,7 +98,7 @@ pub struct OwnFile<'a, R: rt::Files> {
 }
 
 impl<'a, R: rt::Files> OwnFile<'a, R> {
-    /// A new empty file that its owner alone may read, opened for writing. A name that is there already is passed over.
+    /// A new empty file that its owner alone may read, opened for reading and writing. A name that is there already is passed over.
     pub fn create(
         rt: &'a R,
         names: &mut OwnNames,
@@ -99,14 +138,15 @@ impl<R: rt::Files> Drop for OwnFile<'_, R> {
     }
 }
 
-/// How a file of a station's own is opened: it is new, it is written, and its owner alone may read it.
+/// How a file of a station's own is opened: it is new, it is written and read, and its owner alone may do so.
 fn for_owner_alone() -> OpenOptions
+    ensures read { asks_read result ≡ true }
     ensures written { asks_write result ≡ true }
     ensures is_new { asks_create_new result ≡ true }
 {
     let mut options = OpenOptions::new();
     options.mode(OWNER_ALONE);
-    options.write(true).create_new(true);
+    options.read(true).write(true).create_new(true);
     options
 }
 

@@ -180,7 +180,7 @@ impl<R: Net> Dialer for TcpDialer<R> {
         ensures faults { (dialer_view self.new).faults ≡ call_faults result (dialer_view self.old).faults }
     {
         let link = self.connect(host, port);
-        if link.is_err() {
+        if matches!(link, Err(EdgeFault::Failed)) {
             raise(&mut self.faults);
         }
         link

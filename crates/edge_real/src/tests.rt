@@ -13,8 +13,9 @@ use farm_types::{Bytes, Ext, HostName, Word};
 use object_delivery::Files;
 use std::alloc::{AllocError, Global};
 use std::io::pipe;
+use std::os::unix::fs::FileTypeExt;
 use std::test::Fail;
-use std::thread;
+use std::{fs, thread};
 
 const BOUNDS: Bounds = Bounds {
     out: 100_000,
@@ -32,6 +33,10 @@ fn host(alloc: Global, name: &[u8]) -> Result<HostName, AllocError> {
     Ok(HostName {
         text: Bytes::from_slice(alloc, name)?,
     })
+}
+
+fn files(rt: HostRuntime, process: u32) -> Result<DiskFiles<HostRuntime>, AllocError> {
+    Ok(DiskFiles::new(rt, String::from_str(rt.alloc(), ".")?, process))
 }
 
 fn shell(alloc: Global, script: &[u8]) -> Result<Vec<Word>, AllocError>
@@ -106,7 +111,7 @@ fn count_given<L: Link>(link: &mut L) -> u64 {
 }
 
 #[test]
-fn a_client_that_sent_too_much_gets_the_whole_reply(rt: HostRuntime) -> Result<(), Fail> {
+fn a_client_that_sends_too_much_gets_the_whole_reply(rt: HostRuntime) -> Result<(), Fail> {
     let alloc = rt.alloc();
     let mut door = TcpDoor::open(&rt, LOCALHOST, 0);
     let port = door.port().ok_or("port")?;
@@ -119,7 +124,9 @@ fn a_client_that_sent_too_much_gets_the_whole_reply(rt: HostRuntime) -> Result<(
                 return 0;
             };
             send_often(&mut link, 100);
-            let given = count_given(&mut link);
+            let first = link.recv(&mut [0u8; 1]);
+            send_often(&mut link, 100);
+            let given = count_given(&mut link).saturating_add(u64::from(matches!(first, Ok(1))));
             dialer.hang_up(link);
             given
         },
@@ -166,16 +173,20 @@ fn a_shared_door_is_at_the_same_port(rt: HostRuntime) -> Result<(), Fail> {
 fn a_child_gives_its_status_outputs_and_object(rt: HostRuntime) -> Result<(), Fail> {
     let alloc = rt.alloc();
     let mut station = ChildStation::new(rt, String::from_str(alloc, ".")?, 7);
-    let script = b"cat $0 > $1; cat; echo $0; stat -c %a $0 $1; echo no >&2; exit 3";
+    let script =
+        b"cat $0 > $1; cat; echo $0; stat -c %a $0 $1; readlink /proc/$$/fd/0; echo no >&2; exit 3";
     let words = shell(alloc, script)?;
     let ran = station
         .run(alloc, words.as_slice(), b"int a;\n", &BOUNDS)
         .map_err(|_| "run")?;
     assert_eq!(rt; ran.status, 768);
-    assert_eq!(rt; ran.out.as_slice(), b"./farm-7-1.ii\n600\n600\n".as_slice());
+    assert_eq!(rt;
+        ran.out.as_slice(),
+        b"./farm-7-1.ii\n600\n600\n/dev/null\n".as_slice()
+    );
     assert_eq!(rt; ran.err.as_slice(), b"no\n".as_slice());
     assert_eq!(rt; ran.object.as_slice(), b"int a;\n".as_slice());
-    let mut files = DiskFiles::new(rt);
+    let mut files = files(rt, 7)?;
     for name in [b"farm-7-1.ii".as_slice(), b"farm-7-2.o", b"farm-7-3.err"] {
         let name = Bytes::from_slice(alloc, name)?;
         assert!(rt; matches!(files.load(alloc, &name, 9), Err(FetchFault::Absent)));
@@ -186,19 +197,15 @@ fn a_child_gives_its_status_outputs_and_object(rt: HostRuntime) -> Result<(), Fa
 #[test]
 fn a_name_that_is_there_is_passed_over(rt: HostRuntime) -> Result<(), Fail> {
     let alloc = rt.alloc();
-    let mut files = DiskFiles::new(rt);
-    let there = Bytes::from_slice(alloc, b"farm-6-1.ii")?;
-    files.create(alloc, &there)?;
-    files.append(alloc, &there, b"mine")?;
+    fs::write(&rt, "farm-6-1.ii", "mine")?;
     let mut station = ChildStation::new(rt, String::from_str(alloc, ".")?, 6);
-    let words = shell(alloc, b"echo $0")?;
+    let words = shell(alloc, b"echo $0; rm $1")?;
     let ran = station
         .run(alloc, words.as_slice(), b"int a;\n", &BOUNDS)
         .map_err(|_| "run")?;
     assert_eq!(rt; ran.out.as_slice(), b"./farm-6-2.ii\n".as_slice());
-    let kept = files.load(alloc, &there, 9)?;
-    assert_eq!(rt; kept.as_slice(), b"mine".as_slice());
-    files.remove(&there)?;
+    assert!(rt; ran.object.is_empty());
+    assert_eq!(rt; fs::read_to_string(&rt, "farm-6-1.ii")?.as_str(), "mine");
     Ok(())
 }
 
@@ -226,7 +233,7 @@ fn a_child_that_fails_is_told_from_one_that_ends(rt: HostRuntime) -> Result<(), 
         let ended = station.run(alloc, &words, b"", &BOUNDS);
         assert!(rt; ended.err() == Some(StationFault::Failed));
     }
-    let mut files = DiskFiles::new(rt);
+    let mut files = files(rt, 8)?;
     for name in OWN_FILES_OF_8 {
         let name = Bytes::from_slice(alloc, name)?;
         assert!(rt; matches!(files.load(alloc, &name, 9), Err(FetchFault::Absent)));
@@ -253,7 +260,7 @@ fn put_file<K: Keeper>(
     path: &Bytes,
     bytes: &[u8],
 ) -> Result<(), EdgeFault> {
-    if is_staged(path.as_slice()) {
+    if keeper.is_pending() || is_staged(path.as_slice()) {
         return Ok(());
     }
     keeper.put(alloc, path, bytes)
@@ -282,37 +289,73 @@ fn a_file_is_put_and_fetched(rt: HostRuntime) -> Result<(), Fail> {
         put_file(alloc, keeper, &nowhere, b"new"),
         Err(EdgeFault::Failed)
     );
-    let mut files = DiskFiles::new(rt);
-    files.remove(&path)?;
-    assert_eq!(rt; files.remove(&path), Err(EdgeFault::Failed));
+    let folder = Bytes::from_slice(alloc, b".")?;
+    assert!(rt; matches!(keeper.fetch(alloc, &folder, 9), Err(FetchFault::Failed)));
     Ok(())
 }
 
 #[test]
-fn files_are_written_piece_by_piece(rt: HostRuntime) -> Result<(), Fail> {
+fn a_file_is_written_under_a_new_name(rt: HostRuntime) -> Result<(), Fail> {
     let alloc = rt.alloc();
-    let mut files = DiskFiles::new(rt);
-    let first = Bytes::from_slice(alloc, b"first")?;
-    let second = Bytes::from_slice(alloc, b"second")?;
-    files.create(alloc, &first)?;
-    assert_eq!(rt; files.append(alloc, &first, b"ab"), Ok(2));
-    assert_eq!(rt; files.append(alloc, &first, b""), Ok(0));
-    assert_eq!(rt; files.append(alloc, &first, b"c"), Ok(1));
-    files.rename(alloc, &first, &second)?;
-    assert!(rt; matches!(files.load(alloc, &first, 3), Err(FetchFault::Absent)));
-    let loaded = files.load(alloc, &second, 3)?;
+    fs::write(&rt, "farm-5-1.farm~", "planted")?;
+    fs::write(&rt, "x.o.farm~", "stale")?;
+    let mut files = files(rt, 5)?;
+    let staged = Bytes::from_slice(alloc, b"./x.o.farm~")?;
+    let named = Bytes::from_slice(alloc, b"./x.o")?;
+    files.create(alloc, &staged)?;
+    assert_eq!(rt; files.append(alloc, &staged, b"ab"), Ok(2));
+    assert_eq!(rt; files.append(alloc, &staged, b""), Ok(0));
+    assert_eq!(rt; files.append(alloc, &staged, b"c"), Ok(1));
+    assert_eq!(rt; files.append(alloc, &named, b"c"), Err(EdgeFault::Failed));
+    assert_eq!(rt;
+        fs::read_to_string(&rt, "./farm-5-2.farm~")?.as_str(),
+        "abc"
+    );
+    files.rename(alloc, &staged, &named)?;
+    let loaded = files.load(alloc, &named, 3)?;
     assert_eq!(rt; loaded.as_slice(), b"abc".as_slice());
-    files.remove(&second)?;
+    assert_eq!(rt;
+        fs::read_to_string(&rt, "farm-5-1.farm~")?.as_str(),
+        "planted"
+    );
+    assert_eq!(rt; fs::read_to_string(&rt, "x.o.farm~")?.as_str(), "stale");
+    files.create(alloc, &staged)?;
+    files.remove(&staged)?;
+    assert_eq!(rt; files.remove(&staged), Err(EdgeFault::Failed));
+    assert!(rt; !fs::exists(&rt, "farm-5-3.farm~")?);
+    Ok(())
+}
+
+#[test]
+fn only_a_regular_file_is_replaced(rt: HostRuntime) -> Result<(), Fail> {
+    let alloc = rt.alloc();
+    let mut kits = system_kits(rt, alloc, ".", 4, 1)?;
+    assert_eq!(rt; kits.len(), 1);
+    let keeper = &mut kits[0].keeper;
+    fs::create_dir(&rt, "folder")?;
+    let longest = [b'l'; 255];
+    for (name, put) in [
+        (b"/dev/null".as_slice(), Ok(())),
+        (b"folder", Err(EdgeFault::Failed)),
+        (b"folder/../x.o", Ok(())),
+        (longest.as_slice(), Ok(())),
+    ] {
+        let path = Bytes::from_slice(alloc, name)?;
+        assert_eq!(rt; put_file(alloc, keeper, &path, b"new"), put);
+    }
+    assert!(rt; fs::metadata(&rt, "/dev/null")?.file_type().is_char_device());
+    assert!(rt; fs::metadata(&rt, "folder")?.is_dir());
     Ok(())
 }
 
 #[test]
 fn a_name_that_is_not_utf8_is_a_fault(rt: HostRuntime) -> Result<(), Fail> {
     let alloc = rt.alloc();
-    let mut files = DiskFiles::new(rt);
+    let mut files = files(rt, 3)?;
     let name = Bytes::from_slice(alloc, b"\xff")?;
-    let good = Bytes::from_slice(alloc, b"good")?;
+    let good = Bytes::from_slice(alloc, b"good.farm~")?;
     assert_eq!(rt; files.create(alloc, &name), Err(EdgeFault::Failed));
+    files.create(alloc, &good)?;
     assert_eq!(rt; files.append(alloc, &name, b"ab"), Err(EdgeFault::Failed));
     assert_eq!(rt; files.rename(alloc, &name, &good), Err(EdgeFault::Failed));
     assert_eq!(rt; files.rename(alloc, &good, &name), Err(EdgeFault::Failed));
@@ -342,6 +385,8 @@ fn streams_end_and_break(rt: HostRuntime) -> Result<(), Fail> {
     let (reader, writer) = pipe(&rt)?;
     drop(writer);
     assert_eq!(rt; StdSource::new(reader).read(&mut room), Ok(0));
+    let mut none = [0u8; 0];
+    assert_eq!(rt; StdSink::new(none.as_mut_slice()).write(b"ab"), Ok(0));
     Ok(())
 }
 

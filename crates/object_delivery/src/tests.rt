@@ -1,5 +1,5 @@
 use super::{FileKeeper, Files, MemFiles};
-use edge_traits::{CallNumbers, EdgeFault, FetchFault, FileList, Keeper};
+use edge_traits::{CallNumbers, EdgeFault, FetchFault, FileList, Keeper, is_staged};
 use farm_types::Bytes;
 use std::alloc::Global;
 use std::test::Fail;
@@ -141,5 +141,56 @@ fn a_rename_takes_the_other_name(rt: HostRuntime) -> Result<(), Fail> {
     let moved = files.load(alloc, &new, 3)?;
     assert_eq!(rt; moved.as_slice(), b"old".as_slice());
     assert!(rt; matches!(files.load(alloc, &old, 3), Err(FetchFault::Absent)));
+    Ok(())
+}
+
+/// Begins a put, gives it these pieces, and commits it or gives it up.
+fn put_in_steps<K: Keeper>(
+    alloc: Global,
+    keeper: &mut K,
+    path: &Bytes,
+    pieces: &[&[u8]],
+    commits: bool,
+) -> Result<(), EdgeFault> {
+    if keeper.is_pending() || is_staged(path.as_slice()) {
+        return Err(EdgeFault::Memory);
+    }
+    keeper.begin(alloc, path)?;
+    for piece in pieces {
+        if keeper.is_pending() && !piece.is_empty() {
+            keeper.add(alloc, piece)?;
+        }
+    }
+    if commits && keeper.is_pending() {
+        return keeper.commit(alloc);
+    }
+    keeper.abandon();
+    Ok(())
+}
+
+#[test]
+fn a_put_in_steps_is_whole_or_not_at_all(rt: HostRuntime) -> Result<(), Fail> {
+    let alloc = rt.alloc();
+    let path = Bytes::from_slice(alloc, b"x.o")?;
+    let staged = Bytes::from_slice(alloc, b"x.o.farm~")?;
+    let two: &[&[u8]] = &[b"ab", b"c"];
+    for (fails, pieces, commits, put, named) in [
+        (&[0u64], two, true, Ok(()), b"abc".as_slice()),
+        (&[0], two, false, Ok(()), b"old"),
+        (&[0], &[], true, Ok(()), b""),
+        (&[1], two, true, Err(EdgeFault::Failed), b"old"),
+        (&[3], two, true, Err(EdgeFault::Failed), b"old"),
+        (&[4], two, true, Err(EdgeFault::Failed), b"old"),
+        (&[5], two, true, Err(EdgeFault::Failed), b"old"),
+    ] {
+        let mut keeper = FileKeeper::new(one_file(alloc, fails)?);
+        let seen = put_in_steps(alloc, &mut keeper, &path, pieces, commits);
+        assert_eq!(rt; seen, put);
+        assert!(rt; !keeper.is_pending());
+        let mut files = keeper.into_files();
+        let left = files.load(alloc, &path, 3)?;
+        assert_eq!(rt; left.as_slice(), named);
+        assert!(rt; matches!(files.load(alloc, &staged, 3), Err(FetchFault::Absent)));
+    }
     Ok(())
 }

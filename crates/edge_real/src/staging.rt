@@ -1,0 +1,157 @@
+// New files that are written beside those whose names they get.
+ghost use Rattle.std.specs.Prelude.{◌≡◌, ◌≤◌, length, IfOk, OnOk};
+ghost use Rattle.std.specs.Str.{IsUtf8};
+ghost use Rattle.edge_real.specs.OwnNames.{names_view, SameOwner};
+
+use crate::disk::text_of;
+use crate::own_files::OwnNames;
+use crate::retrying::write_once;
+use edge_traits::EdgeFault;
+use farm_types::Bytes;
+use std::alloc::{AllocError, Global};
+use std::fs::{File, OpenOptions};
+use std::io::ErrorKind;
+use std::os::unix::fs::FileTypeExt;
+use std::{fs, io, rt};
+
+/// A file that is being written: the name that stands for it, where it is, and the open file.
+#[derive(Drop)]
+pub struct StagedFile {
+    name: Bytes,
+    path: String,
+    file: File,
+}
+
+impl StagedFile {
+    /// Whether this name stands for it.
+    pub fn stands_for(&self, name: &Bytes) -> bool {
+        self.name.as_slice() == name.as_slice()
+    }
+
+    pub fn path(&self) -> &str {
+        self.path.as_str()
+    }
+
+    /// Adds the front of the piece, and answers how many bytes were taken.
+    pub fn write(&mut self, piece: &[u8]) -> io::Result<usize>
+        ensures { IfOk result (λ n. n ≤ length piece.now) }
+    {
+        write_once(&mut self.file, piece)
+    }
+}
+
+/// What stands at a path.
+#[derive(Drop)]
+enum Standing {
+    /// Nothing, or a regular file.
+    Free,
+    /// A character device.
+    Device,
+    /// Anything else, as a folder, a pipe or a socket.
+    Other,
+}
+
+fn look_at<R: rt::Files>(rt: &R, path: &str) -> io::Result<Standing> {
+    match fs::metadata(rt, path) {
+        Ok(metadata) => {
+            let kind = metadata.file_type();
+            if kind.is_file() {
+                return Ok(Standing::Free);
+            }
+            Ok(if kind.is_char_device() {
+                Standing::Device
+            } else {
+                Standing::Other
+            })
+        }
+        Err(error) => {
+            if error.kind() == ErrorKind::NotFound {
+                Ok(Standing::Free)
+            } else {
+                Err(error)
+            }
+        }
+    }
+}
+
+/// A new empty file for what the name stands for.
+pub fn stage<R: rt::Files<File = File>>(
+    rt: &R,
+    names: &mut OwnNames,
+    alloc: Global,
+    name: &Bytes,
+) -> Result<StagedFile, EdgeFault>
+    ensures name { OnOk result (IsUtf8 name.now) }
+    ensures owner { SameOwner (names_view names.old) (names_view names.new) }
+{
+    let Ok(text) = text_of(name) else {
+        return Err(EdgeFault::Failed);
+    };
+    let target = text.strip_suffix(".farm~").unwrap_or(text);
+    let beside = match look_at(rt, target) {
+        Ok(Standing::Free) => Some(target),
+        Ok(Standing::Device) => None,
+        Ok(Standing::Other) | Err(_) => return Err(EdgeFault::Failed),
+    };
+    let (path, file) = new_file(rt, names, alloc, beside)?;
+    Ok(StagedFile {
+        name: name.copy()?,
+        path,
+        file,
+    })
+}
+
+/// A new file beside this path, or else in the folder of the names. A name that is there already is passed over.
+fn new_file<R: rt::Files<File = File>>(
+    rt: &R,
+    names: &mut OwnNames,
+    alloc: Global,
+    beside: Option<&str>,
+) -> Result<(String, File), EdgeFault>
+    ensures { SameOwner (names_view names.old) (names_view names.new) }
+{
+    for _ in 0..NAMES_TRIED {
+        let path = next_name(names, alloc, beside)?;
+        match OpenOptions::new()
+            .write(true)
+            .create_new(true)
+            .open(rt, path.as_str())
+        {
+            Ok(file) => return Ok((path, file)),
+            Err(error) => {
+                if error.kind() != ErrorKind::AlreadyExists {
+                    return Err(EdgeFault::Failed);
+                }
+            }
+        }
+    }
+    Err(EdgeFault::Failed)
+}
+
+fn next_name(
+    names: &mut OwnNames,
+    alloc: Global,
+    beside: Option<&str>,
+) -> Result<String, AllocError>
+    ensures { SameOwner (names_view names.old) (names_view names.new) }
+{
+    match beside {
+        Some(path) => names.next_beside(alloc, path),
+        None => names.next(alloc, "farm~"),
+    }
+}
+
+/// How many names are tried before a file is given up.
+const NAMES_TRIED: u32 = 1000;
+
+/// Gives a file the name of what it was written for, or copies it into the device that stands there.
+pub fn move_to<R: rt::Files>(rt: &R, from: &str, to: &str) -> io::Result<()> {
+    match look_at(rt, to)? {
+        Standing::Free => fs::rename(rt, from, to),
+        Standing::Device => {
+            fs::copy(rt, from, to)?;
+            fs::remove_file(rt, from)
+        }
+        Standing::Other => Err(io::Error::from(ErrorKind::InvalidInput)),
+    }
+}

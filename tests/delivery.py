@@ -1,0 +1,230 @@
+"""Objects on a real disk, by a host of this script's own that answers in protocol 1 of distcc.
+
+A source is a number and a letter, as `30000000 B`: its object has so many bytes of this letter. FARM names the program.
+"""
+import os
+import random
+import re
+import resource
+import shutil
+import signal
+import socket
+import subprocess
+import sys
+import tempfile
+import threading
+import time
+
+FARM = os.environ["FARM"]
+MIB = 1048576
+failures = []
+
+
+def expect(name, holds, seen=""):
+    if not holds:
+        failures.append(name)
+        print(f"FAIL {name} {seen}")
+
+
+def token(name, number):
+    return b"%s%08x" % (name, number)
+
+
+def read_exactly(link, count):
+    parts = []
+    while count:
+        part = link.recv(min(count, 1 << 16))
+        if not part:
+            raise EOFError
+        parts.append(part)
+        count -= len(part)
+    return b"".join(parts)
+
+
+def read_field(link):
+    head = read_exactly(link, 12)
+    return head[:4], int(head[4:], 16)
+
+
+def serve(link):
+    """Reads one request, and answers the object that its source asks for."""
+    with link:
+        try:
+            read_field(link)
+            _, count = read_field(link)
+            for _ in range(count):
+                _, length = read_field(link)
+                read_exactly(link, length)
+            _, length = read_field(link)
+            source = read_exactly(link, length).split()
+            size, letter = int(source[0]), source[1]
+            link.sendall(token(b"DONE", 1) + token(b"STAT", 0) + token(b"SERR", 0) + token(b"SOUT", 0) + token(b"DOTO", size))
+            piece = letter * 65536
+            while size:
+                size -= link.send(piece[: min(size, len(piece))])
+        except (OSError, EOFError, ValueError, IndexError):
+            pass
+
+
+def start_host():
+    door = socket.create_server(("127.0.0.1", 0))
+
+    def accept():
+        while True:
+            link, _ = door.accept()
+            threading.Thread(target=serve, args=(link,), daemon=True).start()
+
+    threading.Thread(target=accept, daemon=True).start()
+    return door.getsockname()[1]
+
+
+def start_farm(folder, job, **more):
+    child = subprocess.Popen(
+        [FARM, "build", "--hosts", f"127.0.0.1:{PORT}", "--no-fallback"],
+        cwd=folder,
+        stdin=subprocess.PIPE,
+        stdout=subprocess.PIPE,
+        stderr=subprocess.STDOUT,
+        **more,
+    )
+    child.stdin.write(job.encode() + b"\n")
+    child.stdin.close()
+    return child
+
+
+def run_farm(folder, job, **more):
+    child = start_farm(folder, job, **more)
+    text = child.stdout.read().decode()
+    _, status, used = os.wait4(child.pid, 0)
+    child.returncode = os.waitstatus_to_exitcode(status)
+    return child.returncode, text, used.ru_maxrss * 1024
+
+
+def write(path, text):
+    with open(path, "w") as file:
+        file.write(text)
+
+
+def content(path):
+    """The letter of a file that is whole, and its length; None where it is in part or of two letters."""
+    with open(path, "rb") as file:
+        data = file.read()
+    return (chr(data[0]), len(data)) if data and data == data[:1] * len(data) else None
+
+
+def leftovers(folder):
+    return [name for name in os.listdir(folder) if name.endswith(".farm~")]
+
+
+def make_folder(folder):
+    compiler = os.path.join(folder, "cc")
+    write(compiler, '#!/bin/sh\ncat "$2"\n')
+    os.chmod(compiler, 0o755)
+    for name, size, letter in [("small", 1, "S"), ("large", 30 * MIB, "L"), ("other", 30 * MIB, "M"), ("most", 32 * MIB, "T")]:
+        write(os.path.join(folder, name + ".c"), f"{size} {letter}\n")
+
+
+def job(name, output):
+    return f"./cc -c {name}.c -o {output}"
+
+
+def resident_sizes(folder):
+    _, _, least = run_farm(folder, job("small", "small.o"))
+    status, text, most = run_farm(folder, job("most", "most.o"))
+    expect("the largest object", status == 0 and content(f"{folder}/most.o") == ("T", 32 * MIB), text)
+    print(f"resident size: {least // 1024} KiB for an object of 1 byte, {most // 1024} KiB for one of 32 MiB")
+    expect("a large object isn't kept in memory", most <= least + 4 * MIB)
+
+
+def whole_or_old(folder, before):
+    return content(f"{folder}/x.o") in (before, ("L", 30 * MIB))
+
+
+def killed(folder, times):
+    write(f"{folder}/x.o", "oooo")
+    begun = time.monotonic()
+    run_farm(folder, job("large", "y.o"))
+    length = time.monotonic() - begun
+    left = 0
+    for _ in range(times):
+        child = start_farm(folder, job("large", "x.o"))
+        time.sleep(random.uniform(0, length))
+        child.kill()
+        child.stdout.read()
+        child.wait()
+        expect("a killed farm leaves the output old or whole", whole_or_old(folder, ("o", 4)))
+        left += len(leftovers(folder))
+        for name in leftovers(folder):
+            expect("what is left has a name of its own", re.fullmatch(r"farm-\d+-\d+\.farm~", name), name)
+            os.remove(f"{folder}/{name}")
+    status, text, _ = run_farm(folder, job("large", "x.o"))
+    expect("a run after killed ones", status == 0 and content(f"{folder}/x.o") == ("L", 30 * MIB), text)
+    print(f"killed {times} times: {left} files were left")
+
+
+def two_at_once(folder, times):
+    for number in range(times):
+        first = start_farm(folder, job("large", "z.o"))
+        second = start_farm(folder, job("other", "./z.o" if number % 2 else "z.o"))
+        for child in (first, second):
+            child.stdout.read()
+            expect("each of two at one output succeeds", child.wait() == 0)
+        expect("two at one output leave one of the two", content(f"{folder}/z.o") in (("L", 30 * MIB), ("M", 30 * MIB)))
+        expect("two at one output leave nothing else", not leftovers(folder))
+
+
+def limited(folder):
+    def limit():
+        signal.signal(signal.SIGXFSZ, signal.SIG_IGN)
+        resource.setrlimit(resource.RLIMIT_FSIZE, (MIB, MIB))
+
+    write(f"{folder}/x.o", "oooo")
+    status, text, _ = run_farm(folder, job("large", "x.o"), preexec_fn=limit)
+    expect("a file-size limit", status == 107 and text.startswith("1 failed put\n"), (status, text))
+    expect("a file-size limit leaves the output", content(f"{folder}/x.o") == ("o", 4) and not leftovers(folder))
+
+
+def full_disk(folder):
+    small = f"{folder}/small-disk"
+    os.mkdir(small)
+    mounted = subprocess.run(["mount", "-t", "tmpfs", "-o", "size=2m", "tmpfs", small], capture_output=True).returncode == 0
+    if not mounted:
+        print("a full disk: skipped, since nothing can be mounted here")
+        return
+    try:
+        write(f"{small}/x.o", "oooo")
+        status, text, _ = run_farm(folder, job("large", "small-disk/x.o"))
+        expect("a full disk", status == 107 and text.startswith("1 failed put\n"), (status, text))
+        expect("a full disk leaves the output", content(f"{small}/x.o") == ("o", 4) and not leftovers(small))
+        status, text, _ = run_farm(folder, job("small", "small-disk/x.o"))
+        expect("a smaller object fits", status == 0 and content(f"{small}/x.o") == ("S", 1), text)
+    finally:
+        subprocess.run(["umount", small])
+
+
+def other_outputs(folder):
+    os.mkfifo(f"{folder}/pipe")
+    os.mkdir(f"{folder}/place")
+    for name, status in [("/dev/null", 0), ("pipe", 107), ("place", 107), ("l" * 255, 0)]:
+        seen, text, _ = run_farm(folder, job("small", name))
+        expect(f"the output {name[:10]}", seen == status, (seen, text))
+    expect("a device stays one", subprocess.run(["test", "-c", "/dev/null"]).returncode == 0)
+    expect("a pipe stays one", subprocess.run(["test", "-p", f"{folder}/pipe"]).returncode == 0)
+    expect("nothing is left", not leftovers(folder))
+
+
+PORT = start_host()
+work = tempfile.mkdtemp()
+try:
+    os.environ["TMPDIR"] = work
+    make_folder(work)
+    resident_sizes(work)
+    killed(work, 50)
+    two_at_once(work, 40)
+    limited(work)
+    full_disk(work)
+    other_outputs(work)
+finally:
+    shutil.rmtree(work, ignore_errors=True)
+print(f"tests/delivery: {len(failures)} failed")
+sys.exit(1 if failures else 0)
