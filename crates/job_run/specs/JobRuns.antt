@@ -1,23 +1,44 @@
--- A job that ran over a kit.
-use Rattle.std.specs.Prelude.{◌≡◌, ℕ, IsTrue, List, map}
-use Rattle.farm_types.specs.declared.hosts.Host.{Host}
+-- A job that ran over a kit and the slots that it was granted.
+use Rattle.std.specs.Prelude.{◌≡◌, ℕ, ◌≤◌, IsTrue, List, [], ◌++◌}
+use Rattle.slot_table.specs.declared.limits.Limits.{Limits}
+use Rattle.slot_table.specs.declared.calls.CallEntry.{CallEntry}
 use Rattle.edge_traits.specs.Kits.{KitView}
-use Rattle.edge_traits.specs.Deeds.{Deed, exchanges_in, DidIn, MayAll}
-use Rattle.farm_machine.specs.declared.plans.RemotePlan.{RemotePlan}
+use Rattle.edge_traits.specs.Deeds.{exchanges_in, moments_in, DidIn, MayAll}
 use Rattle.farm_machine.specs.declared.reports.Event.{Event}
 use Rattle.farm_machine.specs.declared.reports.End.{End}
-use Rattle.farm_machine.specs.Acts.{Did}
-use Rattle.farm_machine.specs.Numbered.{no_places, numbered}
-use Rattle.farm_machine.specs.RemoteCourse.{RemoteCourse}
+use Rattle.farm_machine.specs.declared.reports.Places.{Places}
+use Rattle.farm_machine.specs.Acts.{Act, slots_of, deeds_of}
 use Rattle.farm_machine.specs.Causes.{HasEndCause, KitLater}
+use Rattle.farm_machine.specs.Course.{Course}
+use Rattle.farm_machine.specs.Farm.{wanted}
+use Rattle.farm_machine.specs.Honest.{Peers, Programs, AllRan}
+use Rattle.farm_machine.specs.Jobs.{Job}
+use Rattle.farm_machine.specs.Moments.{AreMoments}
+use Rattle.farm_machine.specs.Numbered.{numbered, advanced, untimed}
+use Rattle.farm_machine.specs.Own.{Serves}
 
--- The job did these deeds on the kit and no others, in this order; its events name them; with its end they are a course of
--- its plan; and a failure of a device goes with a rise of that device's count.
-pub record JobRan (may_give : List ℕ → List ℕ → Type 0) (plan : RemotePlan) (host : Host) (at : ℕ) (events : List Event) (end : End) (old new : KitView) : Type 0 where
-  pub deeds : List Deed
-  pub did : DidIn old new deeds
-  pub named : events ≡ numbered no_places (map Did deeds)
-  pub course : RemoteCourse plan host at deeds end
+-- All that the job did, looks at the clock included, is one list of acts. Its deeds are the new entries of the kit's lists; its events name
+-- them, numbered on from the places, which have grown by them; without looks at the clock it is a course, with this end. Its slot events are
+-- the new calls on the slots, with the refused takes before each, and the moments that these calls name are those that the clock gave. A
+-- failure of a device goes with a rise of that device's count. Peers gave what peers may give, and programs left what programs may leave.
+pub record JobRan {h : ℕ} (peers : Peers) (programs : Programs) (j : Job) (l : Limits h) (caller number : ℕ) (at next : Places) (events : List Event) (end : End) (mine_old mine_new : List CallEntry) (old new : KitView) : Type 0 where
+  pub acts : List Act
+  pub calls : List CallEntry
+  pub did : DidIn old new (deeds_of acts)
+  pub named : events ≡ numbered at acts
+  pub grown : next ≡ advanced at acts
+  pub course : Course j (untimed acts) end
+  pub mine : mine_new ≡ mine_old ++ calls
+  pub serves : Serves (wanted l) caller number [] (slots_of acts) calls
+  pub moments : AreMoments j.config.period calls (moments_in (deeds_of acts))
   pub cause : HasEndCause end old new
   pub later : KitLater old new
-  pub may : IsTrue new.dialer.exchanges.known → MayAll may_give (exchanges_in deeds)
+  pub may : IsTrue new.dialer.exchanges.known → MayAll peers (exchanges_in (deeds_of acts))
+  pub ran : AllRan programs acts
+
+-- each next place is so small that a job's events can't pass the greatest
+pub record AreSmall (at : Places) : Type 0 where
+  pub runs : at.runs ≤ 4294967231
+  pub fetches : at.fetches ≤ 4294967231
+  pub exchanges : at.exchanges ≤ 4294967231
+  pub puts : at.puts ≤ 4294967231

@@ -1,2 +1,6 @@
-pub mod JobRuns
 pub mod Failures
+pub mod JobRuns
+pub mod Worlds
+pub mod Waits
+pub mod Gives
+pub mod Stages

@@ -1,157 +1,320 @@
 //! The course of one job.
-
-ghost use Rattle.std.specs.Prelude.{◌≡◌, ◌≤◌, [], false, vec_capacity, IfOk};
-ghost use Rattle.edge_traits.specs.Told.{SameRelation};
+ghost use Rattle.std.specs.Prelude.{◌≡◌, ℕ, ◌+◌, ◌*◌, ◌<◌, ◌≤◌, false, List, [], length, OnErr};
+ghost use Rattle.farm_types.specs.declared.jobs.JobConfig.{JobConfig};
+ghost use Rattle.arg_scan.specs.Class.{IsRemote, input_place, plan_of};
+ghost use Rattle.arg_scan.specs.Names.{is_preprocessed};
+ghost use Rattle.arg_strip.specs.Words.{output_of};
+ghost use Rattle.edge_traits.specs.Keepers.{IsIdle};
 ghost use Rattle.edge_traits.specs.Kits.{kit_view};
-ghost use Rattle.farm_machine.specs.declared.reports.By.TheVariants.{Cpp, Remote};
-ghost use Rattle.farm_machine.specs.declared.reports.End.TheVariants.{Done};
-ghost use Rattle.farm_machine.specs.Plans.{IsReady};
-ghost use Rattle.job_run.specs.Failures.{station_failure};
-ghost use Rattle.job_run.specs.JobRuns.{JobRan};
+ghost use Rattle.edge_traits.specs.Told.{SameRelation, SameRelation3};
+ghost use Rattle.slot_table.specs.History.{outstanding};
+ghost use Rattle.slot_table.specs.Grants.{cost};
+ghost use Rattle.farm_machine.specs.Course.{Start, Send};
+ghost use Rattle.farm_machine.specs.Jobs.{job_of, may_be_sent, AreLimitsOf};
+ghost use Rattle.job_run.specs.JobRuns.{JobRan, AreSmall};
+ghost use Rattle.job_run.specs.Stages.{CompiledIs};
+ghost use Rattle.job_run.specs.Worlds.{world, Ended, HasSpare, Spent};
 
 use crate::EventRoom;
-use edge_traits::{Bounds, Clock, Dialer, EdgeFault, Keeper, Kit, Station, StationFault};
-use farm_machine::{By, End, Event, EventList, RemotePlan, Report, Why5};
-use farm_types::limits::CHILD_ERR_MAX;
-use farm_types::{Bytes, Host, Outcome, Ran, Request};
-use remote_transfer::{Attempt, attempt};
-use std::alloc::{AllocError, Global};
+use crate::ending::deliver;
+use crate::journal::Journal;
+use crate::local_fallback::compile_here;
+use crate::preparing::{Prepared, prepare};
+use crate::sending::ask_if_fits;
+use crate::step::{Step, done_in_place, why_not_run};
+use crate::waiting::borrow_local;
+use arg_scan::{Scan, scan};
+use arg_strip::strip;
+use child_runner::in_place;
+use edge_traits::{Clock, Dialer, Keeper, Kit, Station};
+use farm_machine::{By, End, Event, EventList, Places, Report, Why5};
+use farm_types::{Bytes, JobConfig, Outcome, Request, Words};
+use slot_table::Grants;
+use std::alloc::Global;
+use std::sync::Wait;
 
-// What a preprocessor may give: a source of a request, and the messages of a child.
-const BOUNDS: Bounds = Bounds {
-    out: 33_554_432,
-    err: CHILD_ERR_MAX,
-    object: 33_554_432,
-};
-
-// Why a job failed whose preprocessor could not be run.
-fn why_not_run(fault: StationFault) -> Why5
-    ensures { result ≡ station_failure fault }
-{
-    match fault {
-        StationFault::Failed | StationFault::TooMuch { .. } => Why5::Station,
-        StationFault::Memory => Why5::Memory,
-    }
-}
-
-// The end of a job whose preprocessor failed.
-fn done_by_preprocessor(alloc: Global, ran: Ran) -> End
-    ensures { result ≡ Done ran.status [] ran.err [] Cpp }
-{
-    End::Done {
-        status: ran.status,
-        note: Bytes::new(alloc),
-        err: ran.err,
-        out: Bytes::new(alloc),
-        by: By::Cpp,
-    }
-}
-
-// The end of a job that the host at this place answered.
-fn done_by_host(at: u32, note: Bytes, outcome: Outcome) -> End
-    ensures { result ≡ Done outcome.status note outcome.err outcome.out (Remote at) }
-{
-    End::Done {
-        status: outcome.status,
-        note,
-        err: outcome.err,
-        out: outcome.out,
-        by: By::Remote(at),
-    }
-}
-
-// The request of the plan's words with this source.
-fn request_for(plan: &RemotePlan, source: Bytes) -> Result<Request, AllocError>
-    ensures { IfOk result (λ request. request ≡ record { words = plan.now.words; source = source }) }
-{
-    let words = plan.words.copy()?;
-    Ok(Request { words, source })
-}
-
-// Carries out the plan, and tells of each deed by an event.
-fn carry_out<D: Dialer, S: Station, K: Keeper, C: Clock>(
+/// Runs a command that stays here, in a local slot.
+fn run_in_place<R: Wait, D: Dialer, S: Station, K: Keeper, C: Clock, G: Grants>(
+    rt: &R,
     alloc: Global,
-    plan: &RemotePlan,
-    host: &Host,
-    at: u32,
-    kit: &mut Kit<D, S, K, C>,
-    events: &mut Vec<Event>,
-) -> End
-    requires ready { IsReady plan.now }
-    requires remote { host.now.local ≡ false }
-    requires empty { events.old.items ≡ [] }
-    requires room { 64 ≤ vec_capacity events.old }
-    ensures ran { JobRan (D.may_give kit.new.dialer) plan.now host.now at events.new.items result
-        (kit_view D.shows S.shows K.shows C.shows kit.old)
-        (kit_view D.shows S.shows K.shows C.shows kit.new) }
-    ensures may_give { SameRelation (D.may_give kit.old.dialer) (D.may_give kit.new.dialer) }
-{
-    let words = plan.preprocess.as_slice();
-    let ran = match kit.station.run(alloc, words, &[], &BOUNDS) {
-        Ok(ran) => ran,
-        Err(fault) => return End::Failed(why_not_run(fault)),
-    };
-    events.push(Event::Ran(0)).unwrap();
-    if ran.status != 0 {
-        return done_by_preprocessor(alloc, ran);
-    }
-    let Ok(request) = request_for(plan, ran.out) else {
-        return End::Failed(Why5::Memory);
-    };
-    let outcome = match attempt(alloc, &request, host, &mut kit.dialer) {
-        Attempt::Memory { dialed: false } => return End::Failed(Why5::Memory),
-        Attempt::Memory { dialed: true } => {
-            events.push(Event::Exchanged(0)).unwrap();
-            return End::Failed(Why5::Memory);
-        }
-        Attempt::Broke(cause) => {
-            events.push(Event::Exchanged(0)).unwrap();
-            return End::Failed(Why5::Broke { host: at, cause });
-        }
-        Attempt::Whole(outcome) => outcome,
-    };
-    events.push(Event::Exchanged(0)).unwrap();
-    if outcome.status != 0 {
-        return done_by_host(at, ran.err, outcome);
-    }
-    let object = outcome.object.as_slice();
-    match kit.keeper.put(alloc, &plan.output, object) {
-        Ok(()) => {
-            events.push(Event::Put(0)).unwrap();
-            done_by_host(at, ran.err, outcome)
-        }
-        Err(EdgeFault::Failed) => End::Failed(Why5::Put),
-        Err(EdgeFault::Memory) => End::Failed(Why5::Memory),
-    }
-}
-
-/// Runs a job that this host is to compile, with no compile here in its place: preprocesses its source, makes one exchange
-/// with the host, and puts the object of a whole reply of status 0. `number` is the job's, and `at` the host's place in the
-/// host list, both counted from 0.
-pub fn run_job<D: Dialer, S: Station, K: Keeper, C: Clock>(
-    alloc: Global,
-    plan: &RemotePlan,
+    words: &Words,
     number: u32,
-    host: &Host,
-    at: u32,
+    grants: &mut G,
     kit: &mut Kit<D, S, K, C>,
+    journal: &mut Journal,
+) -> End
+    requires some { 0 < length words.now }
+    requires idle { IsIdle (K.shows kit.old.keeper) }
+    requires ready { G.ready grants.old }
+    requires spare { HasSpare G.alone journal.old.left (G.spare grants.old) }
+    requires none { outstanding (G.mine grants.old) ≡ [] }
+    requires left { 3 ≤ journal.old.left }
+    ensures ready { G.ready grants.new }
+    ensures home { G.home grants.new ≡ G.home grants.old }
+    ensures place { G.place grants.new ≡ G.place grants.old }
+    ensures limits { G.limits grants.new ≡ G.limits grants.old }
+    ensures number { G.number grants.new ≡ G.number grants.old }
+    ensures none { outstanding (G.mine grants.new) ≡ [] }
+    ensures spent { Spent G.alone journal.old.left (G.spare grants.old) journal.new.left (G.spare grants.new) }
+    ensures idle { IsIdle (K.shows kit.new.keeper) }
+    ensures ended { (config : JobConfig) → may_be_sent (job_of words.now config) ≡ false →
+        Ended (job_of words.now config) (G.limits grants.old) (G.number grants.old) number
+        (world (kit_view D.shows S.shows K.shows C.shows kit.old) (D.may_give kit.old.dialer) (S.ran kit.old.station) (G.mine grants.old) journal.old.events.items journal.old.places)
+        (world (kit_view D.shows S.shows K.shows C.shows kit.new) (D.may_give kit.new.dialer) (S.ran kit.new.station) (G.mine grants.new) journal.new.events.items journal.new.places)
+        Start result }
+{
+    let grant = borrow_local(rt, number, grants, &mut kit.clock);
+    journal.note(Event::TookLocal);
+    match in_place(alloc, words, &mut kit.station) {
+        Ok(ran) => {
+            journal.ran();
+            grants.give_local(grant);
+            journal.note(Event::GaveLocal);
+            done_in_place(alloc, ran)
+        }
+        Err(fault) => {
+            grants.give_local(grant);
+            journal.note(Event::GaveLocal);
+            End::Failed(why_not_run(fault))
+        }
+    }
+}
+
+/// Compiles a source elsewhere, or here.
+fn compile_source<R: Wait, D: Dialer, S: Station, K: Keeper, C: Clock, G: Grants>(
+    rt: &R,
+    alloc: Global,
+    words: &Words,
+    number: u32,
+    config: &JobConfig,
+    source: Bytes,
+    output: &Bytes,
+    grants: &mut G,
+    kit: &mut Kit<D, S, K, C>,
+    journal: &mut Journal,
+) -> Result<(By, Outcome), Why5>
+    requires remote { IsRemote words.now }
+    requires output { output.now ≡ output_of words.now }
+    requires idle { IsIdle (K.shows kit.old.keeper) }
+    requires hosts { AreLimitsOf (G.limits grants.old) config.now.hosts }
+    requires entries { length config.now.hosts.list ≤ 16 }
+    requires some { 1 ≤ config.now.tries }
+    requires tries { config.now.tries ≤ 16 }
+    requires ready { G.ready grants.old }
+    requires spare { HasSpare G.alone journal.old.left (G.spare grants.old) }
+    requires none { outstanding (G.mine grants.old) ≡ [] }
+    requires left { 52 ≤ journal.old.left }
+    ensures ready { G.ready grants.new }
+    ensures home { G.home grants.new ≡ G.home grants.old }
+    ensures place { G.place grants.new ≡ G.place grants.old }
+    ensures limits { G.limits grants.new ≡ G.limits grants.old }
+    ensures number { G.number grants.new ≡ G.number grants.old }
+    ensures none { outstanding (G.mine grants.new) ≡ [] }
+    ensures spent { Spent G.alone journal.old.left (G.spare grants.old) journal.new.left (G.spare grants.new) }
+    ensures left { journal.old.left ≤ journal.new.left + 52 }
+    ensures idle { OnErr result (IsIdle (K.shows kit.new.keeper)) }
+    ensures compiled { (note : List ℕ) → CompiledIs (job_of words.now config.now) (G.limits grants.old) (G.number grants.old) number
+        (world (kit_view D.shows S.shows K.shows C.shows kit.old) (D.may_give kit.old.dialer) (S.ran kit.old.station) (G.mine grants.old) journal.old.events.items journal.old.places)
+        (world (kit_view D.shows S.shows K.shows C.shows kit.new) (D.may_give kit.new.dialer) (S.ran kit.new.station) (G.mine grants.new) journal.new.events.items journal.new.places)
+        (Send source note []) note result }
+{
+    let Ok(sent) = strip(alloc, words) else {
+        return Err(Why5::Memory);
+    };
+    let request = Request {
+        words: sent,
+        source,
+    };
+    match ask_if_fits(
+        rt, alloc, words, number, config, &request, output, grants, kit, journal,
+    ) {
+        Step::Compiled { by, outcome } => Ok((by, outcome)),
+        Step::Failed(why) => Err(why),
+        Step::Here => {
+            match compile_here(
+                rt,
+                alloc,
+                words,
+                number,
+                &request.source,
+                grants,
+                kit,
+                journal,
+            ) {
+                Ok(outcome) => Ok((By::Here, outcome)),
+                Err(why) => Err(why),
+            }
+        }
+    }
+}
+
+/// Does a job whose command may be sent. `input` is the place of its source, and `output` the name of its object.
+fn run_remote<R: Wait, D: Dialer, S: Station, K: Keeper, C: Clock, G: Grants>(
+    rt: &R,
+    alloc: Global,
+    words: &Words,
+    number: u32,
+    config: &JobConfig,
+    input: u64,
+    preprocessed: bool,
+    output: &Bytes,
+    grants: &mut G,
+    kit: &mut Kit<D, S, K, C>,
+    journal: &mut Journal,
+) -> End
+    requires remote { IsRemote words.now }
+    requires input { input ≡ input_place words.now }
+    requires preprocessed { preprocessed ≡ is_preprocessed (plan_of words.now).ending }
+    requires output { output.now ≡ output_of words.now }
+    requires idle { IsIdle (K.shows kit.old.keeper) }
+    requires hosts { AreLimitsOf (G.limits grants.old) config.now.hosts }
+    requires entries { length config.now.hosts.list ≤ 16 }
+    requires some { 1 ≤ config.now.tries }
+    requires tries { config.now.tries ≤ 16 }
+    requires ready { G.ready grants.old }
+    requires spare { HasSpare G.alone journal.old.left (G.spare grants.old) }
+    requires none { outstanding (G.mine grants.old) ≡ [] }
+    requires left { 54 ≤ journal.old.left }
+    ensures ready { G.ready grants.new }
+    ensures home { G.home grants.new ≡ G.home grants.old }
+    ensures place { G.place grants.new ≡ G.place grants.old }
+    ensures limits { G.limits grants.new ≡ G.limits grants.old }
+    ensures number { G.number grants.new ≡ G.number grants.old }
+    ensures none { outstanding (G.mine grants.new) ≡ [] }
+    ensures spent { Spent G.alone journal.old.left (G.spare grants.old) journal.new.left (G.spare grants.new) }
+    ensures idle { IsIdle (K.shows kit.new.keeper) }
+    ensures ended { Ended (job_of words.now config.now) (G.limits grants.old) (G.number grants.old) number
+        (world (kit_view D.shows S.shows K.shows C.shows kit.old) (D.may_give kit.old.dialer) (S.ran kit.old.station) (G.mine grants.old) journal.old.events.items journal.old.places)
+        (world (kit_view D.shows S.shows K.shows C.shows kit.new) (D.may_give kit.new.dialer) (S.ran kit.new.station) (G.mine grants.new) journal.new.events.items journal.new.places)
+        Start result }
+{
+    let (source, note) = match prepare(alloc, words, input, preprocessed, kit, journal) {
+        Prepared::Ready { source, note } => (source, note),
+        Prepared::Over(end) => return end,
+    };
+    match compile_source(
+        rt, alloc, words, number, config, source, output, grants, kit, journal,
+    ) {
+        Ok((by, outcome)) => deliver(alloc, by, note, outcome, output, kit, journal),
+        Err(why) => End::Failed(why),
+    }
+}
+
+/// Does a job by its class.
+fn run_class<R: Wait, D: Dialer, S: Station, K: Keeper, C: Clock, G: Grants>(
+    rt: &R,
+    alloc: Global,
+    words: &Words,
+    number: u32,
+    config: &JobConfig,
+    grants: &mut G,
+    kit: &mut Kit<D, S, K, C>,
+    journal: &mut Journal,
+) -> End
+    requires word { 0 < length words.now }
+    requires idle { IsIdle (K.shows kit.old.keeper) }
+    requires hosts { AreLimitsOf (G.limits grants.old) config.now.hosts }
+    requires entries { length config.now.hosts.list ≤ 16 }
+    requires some { 1 ≤ config.now.tries }
+    requires tries { config.now.tries ≤ 16 }
+    requires ready { G.ready grants.old }
+    requires spare { HasSpare G.alone journal.old.left (G.spare grants.old) }
+    requires none { outstanding (G.mine grants.old) ≡ [] }
+    requires left { 54 ≤ journal.old.left }
+    ensures ready { G.ready grants.new }
+    ensures home { G.home grants.new ≡ G.home grants.old }
+    ensures place { G.place grants.new ≡ G.place grants.old }
+    ensures limits { G.limits grants.new ≡ G.limits grants.old }
+    ensures number { G.number grants.new ≡ G.number grants.old }
+    ensures none { outstanding (G.mine grants.new) ≡ [] }
+    ensures spent { Spent G.alone journal.old.left (G.spare grants.old) journal.new.left (G.spare grants.new) }
+    ensures idle { IsIdle (K.shows kit.new.keeper) }
+    ensures ended { Ended (job_of words.now config.now) (G.limits grants.old) (G.number grants.old) number
+        (world (kit_view D.shows S.shows K.shows C.shows kit.old) (D.may_give kit.old.dialer) (S.ran kit.old.station) (G.mine grants.old) journal.old.events.items journal.old.places)
+        (world (kit_view D.shows S.shows K.shows C.shows kit.new) (D.may_give kit.new.dialer) (S.ran kit.new.station) (G.mine grants.new) journal.new.events.items journal.new.places)
+        Start result }
+{
+    match scan(alloc, words) {
+        Scan::Remote {
+            input,
+            output,
+            preprocessed,
+            ..
+        } => run_remote(
+            rt,
+            alloc,
+            words,
+            number,
+            config,
+            input,
+            preprocessed,
+            &output,
+            grants,
+            kit,
+            journal,
+        ),
+        Scan::Memory => End::Failed(Why5::Memory),
+        Scan::Empty | Scan::Local { .. } => {
+            run_in_place(rt, alloc, words, number, grants, kit, journal)
+        }
+    }
+}
+
+/// Runs one job, and tells all that it did. `number` is the job's, counted from 0.
+///
+/// A command that may not be sent is run here as it stands. Of any other the source is preprocessed, a host is asked to compile
+/// it, and where none can it is compiled here, as `config` says; the object of status 0 is put under the output's name. Each
+/// slot that the job takes is given back before it answers. It waits for slots.
+pub fn run_job<R: Wait, D: Dialer, S: Station, K: Keeper, C: Clock, G: Grants>(
+    rt: &R,
+    alloc: Global,
+    words: &Words,
+    number: u32,
+    config: &JobConfig,
+    grants: &mut G,
+    kit: &mut Kit<D, S, K, C>,
+    places: &mut Places,
     room: EventRoom,
 ) -> Report
-    requires ready { IsReady plan.now }
-    requires remote { host.now.local ≡ false }
+    requires word { 0 < length words.now }
+    requires hosts { AreLimitsOf (G.limits grants.old) config.now.hosts }
+    requires entries { length config.now.hosts.list ≤ 16 }
+    requires some { 1 ≤ config.now.tries }
+    requires tries { config.now.tries ≤ 16 }
+    requires ready { G.ready grants.old }
+    requires spare { 64 * cost G.alone ≤ G.spare grants.old }
+    requires none { outstanding (G.mine grants.old) ≡ [] }
+    requires places { AreSmall places.old }
+    requires pending { IsIdle (K.shows kit.old.keeper) }
     ensures number { result.number ≡ number }
-    ensures worker { result.worker ≡ 0 }
-    ensures ran { JobRan (D.may_give kit.new.dialer) plan.now host.now at result.events result.end
+    ensures worker { result.worker ≡ G.number grants.old }
+    ensures ran { JobRan (D.may_give kit.new.dialer) (S.ran kit.new.station) (job_of words.now config.now)
+        (G.limits grants.old) (G.number grants.old) number places.old places.new result.events result.end
+        (G.mine grants.old) (G.mine grants.new)
         (kit_view D.shows S.shows K.shows C.shows kit.old)
         (kit_view D.shows S.shows K.shows C.shows kit.new) }
-    ensures may_give { SameRelation (D.may_give kit.old.dialer) (D.may_give kit.new.dialer) }
+
+    // No put is pending, every slot is given back, and of the calls that there is room for no more are spent than there are events.
+    ensures pending { IsIdle (K.shows kit.new.keeper) }
+    ensures none { outstanding (G.mine grants.new) ≡ [] }
+    ensures spare { G.spare grants.old ≤ G.spare grants.new + 64 * cost G.alone }
+
+    // What is the same for all jobs stays so.
+    ensures ready { G.ready grants.new }
+    ensures home { G.home grants.new ≡ G.home grants.old }
+    ensures place { G.place grants.new ≡ G.place grants.old }
+    ensures limits { G.limits grants.new ≡ G.limits grants.old }
+    ensures caller { G.number grants.new ≡ G.number grants.old }
+    ensures peers { SameRelation (D.may_give kit.old.dialer) (D.may_give kit.new.dialer) }
+    ensures programs { SameRelation3 (S.ran kit.old.station) (S.ran kit.new.station) }
 {
-    let mut events = room.into_events();
-    let end = carry_out(alloc, plan, host, at, kit, &mut events);
+    let mut journal = Journal::open(room, *places);
+    let end = run_class(rt, alloc, words, number, config, grants, kit, &mut journal);
+    *places = journal.places;
     Report {
         number,
-        worker: 0,
-        events: EventList::from_vec(events),
+        worker: grants.caller(),
+        events: EventList::from_vec(journal.events),
         end,
     }
 }

@@ -1,0 +1,107 @@
+-- One part of a job after another.
+use Rattle.std.proofs.Common.{◌≡◌, ℕ, ◌≤◌, List, ◌++◌, sym, ap, ◌∙◌, subst, append_assoc, arith, inl, inr}
+use Rattle.slot_table.specs.declared.limits.Limits.{Limits}
+use Rattle.slot_table.specs.declared.calls.CallEntry.{CallEntry}
+use Rattle.edge_traits.specs.declared.cause.Cause.TheVariants.{Dial, Send as CutSend, Recv, Truncated, BadReply, Stopped}
+use Rattle.edge_traits.specs.Kits.{KitView}
+use Rattle.edge_traits.specs.Causes.{Rose}
+use Rattle.edge_traits.specs.Deeds.{Deed, exchanges_in, moments_in, DidIn, MayAll}
+use Rattle.edge_traits.proofs.DeedLemmas.{DidIn-join}
+use Rattle.farm_machine.specs.declared.reports.Event.{Event}
+use Rattle.farm_machine.specs.declared.reports.Places.{Places}
+use Rattle.farm_machine.specs.declared.reports.Why5.TheVariants.{Station, Put, Broke, NoHost, Memory, Fetch}
+use Rattle.farm_machine.specs.declared.reports.End.{End}
+use Rattle.farm_machine.specs.declared.reports.End.TheVariants.{Done, Failed}
+use Rattle.farm_machine.specs.Acts.{SlotEvent, Act, slots_of, deeds_of}
+use Rattle.farm_machine.specs.Causes.{HasEndCause, KitLater}
+use Rattle.farm_machine.specs.Course.{At, Reach}
+use Rattle.farm_machine.specs.Farm.{wanted}
+use Rattle.farm_machine.specs.Jobs.{Job}
+use Rattle.farm_machine.specs.Moments.{AreMoments}
+use Rattle.farm_machine.specs.Numbered.{numbered, advanced, untimed}
+use Rattle.farm_machine.specs.Own.{Serves}
+use Rattle.job_run.specs.Worlds.{World, HasTaken, Went, Ended}
+use Rattle.job_run.proofs.Lists.{slots-append, deeds-append, untimed-append, slots-untimed, advanced-append, numbered-append, ran-append, ran-along, may-append, may-along, moments-append, reach-append, serves-append, exchanges-append, moments_in-append}
+use Rattle.job_run.proofs.Taken.{taken-reach}
+
+pub later-then : {a b c : KitView} → KitLater a b → KitLater b c → KitLater a c
+later-then first second = record {
+  station = let x = first.station in let y = second.station in omega (arith, x, y);
+  station_overruns = let x = first.station_overruns in let y = second.station_overruns in omega (arith, x, y);
+  keeper = let x = first.keeper in let y = second.keeper in omega (arith, x, y);
+  keeper_overruns = let x = first.keeper_overruns in let y = second.keeper_overruns in omega (arith, x, y);
+  dialer = let x = first.dialer in let y = second.dialer in omega (arith, x, y);
+}
+
+rose-later : (a b c : ℕ) → Rose a b → b ≤ c → Rose a c
+rose-later a b c rose later = omega (arith, rose, later)
+
+pub rose-before : (a b c : ℕ) → a ≤ b → Rose b c → Rose a c
+rose-before a b c later rose = omega (arith, rose, later)
+
+-- a cause in a part is one in the whole
+pub cause-before : (a b c : KitView) (end : End) → KitLater a b → HasEndCause end b c → HasEndCause end a c
+cause-before a b c (Done status note err out by) later cause = tt
+cause-before a b c (Failed Station) later cause = elim cause [ inl r ↦ inl (rose-before a.station.faults b.station.faults c.station.faults later.station r) | inr r ↦ inr (rose-before a.station.overruns b.station.overruns c.station.overruns later.station_overruns r) ]
+cause-before a b c (Failed Put) later cause = rose-before a.keeper.faults b.keeper.faults c.keeper.faults later.keeper cause
+cause-before a b c (Failed Fetch) later cause = elim cause [ inl r ↦ inl (rose-before a.keeper.faults b.keeper.faults c.keeper.faults later.keeper r) | inr r ↦ inr (rose-before a.keeper.overruns b.keeper.overruns c.keeper.overruns later.keeper_overruns r) ]
+cause-before a b c (Failed (Broke host Dial)) later cause = rose-before a.dialer.faults b.dialer.faults c.dialer.faults later.dialer cause
+cause-before a b c (Failed (Broke host CutSend)) later cause = tt
+cause-before a b c (Failed (Broke host Recv)) later cause = tt
+cause-before a b c (Failed (Broke host (Truncated have))) later cause = tt
+cause-before a b c (Failed (Broke host (BadReply at fault))) later cause = tt
+cause-before a b c (Failed (Broke host Stopped)) later cause = tt
+cause-before a b c (Failed NoHost) later cause = tt
+cause-before a b c (Failed Memory) later cause = tt
+
+pub cause-later : (a b c : KitView) (end : End) → HasEndCause end a b → KitLater b c → HasEndCause end a c
+cause-later a b c (Done status note err out by) cause later = tt
+cause-later a b c (Failed Station) cause later = elim cause [ inl r ↦ inl (rose-later a.station.faults b.station.faults c.station.faults r later.station) | inr r ↦ inr (rose-later a.station.overruns b.station.overruns c.station.overruns r later.station_overruns) ]
+cause-later a b c (Failed Put) cause later = rose-later a.keeper.faults b.keeper.faults c.keeper.faults cause later.keeper
+cause-later a b c (Failed Fetch) cause later = elim cause [ inl r ↦ inl (rose-later a.keeper.faults b.keeper.faults c.keeper.faults r later.keeper) | inr r ↦ inr (rose-later a.keeper.overruns b.keeper.overruns c.keeper.overruns r later.keeper_overruns) ]
+cause-later a b c (Failed (Broke host Dial)) cause later = rose-later a.dialer.faults b.dialer.faults c.dialer.faults cause later.dialer
+cause-later a b c (Failed (Broke host CutSend)) cause later = tt
+cause-later a b c (Failed (Broke host Recv)) cause later = tt
+cause-later a b c (Failed (Broke host (Truncated have))) cause later = tt
+cause-later a b c (Failed (Broke host (BadReply at fault))) cause later = tt
+cause-later a b c (Failed (Broke host Stopped)) cause later = tt
+cause-later a b c (Failed NoHost) cause later = tt
+cause-later a b c (Failed Memory) cause later = tt
+
+-- One part after another: by the limits and the caller that the first has, which stayed the same.
+pub went-then : {h : ℕ} (j : Job) (l l' : Limits h) (caller caller' number : ℕ) (a b c : World) (at mid to : At)
+    → l' ≡ l → caller' ≡ caller → Went j l caller number a b at mid → Went j l' caller' number b c mid to → Went j l caller number a c at to
+went-then {h = h} j l l' caller caller' number a b c at mid to same_limits same_caller first second = record {
+  acts = first.acts ++ second.acts;
+  calls = first.calls ++ second.calls;
+  did = subst (λ (ds : List Deed). DidIn a.kit c.kit ds) (sym (deeds-append first.acts second.acts)) (DidIn-join first.did second.did);
+  named = second.named ∙ ap (λ (es : List Event). es ++ numbered b.places second.acts) first.named ∙ append_assoc a.events (numbered a.places first.acts) (numbered b.places second.acts)
+      ∙ ap (λ (p : Places). a.events ++ (numbered a.places first.acts ++ numbered p second.acts)) first.grown ∙ ap (λ (es : List Event). a.events ++ es) (sym (numbered-append a.places first.acts second.acts));
+  grown = second.grown ∙ ap (λ (p : Places). advanced p second.acts) first.grown ∙ sym (advanced-append a.places first.acts second.acts);
+  reach = subst (λ (xs : List Act). Reach j at xs to) (sym (untimed-append first.acts second.acts)) (reach-append j (untimed first.acts) (untimed second.acts) at mid to first.reach second.reach);
+  mine = second.mine ∙ ap (λ (es : List CallEntry). es ++ second.calls) first.mine ∙ append_assoc a.mine first.calls second.calls;
+  serves = λ past taken.
+      subst (λ (xs : List SlotEvent). Serves (wanted l) caller number past xs (first.calls ++ second.calls)) (sym (slots-append first.acts second.acts))
+      (serves-append (wanted l) caller number past (slots_of first.acts) (slots_of second.acts) first.calls second.calls (first.serves past taken)
+      (subst (λ (k : Limits h). Serves (wanted k) caller number (past ++ slots_of first.acts) (slots_of second.acts) second.calls) same_limits
+      (subst (λ (w : ℕ). Serves (wanted l') w number (past ++ slots_of first.acts) (slots_of second.acts) second.calls) same_caller
+      (second.serves (past ++ slots_of first.acts) (subst (λ (xs : List SlotEvent). HasTaken (past ++ xs) mid) (slots-untimed first.acts) (taken-reach j (untimed first.acts) past at mid first.reach taken))))));
+  moments = subst (λ (ms : List ℕ). AreMoments j.config.period (first.calls ++ second.calls) ms)
+      (sym (ap moments_in (deeds-append first.acts second.acts) ∙ moments_in-append (deeds_of first.acts) (deeds_of second.acts)))
+      (moments-append j.config.period first.calls second.calls (moments_in (deeds_of first.acts)) (moments_in (deeds_of second.acts)) first.moments second.moments);
+  later = later-then first.later second.later;
+  may = λ known. subst (λ (xs : List _). MayAll c.peers xs) (sym (ap exchanges_in (deeds-append first.acts second.acts) ∙ exchanges-append (deeds_of first.acts) (deeds_of second.acts)))
+      (may-append c.peers (exchanges_in (deeds_of first.acts)) (exchanges_in (deeds_of second.acts)) (may-along b.peers c.peers second.same_peers.kept (exchanges_in (deeds_of first.acts)) (first.may (second.did.exchanges.known known))) (second.may known));
+  ran = ran-append c.programs first.acts second.acts (ran-along b.programs c.programs second.same_programs.kept first.acts first.ran) second.ran;
+  same_peers = record { kept = λ x y h. second.same_peers.kept x y (first.same_peers.kept x y h); back = λ x y h. first.same_peers.back x y (second.same_peers.back x y h) };
+  same_programs = record { kept = λ x y z h. second.same_programs.kept x y z (first.same_programs.kept x y z h); back = λ x y z h. first.same_programs.back x y z (second.same_programs.back x y z h) };
+}
+
+pub went-ended : {h : ℕ} (j : Job) (l l' : Limits h) (caller caller' number : ℕ) (a b c : World) (at mid : At) (end : End)
+    → l' ≡ l → caller' ≡ caller → Went j l caller number a b at mid → Ended j l' caller' number b c mid end → Ended j l caller number a c at end
+went-ended j l l' caller caller' number a b c at mid end same_limits same_caller first last = record {
+  to = last.to;
+  went = went-then j l l' caller caller' number a b c at mid last.to same_limits same_caller first last.went;
+  ends = last.ends;
+  cause = cause-before a.kit b.kit c.kit end first.later last.cause;
+}

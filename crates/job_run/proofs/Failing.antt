@@ -1,0 +1,140 @@
+-- What a fault of a device makes of a job, and what a part leaves of the calls.
+use Rattle.std.proofs.Common.{◌≡◌, ◌⊎◌, inl, inr, ℕ, Bool, true, false, ◌++◌, List, [], ◌∷◌, refl, sym, ap, ◌∙◌, subst, append_assoc}
+use Rattle.slot_table.specs.declared.calls.CallEntry.{CallEntry}
+use Rattle.slot_table.specs.declared.calls.SlotCall.TheVariants.{GiveBad as GiveBadCall, GiveLocal}
+use Rattle.slot_table.specs.declared.calls.SlotReply.TheVariants.{Given}
+use Rattle.slot_table.specs.Backoff.{bad_until}
+use Rattle.slot_table.specs.History.{entry}
+use Rattle.edge_traits.specs.declared.faults.Bounds.{Bounds}
+use Rattle.edge_traits.specs.declared.faults.StationFault.{StationFault}
+use Rattle.edge_traits.specs.declared.faults.StationFault.TheVariants as station
+use Rattle.edge_traits.specs.declared.faults.FetchFault.{FetchFault}
+use Rattle.edge_traits.specs.declared.faults.FetchFault.TheVariants as fetch
+use Rattle.edge_traits.specs.declared.faults.EdgeFault.{EdgeFault}
+use Rattle.edge_traits.specs.declared.faults.EdgeFault.TheVariants as edge
+use Rattle.edge_traits.specs.declared.cause.Cause.{Cause}
+use Rattle.edge_traits.specs.declared.cause.Cause.TheVariants.{Dial, Send as CutSend, Recv, Truncated, BadReply, Stopped}
+use Rattle.edge_traits.specs.Causes.{Rose}
+use Rattle.edge_traits.specs.Kits.{KitView}
+use Rattle.edge_traits.specs.Keepers.{FetchCause}
+use Rattle.edge_traits.specs.Stations.{RunFault}
+use Rattle.farm_types.specs.declared.request.Request.{Request}
+use Rattle.farm_types.specs.declared.hosts.Host.{Host}
+use Rattle.farm_types.specs.declared.ran.Outcome.{Outcome}
+use Rattle.edge_traits.specs.declared.entries.Exchange.{Exchange}
+use Rattle.edge_traits.specs.Exchanges.{IsBegun, IsWhole, IsBroken}
+use Rattle.edge_traits.specs.Told.{Told, Grew}
+use Rattle.remote_transfer.specs.Attempts.{Adds, AttemptAdds}
+use Rattle.remote_transfer.specs.Landings.{LandedCause}
+use Rattle.remote_transfer.specs.declared.answers.Attempt.TheVariants.{Memory as AttemptMemory}
+use Rattle.remote_transfer.specs.declared.answers.Landed.TheVariants.{Broke as LandedBroke}
+use Rattle.farm_machine.specs.declared.reports.Event.{Event}
+use Rattle.farm_machine.specs.declared.reports.Event.TheVariants.{Took, Gave, GaveBad}
+use Rattle.farm_machine.specs.declared.reports.Why5.{Why5}
+use Rattle.farm_machine.specs.declared.reports.Why5.TheVariants.{Station, Put, Fetch, Memory, Broke}
+use Rattle.farm_machine.specs.declared.reports.By.{By}
+use Rattle.farm_machine.specs.declared.reports.End.{End}
+use Rattle.farm_machine.specs.declared.reports.End.TheVariants.{Done, Failed}
+use Rattle.farm_machine.specs.Acts.{TakesLocal, Met}
+use Rattle.farm_machine.specs.Causes.{HasEndCause}
+use Rattle.farm_machine.specs.Course.{At, LentHere, Over, Next}
+use Rattle.farm_machine.specs.Jobs.{Job, request_for, host_at}
+use Rattle.job_run.specs.Failures.{station_failure, fetch_failure, put_failure}
+use Rattle.job_run.specs.Stages.{IsForHere}
+use Rattle.job_run.specs.Waits.{borrowed}
+
+-- a run that could not be made ends the job for the station or for memory
+pub not-run : (fault : StationFault) (why : Why5) → why ≡ station_failure fault → (why ≡ Station) ⊎ (why ≡ Memory)
+not-run station.Failed why is = inl is
+not-run (station.TooMuch stream bytes) why is = inl is
+not-run station.Memory why is = inr is
+
+pub over-not-run : (fault : StationFault) (why : Why5) → why ≡ station_failure fault → (Over (Failed why) ≡ Over (Failed Station)) ⊎ (Over (Failed why) ≡ Over (Failed Memory))
+over-not-run fault why is = elim (not-run fault why is) [ inl e ↦ inl (ap (λ (w : Why5). Over (Failed w)) e) | inr e ↦ inr (ap (λ (w : Why5). Over (Failed w)) e) ]
+
+pub not-run-cause : (bounds : Bounds) (fault : StationFault) (why : Why5) (old new : KitView) → why ≡ station_failure fault → RunFault bounds old.station new.station fault → HasEndCause (Failed why) old new
+not-run-cause bounds station.Failed why old new is rose = subst (λ (w : Why5). HasEndCause (Failed w) old new) (sym is) (inl rose)
+not-run-cause bounds (station.TooMuch stream bytes) why old new is rose = subst (λ (w : Why5). HasEndCause (Failed w) old new) (sym is) (inr rose.0)
+not-run-cause bounds station.Memory why old new is free = subst (λ (w : Why5). HasEndCause (Failed w) old new) (sym is) tt
+
+pub not-fetched : (fault : FetchFault) (why : Why5) → why ≡ fetch_failure fault → (why ≡ Fetch) ⊎ (why ≡ Memory)
+not-fetched fetch.Failed why is = inl is
+not-fetched fetch.Absent why is = inl is
+not-fetched (fetch.TooMuch bytes) why is = inl is
+not-fetched fetch.Memory why is = inr is
+
+pub not-fetched-cause : (path : List ℕ) (bound : ℕ) (fault : FetchFault) (why : Why5) (old new : KitView) → why ≡ fetch_failure fault → FetchCause path bound old.keeper new.keeper fault → HasEndCause (Failed why) old new
+not-fetched-cause path bound fetch.Failed why old new is rose = subst (λ (w : Why5). HasEndCause (Failed w) old new) (sym is) (inl rose)
+not-fetched-cause path bound fetch.Absent why old new is gone = subst (λ (w : Why5). HasEndCause (Failed w) old new) (sym is) (inr gone.rose)
+not-fetched-cause path bound (fetch.TooMuch bytes) why old new is long = subst (λ (w : Why5). HasEndCause (Failed w) old new) (sym is) (inr long.rose)
+not-fetched-cause path bound fetch.Memory why old new is free = subst (λ (w : Why5). HasEndCause (Failed w) old new) (sym is) tt
+
+pub not-put : (fault : EdgeFault) (why : Why5) → why ≡ put_failure fault → (why ≡ Put) ⊎ (why ≡ Memory)
+not-put edge.Failed why is = inl is
+not-put edge.Memory why is = inr is
+
+pub not-put-cause : (fault : EdgeFault) (why : Why5) (old new : KitView) → why ≡ put_failure fault → (fault ≡ edge.Failed → Rose old.keeper.faults new.keeper.faults) → HasEndCause (Failed why) old new
+not-put-cause edge.Failed why old new is rose = subst (λ (w : Why5). HasEndCause (Failed w) old new) (sym is) (rose refl)
+not-put-cause edge.Memory why old new is free = subst (λ (w : Why5). HasEndCause (Failed w) old new) (sym is) tt
+
+pub broken-cause : (host : ℕ) (cause : Cause) (old new : KitView) → LandedCause (LandedBroke cause) old.dialer.faults new.dialer.faults → HasEndCause (Failed (Broke host cause)) old new
+broken-cause host Dial old new rose = rose
+broken-cause host CutSend old new rose = tt
+broken-cause host Recv old new rose = tt
+broken-cause host (Truncated have) old new rose = tt
+broken-cause host (BadReply at fault) old new rose = tt
+broken-cause host Stopped old new rose = tt
+
+-- where a job is to be compiled here, it may take a local slot for that
+pub for-here : (j : Job) (source note : List ℕ) (at : At) → IsForHere j source note at → Next j at (Met TakesLocal) (LentHere source note)
+for-here j source note at (inl e) = subst (λ (a : At). Next j a (Met TakesLocal) (LentHere source note)) (sym e) refl
+for-here j source note at (inr (past, e)) = subst (λ (a : At). Next j a (Met TakesLocal) (LentHere source note)) (sym e) (past, refl)
+
+-- the give of a local slot, by the caller and the job that it was taken for
+pub local-given : (w w' job job' : ℕ) (es es' : List CallEntry) → w' ≡ w → job' ≡ job → es' ≡ es ++ entry w' (GiveLocal job') Given ∷ [] → es' ≡ es ++ entry w (GiveLocal job) Given ∷ []
+local-given w w' job job' es es' same_w same_job is = is ∙ ap (λ (u : ℕ). es ++ entry u (GiveLocal job') Given ∷ []) same_w ∙ ap (λ (k : ℕ). es ++ entry w (GiveLocal k) Given ∷ []) same_job
+
+pub borrowed-given : (w job refused : ℕ) (es es1 es2 : List CallEntry) (e : CallEntry) → es1 ≡ es ++ borrowed w job refused → es2 ≡ es1 ++ e ∷ [] → es2 ≡ es ++ (borrowed w job refused ++ e ∷ [])
+borrowed-given w job refused es es1 es2 e first second = second ∙ ap (λ (xs : List CallEntry). xs ++ e ∷ []) first ∙ append_assoc es (borrowed w job refused) (e ∷ [])
+
+-- the same where a slot of an entry that is this machine was lent
+pub over-lent : (local : Bool) (why : Why5) → local ≡ true → (Over (Failed why) ≡ Over (Failed Station)) ⊎ (Over (Failed why) ≡ Over (Failed Memory)) → ((local ≡ true) × (Over (Failed why) ≡ Over (Failed Station))) ⊎ (Over (Failed why) ≡ Over (Failed Memory))
+over-lent local why here (inl e) = inl (here, e)
+over-lent local why here (inr e) = inr e
+
+pub done-cause : (end : End) (status : ℕ) (note err out : List ℕ) (by : By) (old new : KitView) → end ≡ Done status note err out by → HasEndCause end old new
+done-cause end status note err out by old new is = subst (λ (e : End). HasEndCause e old new) (sym is) tt
+
+-- a host that is known by another name
+pub gave-as : (host other : ℕ) (es es' : List Event) → host ≡ other → es' ≡ es ++ Gave host ∷ [] → es' ≡ es ++ Gave other ∷ []
+gave-as host other es es' same is = is ∙ ap (λ (h : ℕ). es ++ Gave h ∷ []) same
+
+pub took-as : (host other : ℕ) (es es' : List Event) → host ≡ other → es' ≡ es ++ Took host ∷ [] → es' ≡ es ++ Took other ∷ []
+took-as host other es es' same is = is ∙ ap (λ (h : ℕ). es ++ Took h ∷ []) same
+
+pub gave-bad-as : (host other until : ℕ) (es es' : List Event) → host ≡ other → es' ≡ es ++ GaveBad host until ∷ [] → es' ≡ es ++ GaveBad other until ∷ []
+gave-bad-as host other until es es' same is = is ∙ ap (λ (h : ℕ). es ++ GaveBad h until ∷ []) same
+
+-- what is so of the request that was made and of the host that was asked is so of the job's
+pub begun-as : (j : Job) (source : List ℕ) (host : ℕ) (q : Request) (h : Host) (x : Exchange) → request_for j source ≡ q → host_at j host ≡ h → IsBegun x q h → IsBegun x (request_for j source) (host_at j host)
+begun-as j source host q h x same_q same_h is = subst (λ (r : Request). IsBegun x r (host_at j host)) (sym same_q) (subst (λ (k : Host). IsBegun x q k) (sym same_h) is)
+
+pub whole-as : (j : Job) (source : List ℕ) (host : ℕ) (q : Request) (h : Host) (x : Exchange) (o : Outcome) → request_for j source ≡ q → host_at j host ≡ h → IsWhole x q h o → IsWhole x (request_for j source) (host_at j host) o
+whole-as j source host q h x o same_q same_h is = subst (λ (r : Request). IsWhole x r (host_at j host) o) (sym same_q) (subst (λ (k : Host). IsWhole x q k o) (sym same_h) is)
+
+pub broken-as : (j : Job) (source : List ℕ) (host : ℕ) (q : Request) (h : Host) (x : Exchange) (cause : Cause) → request_for j source ≡ q → host_at j host ≡ h → IsBroken x q h cause → IsBroken x (request_for j source) (host_at j host) cause
+broken-as j source host q h x cause same_q same_h is = subst (λ (r : Request). IsBroken x r (host_at j host) cause) (sym same_q) (subst (λ (k : Host). IsBroken x q k cause) (sym same_h) is)
+
+-- memory was wanting before the dial had succeeded, or after it
+pub undialed : (may : List ℕ → List ℕ → Type 0) (q : Request) (host : Host) (old new : Told (List Exchange)) (dialed : Bool) → dialed ≡ false → AttemptAdds may q host (AttemptMemory dialed) old new → Grew old new []
+undialed may q host old new dialed is adds = elim dialed as (λ d. d ≡ false → AttemptAdds may q host (AttemptMemory d) old new → Grew old new []) [ true ↦ λ i a. absurd (cc) | false ↦ λ i a. a ] is adds
+
+pub dialed_once : (may : List ℕ → List ℕ → Type 0) (q : Request) (host : Host) (old new : Told (List Exchange)) (dialed : Bool) → dialed ≡ true → AttemptAdds may q host (AttemptMemory dialed) old new → Adds may old new (λ x. IsBegun x q host)
+dialed_once may q host old new dialed is adds = elim dialed as (λ d. d ≡ true → AttemptAdds may q host (AttemptMemory d) old new → Adds may old new (λ x. IsBegun x q host)) [ true ↦ λ i a. record { entry = a.entry; grew = a.grew; is = a.is.0.0; may = a.may } | false ↦ λ i a. absurd (cc) ] is adds
+
+-- the period of a back-off by another name
+pub alone-noted : (host moment period other : ℕ) (es es' : List Event) → other ≡ period → es' ≡ es ++ GaveBad host (bad_until moment period) ∷ [] → es' ≡ es ++ GaveBad host (bad_until moment other) ∷ []
+alone-noted host moment period other es es' same is = is ∙ ap (λ (p : ℕ). es ++ GaveBad host (bad_until moment p) ∷ []) (sym same)
+
+pub alone-called : (w host job moment period other : ℕ) (es es' : List CallEntry) → other ≡ period → es' ≡ es ++ entry w (GiveBadCall host job (bad_until moment period)) Given ∷ [] → es' ≡ es ++ entry w (GiveBadCall host job (bad_until moment other)) Given ∷ []
+alone-called w host job moment period other es es' same is = is ∙ ap (λ (p : ℕ). es ++ entry w (GiveBadCall host job (bad_until moment p)) Given ∷ []) (sym same)

@@ -1,0 +1,32 @@
+use Rattle.std.proofs.Common.{refl, sym, ap, inl, inr, arith}
+use Rattle.std.proofs.lemmas.List.{append-nil}
+use Rattle.edge_traits.proofs.DeedLemmas.{DidIn-nothing}
+use Rattle.farm_machine.specs.Course.{Start}
+use Rattle.farm_machine.specs.Jobs.{job_of}
+use Rattle.job_run.proofs.Leaves.{no-act, same_peers, same_programs}
+use Rattle.job_run.proofs.Names.{is_sent, class_input, class_stays}
+use Rattle.job_run.proofs.job.run_class.Goals as goal
+
+pub run_remote-requires-clause-input : goal.run_remote-requires-clause-input
+run_remote-requires-clause-input g c = (class_input c.args.words.now _ _ _ _ _ (c.in-Remote.ensures.class (λ h. cc))).0
+
+pub run_remote-requires-clause-output : goal.run_remote-requires-clause-output
+run_remote-requires-clause-output g c = (class_input c.args.words.now _ _ _ _ _ (c.in-Remote.ensures.class (λ h. cc))).1
+
+pub run_remote-requires-clause-preprocessed : goal.run_remote-requires-clause-preprocessed
+run_remote-requires-clause-preprocessed g c = (class_input c.args.words.now _ _ _ _ _ (c.in-Remote.ensures.class (λ h. cc))).2
+
+pub returns-in-Memory-clause-ended : goal.returns-in-Memory-clause-ended
+returns-in-Memory-clause-ended g c = record {
+  to = Start;
+  went = no-act _ (job_of c.args.words.now c.args.config.now) _ _ _ _ _ (DidIn-nothing _) (record { station = omega arith; station_overruns = omega arith; keeper = omega arith; keeper_overruns = omega arith; dialer = omega arith }) (same_peers _) (same_programs _) (sym (append-nil _), refl) refl;
+  ends = inl refl;
+  cause = tt;
+}
+
+pub returns-in-Empty-clause-ended : goal.returns-in-Empty-clause-ended
+returns-in-Empty-clause-ended g c = c.run_in_place.ensures.ended c.args.config.now
+    (elim c.in-Empty.is [
+      | inl is ↦ class_stays c.args.words.now c.scan.result c.args.config.now (c.scan.ensures.class (λ h. cc)) (ap is_sent is)
+      | inr is ↦ class_stays c.args.words.now c.scan.result c.args.config.now (c.scan.ensures.class (λ h. cc)) (ap is_sent is.2)
+    ])

@@ -1,0 +1,80 @@
+-- What a job sees and changes, and how it comes from one place of its course to another.
+use Rattle.std.specs.Prelude.{◌≡◌, ℕ, ◌+◌, ◌≤◌, Bool, true, false, ◌||◌, IsTrue, List, ◌++◌, nat_eq}
+use Rattle.slot_table.specs.declared.limits.Limits.{Limits}
+use Rattle.slot_table.specs.declared.calls.CallEntry.{CallEntry}
+use Rattle.edge_traits.specs.Kits.{KitView}
+use Rattle.edge_traits.specs.Told.{SameRelation, SameRelation3}
+use Rattle.edge_traits.specs.Deeds.{exchanges_in, moments_in, DidIn, MayAll}
+use Rattle.farm_machine.specs.declared.reports.Event.{Event}
+use Rattle.farm_machine.specs.declared.reports.End.{End}
+use Rattle.farm_machine.specs.declared.reports.Places.{Places}
+use Rattle.farm_machine.specs.Acts.{SlotEvent, took, Act, slots_of, deeds_of}
+use Rattle.farm_machine.specs.Causes.{HasEndCause, KitLater}
+use Rattle.farm_machine.specs.Course.{is_tried, At, Start, Send, Lent, Sent, Reach, Ends}
+use Rattle.farm_machine.specs.Farm.{wanted}
+use Rattle.farm_machine.specs.Honest.{Peers, Programs, AllRan}
+use Rattle.farm_machine.specs.Jobs.{Job}
+use Rattle.farm_machine.specs.Moments.{AreMoments}
+use Rattle.farm_machine.specs.Numbered.{numbered, advanced, untimed}
+use Rattle.farm_machine.specs.Own.{Serves}
+
+-- a kit with its peers and programs, the worker's calls, and the events and next places
+pub record World : Type 1 where
+  pub kit : KitView
+  pub peers : Peers
+  pub programs : Programs
+  pub mine : List CallEntry
+  pub events : List Event
+  pub places : Places
+
+abbrev pub world : KitView → Peers → Programs → List CallEntry → List Event → Places → World
+world kit peers programs mine events places = record { kit = kit; peers = peers; programs = programs; mine = mine; events = events; places = places }
+
+-- of each host the job took a slot before exactly where the place says so
+abbrev pub HasTaken : List SlotEvent → At → Type 0
+HasTaken past Start = (host : ℕ) → took host past ≡ false
+HasTaken past (Send source note tried) = (host : ℕ) → took host past ≡ is_tried host tried
+HasTaken past (Lent host source note tried) = (k : ℕ) → took k past ≡ (nat_eq host k || is_tried k tried)
+HasTaken past (Sent host source note tried x) = (k : ℕ) → took k past ≡ (nat_eq host k || is_tried k tried)
+HasTaken past at = Unit {0}
+
+-- The job came from one place to another by these acts, and these calls are what it asked of the slots.
+pub record Went {h : ℕ} (j : Job) (l : Limits h) (caller number : ℕ) (old new : World) (at to : At) : Type 0 where
+  pub acts : List Act
+  pub calls : List CallEntry
+  pub did : DidIn old.kit new.kit (deeds_of acts)
+  pub named : new.events ≡ old.events ++ numbered old.places acts
+  pub grown : new.places ≡ advanced old.places acts
+  pub reach : Reach j at (untimed acts) to
+  pub mine : new.mine ≡ old.mine ++ calls
+  pub serves : (past : List SlotEvent) → HasTaken past at → Serves (wanted l) caller number past (slots_of acts) calls
+  pub moments : AreMoments j.config.period calls (moments_in (deeds_of acts))
+  pub later : KitLater old.kit new.kit
+  pub may : IsTrue new.kit.dialer.exchanges.known → MayAll new.peers (exchanges_in (deeds_of acts))
+  pub ran : AllRan new.programs acts
+  pub same_peers : SameRelation old.peers new.peers
+  pub same_programs : SameRelation3 old.programs new.programs
+
+-- the job came from a place to a last one, where it may end so
+pub record Ended {h : ℕ} (j : Job) (l : Limits h) (caller number : ℕ) (old new : World) (at : At) (end : End) : Type 0 where
+  pub to : At
+  pub went : Went j l caller number old new at to
+  pub ends : Ends j to end
+  pub cause : HasEndCause end old.kit new.kit
+
+-- the next places, with room for so many more entries
+pub record HasPlaces (at : Places) (left : ℕ) : Type 0 where
+  pub runs : at.runs + left ≤ 4294967295
+  pub fetches : at.fetches + left ≤ 4294967295
+  pub exchanges : at.exchanges + left ≤ 4294967295
+  pub puts : at.puts + left ≤ 4294967295
+
+-- there is room for as many calls as for events, where a caller is alone
+abbrev pub HasSpare : Bool → ℕ → ℕ → Type 0
+HasSpare alone left spare = alone ≡ true → left ≤ spare
+
+-- A caller that is alone has spent no more of its calls than of its events, and any other none.
+pub record Spent (alone : Bool) (left spare left' spare' : ℕ) : Type 0 where
+  pub alone_spent : alone ≡ true → spare + left' ≤ spare' + left
+  pub shared : alone ≡ false → spare' ≡ spare
+  pub fell : left' ≤ left

@@ -1,0 +1,102 @@
+// What a job does next.
+ghost use Rattle.std.specs.Prelude.{◌≡◌, [], cond};
+ghost use Rattle.farm_machine.specs.declared.reports.By.TheVariants.{Cpp, InPlace};
+ghost use Rattle.farm_machine.specs.declared.reports.End.TheVariants.{Done};
+ghost use Rattle.farm_machine.specs.Course.{outcome_of};
+ghost use Rattle.job_run.specs.declared.step.Step.TheVariants.{Here, Failed};
+ghost use Rattle.job_run.specs.Failures.{station_failure, fetch_failure, put_failure};
+
+use edge_traits::{EdgeFault, FetchFault, StationFault};
+use farm_machine::{By, End, Why5};
+use farm_types::{Bytes, Outcome, Ran};
+use std::alloc::Global;
+
+/// What a job does next, whose source is there and of which no compile is begun.
+#[derive(Drop)]
+pub(crate) enum Step {
+    /// It is compiled here.
+    Here,
+    /// It was compiled: an object of status 0 is put, and another status ends the job.
+    Compiled { by: By, outcome: Outcome },
+    /// It has failed.
+    Failed(Why5),
+}
+
+/// Why a job failed whose program could not be run.
+pub(crate) fn why_not_run(fault: StationFault) -> Why5
+    ensures { result ≡ station_failure fault }
+{
+    match fault {
+        StationFault::Failed | StationFault::TooMuch { .. } => Why5::Station,
+        StationFault::Memory => Why5::Memory,
+    }
+}
+
+/// Why a job failed whose source could not be fetched.
+pub(crate) fn why_not_fetched(fault: FetchFault) -> Why5
+    ensures { result ≡ fetch_failure fault }
+{
+    match fault {
+        FetchFault::Failed | FetchFault::Absent | FetchFault::TooMuch { .. } => Why5::Fetch,
+        FetchFault::Memory => Why5::Memory,
+    }
+}
+
+/// Why a job failed whose object could not be put.
+pub(crate) fn why_not_put(fault: EdgeFault) -> Why5
+    ensures { result ≡ put_failure fault }
+{
+    match fault {
+        EdgeFault::Failed => Why5::Put,
+        EdgeFault::Memory => Why5::Memory,
+    }
+}
+
+/// With fallback the job is compiled here, and else it has failed.
+pub(crate) fn here_or(fallback: bool, why: Why5) -> Step
+    ensures { result ≡ cond fallback Here (Failed why) }
+{
+    if fallback {
+        Step::Here
+    } else {
+        Step::Failed(why)
+    }
+}
+
+/// What a run left, as an outcome.
+pub(crate) fn outcome_of(ran: Ran) -> Outcome
+    ensures { result ≡ outcome_of ran }
+{
+    Outcome {
+        status: ran.status,
+        err: ran.err,
+        out: ran.out,
+        object: ran.object,
+    }
+}
+
+/// The end of a job whose preprocessor failed.
+pub(crate) fn done_by_preprocessor(alloc: Global, ran: Ran) -> End
+    ensures { result ≡ Done ran.status [] ran.err [] Cpp }
+{
+    End::Done {
+        status: ran.status,
+        note: Bytes::new(alloc),
+        err: ran.err,
+        out: Bytes::new(alloc),
+        by: By::Cpp,
+    }
+}
+
+/// The end of a job whose whole command was run here.
+pub(crate) fn done_in_place(alloc: Global, ran: Ran) -> End
+    ensures { result ≡ Done ran.status [] ran.err ran.out InPlace }
+{
+    End::Done {
+        status: ran.status,
+        note: Bytes::new(alloc),
+        err: ran.err,
+        out: ran.out,
+        by: By::InPlace,
+    }
+}
