@@ -4,6 +4,7 @@
 use edge_real::{StdSink, StdSource, system_kits};
 use farm_program::farm;
 use std::process::ExitCode;
+use std::sync::Wait;
 use std::{env, process};
 
 /// How many kits there are: the most workers.
@@ -35,8 +36,9 @@ fn variables_of(rt: &HostRuntime) -> anyhow::Result<Vec<(String, String)>> {
     Ok(variables)
 }
 
-// Runs `farm` on the program's words, its environment and the standard streams, and answers its exit status.
-fn run(rt: &HostRuntime) -> anyhow::Result<u8> {
+// Runs `farm` on the program's words, its environment and the standard streams, and answers its exit status. It may wait
+// for a slot.
+fn run<W: Wait>(waits: &W, rt: &HostRuntime) -> anyhow::Result<u8> {
     let alloc = rt.alloc();
     let words = words_of(rt)?;
     let variables = variables_of(rt)?;
@@ -46,6 +48,7 @@ fn run(rt: &HostRuntime) -> anyhow::Result<u8> {
     let mut out = StdSink::new(rt.stdout());
     let mut err = StdSink::new(rt.stderr());
     let ended = farm(
+        waits,
         alloc,
         words.as_slice(),
         variables.as_slice(),
@@ -58,6 +61,6 @@ fn run(rt: &HostRuntime) -> anyhow::Result<u8> {
 }
 
 fn main(rt: HostRuntime) -> anyhow::Result<ExitCode> {
-    let status = run(&rt)?;
+    let status = run(&rt, &rt)?;
     Ok(ExitCode::from(status))
 }

@@ -2,3 +2,4 @@ pub mod ReportLemmas
 pub mod Building
 pub mod Completing
 pub mod Commanding
+mod Idling

@@ -24,7 +24,7 @@ PrintedFront-after before after all are printed later front = record {
   done = before ++ front.done;
   front = IsFront-after before after are front.front;
   printed = Printed-join printed front.printed;
-  stopped = λ stop. PrintedPart-after before after all are printed later (front.stopped stop);
+  stopped = λ stop. PrintedPart-after before after all are printed later (λ is. absurd (cc)) (front.stopped stop);
 }
 
 module _ (hosts : List Host) (reports : List Report) (i : ℕ) (report : Report) (within : i < length reports) (is : report ≡ get_or reports i report) where

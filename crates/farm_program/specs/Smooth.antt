@@ -1,10 +1,11 @@
 -- A build whose source and sinks do nothing wrong.
 use Rattle.std.specs.Prelude.{◌≡◌, ℕ, List, [], ◌∷◌}
-use Rattle.farm_types.specs.declared.hosts.Host.{Host}
+use Rattle.farm_types.specs.declared.jobs.JobConfig.{JobConfig}
+use Rattle.farm_types.specs.declared.placed.Word.{Word}
+use Rattle.farm_types.specs.declared.ran.Ran.{Ran}
 use Rattle.edge_traits.specs.Causes.{Rose}
 use Rattle.edge_traits.specs.Kits.{KitView}
 use Rattle.stream_print.specs.Prints.{DidStop}
-use Rattle.farm_machine.specs.declared.plans.RemotePlan.{RemotePlan}
 use Rattle.farm_machine.specs.declared.reports.Report.{Report}
 use Rattle.report_text.specs.Numbers.{number}
 use Rattle.farm_program.specs.Worlds.{World}
@@ -17,8 +18,8 @@ pub record IsSmooth {K : Type 0} (old new : World K) : Type 0 where
   pub err : ¬ (DidStop old.sinks.err new.sinks.err)
 
 -- Nothing is left unread, the job was run, and the answer is the number of its report.
-pub record Completed {K : Type 0} (may_give : K → List ℕ → List ℕ → Type 0) (shows : K → KitView) (host : Host) (plan : RemotePlan) (old new : World K) (answer : ℕ) : Type 0 where
+pub record Completed {K : Type 0} (may_give : K → List ℕ → List ℕ → Type 0) (programs : K → List Word → List ℕ → Ran → Type 0) (shows : K → KitView) (config : JobConfig) (words : List (List ℕ)) (old new : World K) (answer : ℕ) : Type 0 where
   pub nothing_left : new.source.left.value ≡ []
   pub report : Report
-  pub run : FirstRan may_give shows host plan report old.kits new.kits
+  pub run : FirstRan may_give programs shows config words report old.kits new.kits
   pub status : answer ≡ number (report ∷ [])

@@ -11,6 +11,7 @@ use edge_memory::{
 use edge_traits::{CallNumbers, EdgeFault, FileList, Keeper, Kit, Sink};
 use farm_types::{Bytes, Ran};
 use std::alloc::{AllocError, Global};
+use std::sync::Wait;
 use std::test::Fail;
 
 type MemKit = Kit<MemDialer, MemStation, MemKeeper, MemClock>;
@@ -119,6 +120,9 @@ fn variables_of(alloc: Global, script: &Script) -> Result<Vec<(String, String)>,
 // The file `x.o` of a kit, where it is there.
 fn object_of(alloc: Global, kit: &mut MemKit) -> Result<Option<Bytes>, AllocError> {
     let path = Bytes::from_slice(alloc, b"x.o")?;
+    if kit.keeper.is_pending() {
+        return Ok(None);
+    }
     match kit.keeper.fetch(alloc, &path, 1_000) {
         Ok(object) => Ok(Some(object)),
         Err(_) => Ok(None),
@@ -133,7 +137,7 @@ pub(crate) struct Seen {
     pub(crate) object: Option<Bytes>,
 }
 
-pub(crate) fn run(alloc: Global, script: &Script) -> Result<Seen, AllocError> {
+pub(crate) fn run<W: Wait>(rt: &W, alloc: Global, script: &Script) -> Result<Seen, Fail> {
     let words = words_of(alloc, script)?;
     let variables = variables_of(alloc, script)?;
     let text = Bytes::from_slice(alloc, script.input)?;
@@ -146,7 +150,11 @@ pub(crate) fn run(alloc: Global, script: &Script) -> Result<Seen, AllocError> {
     let mut err = Page {
         text: Bytes::new(alloc),
     };
+    if kits.iter().any(|kit| kit.keeper.is_pending()) {
+        return Err("no put is pending".into());
+    }
     let ended = farm(
+        rt,
         alloc,
         words.as_slice(),
         variables.as_slice(),
@@ -332,14 +340,14 @@ pub(crate) fn is_as_expected(seen: &Seen, row: &Row) -> bool {
 #[test]
 fn jobs_end_as_their_devices_let_them(rt: HostRuntime) -> Result<(), Fail> {
     for (at, row) in JOBS.iter().enumerate() {
-        let seen = run(rt.alloc(), &row.script)?;
+        let seen = run(&rt, rt.alloc(), &row.script)?;
         assert!(rt; is_as_expected(&seen, row), "row {at}: {:?}", seen.out);
     }
     Ok(())
 }
 
 // The status where a sink takes at most so many bytes at once, and none at the call of this number.
-fn stopped(alloc: Global, stops: u64) -> Result<(u8, Option<Bytes>), AllocError> {
+fn stopped<W: Wait>(rt: &W, alloc: Global, stops: u64) -> Result<(u8, Option<Bytes>), Fail> {
     let words = words_of(alloc, &FIRST)?;
     let text = Bytes::from_slice(alloc, FIRST.input)?;
     let mut input = MemSource::new(text, CallNumbers::new(alloc), 100);
@@ -356,7 +364,11 @@ fn stopped(alloc: Global, stops: u64) -> Result<(u8, Option<Bytes>), AllocError>
     let mut err = Page {
         text: Bytes::new(alloc),
     };
+    if kits.iter().any(|kit| kit.keeper.is_pending()) {
+        return Err("no put is pending".into());
+    }
     let ended = farm(
+        rt,
         alloc,
         words.as_slice(),
         &[],
@@ -374,10 +386,10 @@ fn stopped(alloc: Global, stops: u64) -> Result<(u8, Option<Bytes>), AllocError>
 
 #[test]
 fn what_was_put_stays_where_a_sink_stops(rt: HostRuntime) -> Result<(), Fail> {
-    let (status, object) = stopped(rt.alloc(), 1)?;
+    let (status, object) = stopped(&rt, rt.alloc(), 1)?;
     assert_eq!(rt; status, 100);
     assert!(rt; object.is_some());
-    let (status, object) = stopped(rt.alloc(), 0)?;
+    let (status, object) = stopped(&rt, rt.alloc(), 0)?;
     assert_eq!(rt; status, 0);
     assert!(rt; object.is_some());
     Ok(())

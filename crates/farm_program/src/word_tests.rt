@@ -3,6 +3,7 @@
 use crate::tests::{FIRST, Script, Seen, run};
 use std::alloc::Global;
 use std::process::Abort;
+use std::sync::Wait;
 use std::test::Fail;
 
 const DONE: &str = "1 remote H:3632 stat 00000000\ntotal 1 ok 1\n";
@@ -203,50 +204,52 @@ const COMMANDS: [Row; 21] = [
     },
 ];
 
-// Words of `build` that ask for what is not built yet.
-const LATER: [Row; 6] = [
+// Builds by other hosts, and with fallback: the host compiles, or none is there.
+const BUILDS: [Row; 5] = [
     Row {
         words: &["build", "--hosts", "H"],
         env: &[],
-        status: 102,
-        out: "",
-        err: NOT_BUILT,
+        status: 0,
+        out: DONE,
+        err: "note\n",
     },
     Row {
         words: &["build", "--hosts", "H"],
         env: &[("DISTCC_FALLBACK", "1"), ("DISTCC_FALLBACK", "0")],
-        status: 102,
-        out: "",
-        err: NOT_BUILT,
-    },
-    Row {
-        words: &["build", "--no-fallback"],
-        env: &[],
-        status: 102,
-        out: "",
-        err: NOT_BUILT,
-    },
-    Row {
-        words: &["build", "--no-fallback", "--hosts", "localhost"],
-        env: &[],
-        status: 102,
-        out: "",
-        err: NOT_BUILT,
+        status: 0,
+        out: DONE,
+        err: "note\n",
     },
     Row {
         words: &["build", "--no-fallback", "--hosts", "H H"],
         env: &[],
-        status: 102,
-        out: "",
-        err: NOT_BUILT,
+        status: 0,
+        out: DONE,
+        err: "note\n",
+    },
+    Row {
+        words: &["build", "--no-fallback"],
+        env: &[],
+        status: 116,
+        out: "1 failed no host\ntotal 1 ok 0\n",
+        err: "",
     },
     Row {
         words: &["build", "--no-fallback", "--hosts", "--randomize"],
         env: &[],
-        status: 102,
-        out: "",
-        err: NOT_BUILT,
+        status: 116,
+        out: "1 failed no host\ntotal 1 ok 0\n",
+        err: "",
     },
+];
+
+// Builds that compile here: the compile gives an empty object.
+const HERE: [(&[&str], &str); 2] = [
+    (&["build"], "1 here stat 00000000\ntotal 1 ok 1\n"),
+    (
+        &["build", "--no-fallback", "--hosts", "localhost"],
+        "1 here stat 00000000\ntotal 1 ok 1\n",
+    ),
 ];
 
 // Words that don't fit, and the place of the first that doesn't.
@@ -286,16 +289,13 @@ const HELP: [(&[&str], &str); 6] = [
 ];
 
 // Inputs of the first run's words that ask for no job, or can't be read: which read fails, where 0 is none; and the status.
-const INPUTS: [(&[u8], u64, u8); 11] = [
+const INPUTS: [(&[u8], u64, u8); 8] = [
     (b"", 0, 102),
     (b"\n", 0, 102),
     (b"gcc -c x.c", 0, 102),
     (b"gcc -c x.c\ngcc -c y.c\n", 0, 102),
     (b"gcc  -c x.c\n", 0, 102),
     (b"gcc -c 'x.c'\n", 0, 102),
-    (b"gcc x.c -o x\n", 0, 102),
-    (b"gcc -c -march=native x.c\n", 0, 102),
-    (b"gcc -c x.i\n", 0, 102),
     (b"gcc -c x.c\n", 2, 107),
     (b"gcc -c 'x.c'\n", 1, 107),
 ];
@@ -308,14 +308,14 @@ fn shows(seen: &Seen, status: u8, out: &str, err: &str) -> bool {
         && seen.object.is_some() == (out == DONE)
 }
 
-fn check_rows(rt: &impl Abort, alloc: Global, rows: &[Row]) -> Result<(), Fail> {
+fn check_rows<R: Abort + Wait>(rt: &R, alloc: Global, rows: &[Row]) -> Result<(), Fail> {
     for (at, row) in rows.iter().enumerate() {
         let script = Script {
             words: row.words,
             env: row.env,
             ..FIRST
         };
-        let seen = run(alloc, &script)?;
+        let seen = run(rt, alloc, &script)?;
         assert!(rt;
             shows(&seen, row.status, row.out, row.err),
             "row {at}: {} {:?} {:?}",
@@ -330,7 +330,18 @@ fn check_rows(rt: &impl Abort, alloc: Global, rows: &[Row]) -> Result<(), Fail> 
 #[test]
 fn commands_answer_by_their_words(rt: HostRuntime) -> Result<(), Fail> {
     check_rows(&rt, rt.alloc(), &COMMANDS)?;
-    check_rows(&rt, rt.alloc(), &LATER)
+    check_rows(&rt, rt.alloc(), &BUILDS)
+}
+
+#[test]
+fn this_machine_compiles_where_no_host_does(rt: HostRuntime) -> Result<(), Fail> {
+    for (words, out) in HERE {
+        let seen = run(&rt, rt.alloc(), &Script { words, ..FIRST })?;
+        assert_eq!(rt; seen.status, 0, "{words:?}");
+        assert_eq!(rt; seen.out.as_slice(), out.as_bytes(), "{words:?}");
+        assert!(rt; seen.object.is_some(), "{words:?}");
+    }
+    Ok(())
 }
 
 #[test]
@@ -341,7 +352,7 @@ fn words_that_do_not_fit_are_named_by_their_place(rt: HostRuntime) -> Result<(),
             read_fails: 1,
             ..FIRST
         };
-        let seen = run(rt.alloc(), &script)?;
+        let seen = run(&rt, rt.alloc(), &script)?;
         let err = format!(in rt.alloc(); "farm: bad words at word {place}\n")?;
         assert!(rt;
             shows(&seen, 101, "", err.as_str()),
@@ -355,7 +366,7 @@ fn words_that_do_not_fit_are_named_by_their_place(rt: HostRuntime) -> Result<(),
 #[test]
 fn help_is_printed(rt: HostRuntime) -> Result<(), Fail> {
     for (words, usage) in HELP {
-        let seen = run(rt.alloc(), &Script { words, ..FIRST })?;
+        let seen = run(&rt, rt.alloc(), &Script { words, ..FIRST })?;
         assert_eq!(rt; seen.status, 0, "{words:?}");
         assert!(rt;
             seen.out.as_slice().starts_with(usage.as_bytes()),
@@ -370,6 +381,7 @@ fn help_is_printed(rt: HostRuntime) -> Result<(), Fail> {
 fn inputs_without_a_job_are_refused(rt: HostRuntime) -> Result<(), Fail> {
     for (input, read_fails, status) in INPUTS {
         let seen = run(
+            &rt,
             rt.alloc(),
             &Script {
                 input,

@@ -8,9 +8,10 @@ use farm_program::farm;
 use scripted::scripted_kit;
 use std::env;
 use std::process::ExitCode;
+use std::sync::Wait;
 
-// Runs `farm` on the program's words and standard streams, and answers its exit status.
-fn run(rt: &HostRuntime) -> anyhow::Result<u8> {
+// Runs `farm` on the program's words and standard streams, and answers its exit status. It may wait for a slot.
+fn run<W: Wait>(waits: &W, rt: &HostRuntime) -> anyhow::Result<u8> {
     let alloc = rt.alloc();
     let mut words = Vec::new(alloc);
     for word in env::args(rt)?.skip(1) {
@@ -22,6 +23,7 @@ fn run(rt: &HostRuntime) -> anyhow::Result<u8> {
     let mut out = StdSink::new(rt.stdout());
     let mut err = StdSink::new(rt.stderr());
     let ended = farm(
+        waits,
         alloc,
         words.as_slice(),
         &[],
@@ -34,6 +36,6 @@ fn run(rt: &HostRuntime) -> anyhow::Result<u8> {
 }
 
 fn main(rt: HostRuntime) -> anyhow::Result<ExitCode> {
-    let status = run(&rt)?;
+    let status = run(&rt, &rt)?;
     Ok(ExitCode::from(status))
 }

@@ -1,4 +1,7 @@
 //! The devices of the scripted run.
+ghost use Rattle.std.specs.Prelude.{IfOk};
+ghost use Rattle.edge_traits.specs.Keepers.{IsIdle};
+ghost use Rattle.edge_memory.specs.Keepers.{keeper_state, keeper_shows};
 
 use edge_memory::{
     LinkScript, LinkScripts, MemClock, MemDialer, MemKeeper, MemStation, Moments, Moves, RanList,
@@ -10,7 +13,9 @@ use std::alloc::{AllocError, Global};
 /// A kit whose preprocessor gives `int a = 1;` and whose host answers with the object of that source.
 pub fn scripted_kit(
     alloc: Global,
-) -> Result<Kit<MemDialer, MemStation, MemKeeper, MemClock>, AllocError> {
+) -> Result<Kit<MemDialer, MemStation, MemKeeper, MemClock>, AllocError>
+    ensures { IfOk result (λ kit. IsIdle (keeper_shows (keeper_state kit.keeper))) }
+{
     let mut links = LinkScripts::new(alloc);
     links.try_push(LinkScript {
         gives: Bytes::from_slice(

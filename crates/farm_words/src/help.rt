@@ -36,9 +36,7 @@ Options, in any order, each at most once:
   --no-fallback  don't compile here what no host compiled
   --no-retry     don't compile here what failed on a host
 
-So far a build does one job, on one host that isn't local, and compiles nothing
-here: --no-fallback or DISTCC_FALLBACK=0 has to be given, and --workers and
---no-retry change nothing.
+So far a build does one job, and --workers changes nothing.
 ";
 
 /// What `farm cc --help` prints.

@@ -4,7 +4,7 @@ use Rattle.farm_program.specs.Commands.{hosts_listed, hosts_faulty}
 use Rattle.farm_program.proofs.hosts.build_by.Goals as goal
 
 pub returns-in-Ok : goal.returns-in-Ok
-returns-in-Ok g c = hosts_listed c.in-Ok.ensures.list c.build_on.ensures
+returns-in-Ok g c = hosts_listed c.in-Ok.ensures.list c.build.ensures
 
 pub returns-in-Err-Fault : goal.returns-in-Err-Fault
 returns-in-Err-Fault g c =
