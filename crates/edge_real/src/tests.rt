@@ -284,13 +284,13 @@ fn a_file_is_put_and_fetched(rt: HostRuntime) -> Result<(), Fail> {
     );
     let fetched = keeper.fetch(alloc, &path, 5)?;
     assert_eq!(rt; fetched.as_slice(), b"newer".as_slice());
+    let folder = Bytes::from_slice(alloc, b".")?;
+    assert!(rt; matches!(keeper.fetch(alloc, &folder, 9), Err(FetchFault::Failed)));
     let nowhere = Bytes::from_slice(alloc, b"no/such/folder/x.o")?;
     assert_eq!(rt;
         put_file(alloc, keeper, &nowhere, b"new"),
         Err(EdgeFault::Failed)
     );
-    let folder = Bytes::from_slice(alloc, b".")?;
-    assert!(rt; matches!(keeper.fetch(alloc, &folder, 9), Err(FetchFault::Failed)));
     Ok(())
 }
 

@@ -123,335 +123,418 @@ fn expect_row<R: Wait + Abort>(rt: &R, alloc: Global, row: &Row) -> Result<(), F
     Ok(())
 }
 
+/// One job, for which there is one host.
+const BY_ONE_HOST: &[Row] = &[
+    FIRST,
+    // A failure of the host's compiler is tried here once more, and is the job's with no retry.
+    Row {
+        gives: &[REFUSED],
+        events: &[
+            Event::Ran(0),
+            Event::Took(0),
+            Event::Exchanged(0),
+            Event::Gave(0),
+            Event::TookLocal,
+            Event::Ran(1),
+            Event::GaveLocal,
+            Event::Put(0),
+        ],
+        exchanges: &[Passed("a", REQUEST, REFUSED)],
+        ..FALLEN
+    },
+    Row {
+        gives: &[REFUSED],
+        retry: false,
+        events: EXCHANGED,
+        end: Ended::Done(256, b"bad\n", By::Remote(0)),
+        exchanges: &[Passed("a", REQUEST, REFUSED)],
+        object: b"old",
+        ..FIRST
+    },
+    // A reply that is cut is no reply.
+    FALLEN,
+    Row {
+        period: 0,
+        fallback: false,
+        events: EXCHANGED,
+        end: Ended::Failed(Why5::Broke {
+            host: 0,
+            cause: Cause::Truncated { have: 72 },
+        }),
+        runs: &[PREPROCESSED],
+        object: b"old",
+        ..FALLEN
+    },
+    // Nothing is there to dial.
+    Row {
+        fallback: false,
+        dial_fails: &[1],
+        events: &[Event::Ran(0), Event::Took(0), Event::Exchanged(0), ALONE],
+        end: Ended::Failed(Why5::Broke {
+            host: 0,
+            cause: Cause::Dial,
+        }),
+        exchanges: &[Passed("a", b"", b"")],
+        object: b"old",
+        ..FIRST
+    },
+];
+
 #[test]
 fn a_host_compiles(rt: HostRuntime) -> Result<(), Fail> {
     let alloc = rt.alloc();
-    for row in [
-        FIRST,
-        // A failure of the host's compiler is tried here once more, and is the job's with no retry.
-        Row {
-            gives: &[REFUSED],
-            events: &[
-                Event::Ran(0),
-                Event::Took(0),
-                Event::Exchanged(0),
-                Event::Gave(0),
-                Event::TookLocal,
-                Event::Ran(1),
-                Event::GaveLocal,
-                Event::Put(0),
-            ],
-            exchanges: &[Passed("a", REQUEST, REFUSED)],
-            ..FALLEN
-        },
-        Row {
-            gives: &[REFUSED],
-            retry: false,
-            events: EXCHANGED,
-            end: Ended::Done(256, b"bad\n", By::Remote(0)),
-            exchanges: &[Passed("a", REQUEST, REFUSED)],
-            object: b"old",
-            ..FIRST
-        },
-        // A reply that is cut is no reply.
-        FALLEN,
-        Row {
-            period: 0,
-            fallback: false,
-            events: EXCHANGED,
-            end: Ended::Failed(Why5::Broke {
-                host: 0,
-                cause: Cause::Truncated { have: 72 },
-            }),
-            runs: &[PREPROCESSED],
-            object: b"old",
-            ..FALLEN
-        },
-        // Nothing is there to dial.
-        Row {
-            fallback: false,
-            dial_fails: &[1],
-            events: &[Event::Ran(0), Event::Took(0), Event::Exchanged(0), ALONE],
-            end: Ended::Failed(Why5::Broke {
-                host: 0,
-                cause: Cause::Dial,
-            }),
-            exchanges: &[Passed("a", b"", b"")],
-            object: b"old",
-            ..FIRST
-        },
-    ] {
-        expect_row(&rt, alloc, &row)?;
+    for row in BY_ONE_HOST {
+        expect_row(&rt, alloc, row)?;
     }
     Ok(())
 }
+
+/// One job, whose object goes into a file.
+const INTO_A_FILE: &[Row] = &[
+    FIRST,
+    // The second append fails, and the reply is read to its end all the same.
+    Row {
+        keeper_fails: &[3],
+        events: EXCHANGED,
+        end: Ended::Failed(Why5::Put),
+        object: b"old",
+        ..FIRST
+    },
+    // The rename fails.
+    Row {
+        keeper_fails: &[5],
+        events: EXCHANGED,
+        end: Ended::Failed(Why5::Put),
+        object: b"old",
+        ..FIRST
+    },
+    FALLEN,
+    Row {
+        gives: &[EMPTY],
+        exchanges: &[Passed("a", REQUEST, EMPTY)],
+        object: b"",
+        ..FIRST
+    },
+];
 
 // The object goes into a file while it comes, in pieces of 5 bytes: the file is made, and has three appends.
 #[test]
 fn an_object_goes_straight_into_its_file(rt: HostRuntime) -> Result<(), Fail> {
     let alloc = rt.alloc();
     let staged = Bytes::from_slice(alloc, b"x.o.farm~")?;
-    for row in [
-        FIRST,
-        // The second append fails, and the reply is read to its end all the same.
-        Row {
-            keeper_fails: &[3],
-            events: EXCHANGED,
-            end: Ended::Failed(Why5::Put),
-            object: b"old",
-            ..FIRST
-        },
-        // The rename fails.
-        Row {
-            keeper_fails: &[5],
-            events: EXCHANGED,
-            end: Ended::Failed(Why5::Put),
-            object: b"old",
-            ..FIRST
-        },
-        FALLEN,
-        Row {
-            gives: &[EMPTY],
-            exchanges: &[Passed("a", REQUEST, EMPTY)],
-            object: b"",
-            ..FIRST
-        },
-    ] {
+    for row in INTO_A_FILE {
         let made = MemFiles::new(files(alloc)?, numbers(alloc, row.keeper_fails)?, 1_000);
-        let keeper = expect_over(&rt, alloc, &row, FileKeeper::new(made))?;
+        let keeper = expect_over(&rt, alloc, row, FileKeeper::new(made))?;
         let mut made = keeper.into_files();
         assert!(rt; matches!(made.load(alloc, &staged, 100), Err(FetchFault::Absent)));
     }
     Ok(())
 }
 
+/// One job, for which there is this machine.
+const BY_THIS_MACHINE: &[Row] = &[
+    HERE,
+    Row {
+        fallback: false,
+        events: &[Event::Ran(0), Event::Down],
+        end: Ended::Failed(Why5::NoHost),
+        runs: &[PREPROCESSED],
+        object: b"old",
+        ..HERE
+    },
+    // The entry is this machine, where the compiler dies by signal 9.
+    Row {
+        hosts: &[("localhost", true)],
+        rans: &[SOURCE, Left(9, b"", b"", b"")],
+        events: &[Event::Ran(0), Event::Took(0), Event::Ran(1), Event::Gave(0)],
+        end: Ended::Done(9, b"", By::Here),
+        object: b"old",
+        ..HERE
+    },
+    // The source is preprocessed already.
+    Row {
+        line: "scc -c a.i -o x.o",
+        hosts: &[("localhost", true)],
+        rans: &[MADE],
+        events: &[
+            Event::Fetched(0),
+            Event::Took(0),
+            Event::Ran(0),
+            Event::Gave(0),
+            Event::Put(0),
+        ],
+        runs: &[COMPILED],
+        ..HERE
+    },
+    Row {
+        line: "scc -c b.i -o x.o",
+        events: &[],
+        end: Ended::Failed(Why5::Fetch),
+        runs: &[],
+        object: b"old",
+        ..HERE
+    },
+    // The preprocessor fails, can't be run, or the compiler can't.
+    Row {
+        hosts: &[("a", false)],
+        rans: &[Left(256, b"", b"x.c: none\n", b"")],
+        events: &[Event::Ran(0)],
+        end: Ended::Done(256, b"x.c: none\n", By::Cpp),
+        runs: &[PREPROCESSED],
+        object: b"old",
+        ..HERE
+    },
+    Row {
+        run_fails: &[1],
+        events: &[],
+        end: Ended::Failed(Why5::Station),
+        runs: &[],
+        object: b"old",
+        ..HERE
+    },
+    Row {
+        run_fails: &[2],
+        events: &[
+            Event::Ran(0),
+            Event::Down,
+            Event::TookLocal,
+            Event::GaveLocal,
+        ],
+        end: Ended::Failed(Why5::Station),
+        runs: &[PREPROCESSED],
+        object: b"old",
+        ..HERE
+    },
+];
+
 #[test]
 fn this_machine_compiles(rt: HostRuntime) -> Result<(), Fail> {
     let alloc = rt.alloc();
-    for row in [
-        HERE,
-        Row {
-            fallback: false,
-            events: &[Event::Ran(0), Event::Down],
-            end: Ended::Failed(Why5::NoHost),
-            runs: &[PREPROCESSED],
-            object: b"old",
-            ..HERE
-        },
-        // The entry is this machine, where the compiler dies by signal 9.
-        Row {
-            hosts: &[("localhost", true)],
-            rans: &[SOURCE, Left(9, b"", b"", b"")],
-            events: &[Event::Ran(0), Event::Took(0), Event::Ran(1), Event::Gave(0)],
-            end: Ended::Done(9, b"", By::Here),
-            object: b"old",
-            ..HERE
-        },
-        // The source is preprocessed already.
-        Row {
-            line: "scc -c a.i -o x.o",
-            hosts: &[("localhost", true)],
-            rans: &[MADE],
-            events: &[
-                Event::Fetched(0),
-                Event::Took(0),
-                Event::Ran(0),
-                Event::Gave(0),
-                Event::Put(0),
-            ],
-            runs: &[COMPILED],
-            ..HERE
-        },
-        Row {
-            line: "scc -c b.i -o x.o",
-            events: &[],
-            end: Ended::Failed(Why5::Fetch),
-            runs: &[],
-            object: b"old",
-            ..HERE
-        },
-        // The preprocessor fails, can't be run, or the compiler can't.
-        Row {
-            hosts: &[("a", false)],
-            rans: &[Left(256, b"", b"x.c: none\n", b"")],
-            events: &[Event::Ran(0)],
-            end: Ended::Done(256, b"x.c: none\n", By::Cpp),
-            runs: &[PREPROCESSED],
-            object: b"old",
-            ..HERE
-        },
-        Row {
-            run_fails: &[1],
-            events: &[],
-            end: Ended::Failed(Why5::Station),
-            runs: &[],
-            object: b"old",
-            ..HERE
-        },
-        Row {
-            run_fails: &[2],
-            events: &[
-                Event::Ran(0),
-                Event::Down,
-                Event::TookLocal,
-                Event::GaveLocal,
-            ],
-            end: Ended::Failed(Why5::Station),
-            runs: &[PREPROCESSED],
-            object: b"old",
-            ..HERE
-        },
-    ] {
-        expect_row(&rt, alloc, &row)?;
+    for row in BY_THIS_MACHINE {
+        expect_row(&rt, alloc, row)?;
     }
     Ok(())
 }
+
+/// A command that stays here.
+const IN_PLACE: Row = Row {
+    rans: &[MADE],
+    events: &[Event::TookLocal, Event::Ran(0), Event::GaveLocal],
+    end: Ended::Done(0, b"w\n", By::InPlace),
+    exchanges: &[],
+    object: b"old",
+    ..FIRST
+};
+
+const STAYING: &[Row] = &[
+    Row {
+        line: "scc -c x.c y.c",
+        runs: &[("scc -c x.c y.c", b"")],
+        ..IN_PLACE
+    },
+    Row {
+        line: "scc -march=native -c x.c",
+        runs: &[("scc -march=native -c x.c", b"")],
+        ..IN_PLACE
+    },
+    Row {
+        line: "scc -c conftest.c",
+        runs: &[("scc -c conftest.c", b"")],
+        ..IN_PLACE
+    },
+];
 
 #[test]
 fn a_command_that_stays_here_runs_in_place(rt: HostRuntime) -> Result<(), Fail> {
     let alloc = rt.alloc();
-    let lines: [(&str, &[(&str, &[u8])]); 3] = [
-        ("scc -c x.c y.c", &[("scc -c x.c y.c", b"")]),
-        (
-            "scc -march=native -c x.c",
-            &[("scc -march=native -c x.c", b"")],
-        ),
-        ("scc -c conftest.c", &[("scc -c conftest.c", b"")]),
-    ];
-    for (line, runs) in lines {
-        let row = Row {
-            line,
-            rans: &[MADE],
-            events: &[Event::TookLocal, Event::Ran(0), Event::GaveLocal],
-            end: Ended::Done(0, b"w\n", By::InPlace),
-            exchanges: &[],
-            runs,
-            object: b"old",
-            ..FIRST
-        };
-        expect_row(&rt, alloc, &row)?;
+    for row in STAYING {
+        expect_row(&rt, alloc, row)?;
     }
     Ok(())
 }
 
+/// Two hosts, of which neither can be dialed.
+const BOTH: Row = Row {
+    hosts: &[("a", false), ("b", false)],
+    tries: 2,
+    dial_fails: &[1, 2],
+    exchanges: &[Passed("a", b"", b""), Passed("b", b"", b"")],
+    ..FIRST
+};
+
+/// One job, for which there are two hosts.
+const BY_TWO_HOSTS: &[Row] = &[
+    Row {
+        dial_fails: &[1],
+        events: &[
+            Event::Ran(0),
+            Event::Took(0),
+            Event::Exchanged(0),
+            ALONE,
+            Event::Took(1),
+            Event::Exchanged(1),
+            Event::Gave(1),
+            Event::Put(0),
+        ],
+        end: Ended::Done(0, b"", By::Remote(1)),
+        exchanges: &[Passed("a", b"", b""), Passed("b", REQUEST, WHOLE)],
+        ..BOTH
+    },
+    Row {
+        fallback: false,
+        events: &[
+            Event::Ran(0),
+            Event::Took(0),
+            Event::Exchanged(0),
+            ALONE,
+            Event::Took(1),
+            Event::Exchanged(1),
+            ALONE_TOO,
+        ],
+        end: Ended::Failed(Why5::Broke {
+            host: 1,
+            cause: Cause::Dial,
+        }),
+        object: b"old",
+        ..BOTH
+    },
+    Row {
+        tries: 3,
+        fallback: false,
+        events: &[
+            Event::Ran(0),
+            Event::Took(0),
+            Event::Exchanged(0),
+            ALONE,
+            Event::Took(1),
+            Event::Exchanged(1),
+            ALONE_TOO,
+            Event::Down,
+        ],
+        end: Ended::Failed(Why5::Broke {
+            host: 1,
+            cause: Cause::Dial,
+        }),
+        object: b"old",
+        ..BOTH
+    },
+    Row {
+        tries: 3,
+        events: &[
+            Event::Ran(0),
+            Event::Took(0),
+            Event::Exchanged(0),
+            ALONE,
+            Event::Took(1),
+            Event::Exchanged(1),
+            ALONE_TOO,
+            Event::Down,
+            Event::TookLocal,
+            Event::Ran(1),
+            Event::GaveLocal,
+            Event::Put(0),
+        ],
+        end: Ended::Done(0, b"w\n", By::Here),
+        runs: &[PREPROCESSED, COMPILED],
+        object: b"NEW",
+        ..BOTH
+    },
+];
+
 #[test]
 fn several_tries(rt: HostRuntime) -> Result<(), Fail> {
     let alloc = rt.alloc();
-    let both = Row {
-        hosts: &[("a", false), ("b", false)],
-        tries: 2,
-        dial_fails: &[1, 2],
-        exchanges: &[Passed("a", b"", b""), Passed("b", b"", b"")],
-        ..FIRST
-    };
-    for row in [
-        Row {
-            dial_fails: &[1],
-            events: &[
-                Event::Ran(0),
-                Event::Took(0),
-                Event::Exchanged(0),
-                ALONE,
-                Event::Took(1),
-                Event::Exchanged(1),
-                Event::Gave(1),
-                Event::Put(0),
-            ],
-            end: Ended::Done(0, b"", By::Remote(1)),
-            exchanges: &[Passed("a", b"", b""), Passed("b", REQUEST, WHOLE)],
-            ..both
-        },
-        Row {
-            fallback: false,
-            events: &[
-                Event::Ran(0),
-                Event::Took(0),
-                Event::Exchanged(0),
-                ALONE,
-                Event::Took(1),
-                Event::Exchanged(1),
-                ALONE_TOO,
-            ],
-            end: Ended::Failed(Why5::Broke {
-                host: 1,
-                cause: Cause::Dial,
-            }),
-            object: b"old",
-            ..both
-        },
-        Row {
-            tries: 3,
-            fallback: false,
-            events: &[
-                Event::Ran(0),
-                Event::Took(0),
-                Event::Exchanged(0),
-                ALONE,
-                Event::Took(1),
-                Event::Exchanged(1),
-                ALONE_TOO,
-                Event::Down,
-            ],
-            end: Ended::Failed(Why5::Broke {
-                host: 1,
-                cause: Cause::Dial,
-            }),
-            object: b"old",
-            ..both
-        },
-        Row {
-            tries: 3,
-            events: &[
-                Event::Ran(0),
-                Event::Took(0),
-                Event::Exchanged(0),
-                ALONE,
-                Event::Took(1),
-                Event::Exchanged(1),
-                ALONE_TOO,
-                Event::Down,
-                Event::TookLocal,
-                Event::Ran(1),
-                Event::GaveLocal,
-                Event::Put(0),
-            ],
-            end: Ended::Done(0, b"w\n", By::Here),
-            runs: &[PREPROCESSED, COMPILED],
-            object: b"NEW",
-            ..both
-        },
-    ] {
-        expect_row(&rt, alloc, &row)?;
+    for row in BY_TWO_HOSTS {
+        expect_row(&rt, alloc, row)?;
     }
     Ok(())
 }
+
+/// The first dial fails, and two jobs are done.
+const TWICE: Row = Row {
+    dial_fails: &[1],
+    rans: &[SOURCE, MADE, SOURCE, MADE],
+    ..FIRST
+};
+
+const LEFT_ALONE: &[Row] = &[
+    Row {
+        moments: &[100, 100, 159],
+        end: Ended::Done(0, b"w\n", By::Here),
+        ..TWICE
+    },
+    Row {
+        moments: &[100, 100, 160],
+        ..TWICE
+    },
+    Row {
+        period: 0,
+        moments: &[100, 100, 100],
+        ..TWICE
+    },
+];
 
 // A host that broke an exchange is left alone for the period: the next job finds it down a second before its end, and gets it
 // at its end. With no period the next job gets it at once.
 #[test]
 fn a_host_is_left_alone(rt: HostRuntime) -> Result<(), Fail> {
     let alloc = rt.alloc();
-    for (period, moments, by) in [
-        (60, &[100, 100, 159], By::Here),
-        (60, &[100, 100, 160], By::Remote(0)),
-        (0, &[100, 100, 100], By::Remote(0)),
-    ] {
-        let row = Row {
-            period,
-            moments,
-            dial_fails: &[1],
-            rans: &[SOURCE, MADE, SOURCE, MADE],
-            ..FIRST
-        };
+    for row in LEFT_ALONE {
         let keeper = MemKeeper::new(files(alloc)?, numbers(alloc, &[])?);
-        let mut kit = kit(alloc, &row, keeper)?;
-        let report = done(&rt, alloc, &row, true, &mut kit)?;
-        match report.end {
-            End::Done { by: one, .. } => assert_eq!(rt; one, by, "at {}", moments[2]),
-            End::Failed(_) => return Err("the job is done".into()),
-        }
+        let mut kit = kit(alloc, row, keeper)?;
+        let report = done(&rt, alloc, row, true, &mut kit)?;
+        expect_end(&rt, &report, row)?;
     }
     Ok(())
+}
+
+/// Pieces are as long as they come.
+const LONG: Row = Row {
+    most: 100_000_000,
+    ..FIRST
+};
+
+const LENGTHS: &[(usize, Row)] = &[
+    (33_554_432, LONG),
+    (
+        33_554_433,
+        Row {
+            end: Ended::Done(0, b"w\n", By::Here),
+            ..LONG
+        },
+    ),
+    (
+        41_943_040,
+        Row {
+            end: Ended::Done(0, b"w\n", By::Here),
+            ..LONG
+        },
+    ),
+    (
+        41_943_041,
+        Row {
+            end: Ended::Failed(Why5::Station),
+            ..LONG
+        },
+    ),
+];
+
+/// A preprocessor's run that leaves so many blanks, and a compiler's.
+fn long_rans(alloc: Global, length: usize) -> Result<RanList, Fail> {
+    let mut rans = RanList::new(alloc);
+    rans.try_push(Ran {
+        status: 0,
+        out: Bytes::from_vec(vec![in alloc; b' '; length]?),
+        err: Bytes::new(alloc),
+        object: Bytes::new(alloc),
+    })?;
+    rans.try_push(Ran {
+        status: 0,
+        out: Bytes::new(alloc),
+        err: Bytes::from_slice(alloc, b"w\n")?,
+        object: Bytes::from_slice(alloc, b"NEW")?,
+    })?;
+    Ok(rans)
 }
 
 // A source of the greatest length is sent, and one byte more is compiled here. A preprocessor's output of the greatest length
@@ -459,35 +542,12 @@ fn a_host_is_left_alone(rt: HostRuntime) -> Result<(), Fail> {
 #[test]
 fn sources_at_their_limits(rt: HostRuntime) -> Result<(), Fail> {
     let alloc = rt.alloc();
-    for (length, end) in [
-        (33_554_432, Ended::Done(0, b"", By::Remote(0))),
-        (33_554_433, Ended::Done(0, b"w\n", By::Here)),
-        (41_943_040, Ended::Done(0, b"w\n", By::Here)),
-        (41_943_041, Ended::Failed(Why5::Station)),
-    ] {
-        let row = Row {
-            most: 100_000_000,
-            end,
-            ..FIRST
-        };
-        let mut rans = RanList::new(alloc);
-        rans.try_push(Ran {
-            status: 0,
-            out: Bytes::from_vec(vec![in alloc; b' '; length]?),
-            err: Bytes::new(alloc),
-            object: Bytes::new(alloc),
-        })?;
-        rans.try_push(Ran {
-            status: 0,
-            out: Bytes::new(alloc),
-            err: Bytes::from_slice(alloc, b"w\n")?,
-            object: Bytes::from_slice(alloc, b"NEW")?,
-        })?;
+    for (length, row) in LENGTHS {
         let keeper = MemKeeper::new(files(alloc)?, numbers(alloc, &[])?);
-        let mut kit = kit(alloc, &row, keeper)?;
-        kit.station = MemStation::new(rans, numbers(alloc, &[])?);
-        let report = done(&rt, alloc, &row, false, &mut kit)?;
-        expect_end(&rt, &report, &row)?;
+        let mut kit = kit(alloc, row, keeper)?;
+        kit.station = MemStation::new(long_rans(alloc, *length)?, numbers(alloc, &[])?);
+        let report = done(&rt, alloc, row, false, &mut kit)?;
+        expect_end(&rt, &report, row)?;
     }
     Ok(())
 }
