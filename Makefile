@@ -7,10 +7,11 @@ demo:
 	tests/demo
 
 # The gate: each crate is proved, each edit that must fail is refused, each test and each stored run passes.
-# Then farm with a real distccd, which is skipped where none is installed.
+# Then farm with a real distccd, and objects on a real disk; each is skipped where what it needs isn't installed.
 test:
 	rt ci
 	tests/interop
+	tests/delivery
 
 # What farm and distcc add to gcc -E and gcc -c, per job.
 bench:
