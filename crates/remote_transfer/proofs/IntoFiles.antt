@@ -155,7 +155,7 @@ into-more old mid new reader next have course further path before keeper after c
 pub into-last : (old mid new : LinkView) (reader next : Place) (have : ℕ) (course : Course) (path : List ℕ) (before keeper after : KeeperView) (count : ℕ) (bytes : List ℕ) (o : Outcome) (landed : Result Landing Stop) → ReceivingInto old mid reader have course path before keeper → before.faults ≤ keeper.faults → PieceRead mid new reader next count bytes (Some o)
     → ((object : List ℕ) (since : ℕ) → since ≤ keeper.faults → LandsAt course path object since keeper → (o.status ≢ 0 → object ++ bytes ≡ []) → IfOk landed (λ landing. IsLanding landing o path (object ++ bytes) since after))
     → IfErr landed (λ stop. stop ≡ Memory) → ReceivedInto (paired o landed) path old new before after
-into-last old mid new reader next have course path before keeper after count bytes o (Ok landing) into later p lands memory =
+into-last old mid new reader next have course path before keeper after count bytes o (Ok _) into later p lands memory =
     let w = receiving-whole old mid new reader next have count into.object bytes o into.receiving p in
     let spelled = w.1.is.0.1.spelled in
     record { object = into.object ++ bytes; given = w.1; lands = (w.0, lands into.object before.faults later into.lands spelled.fits.failure) }

@@ -40,7 +40,7 @@ IsLanding Nothing o path object before now = (o.status ≢ 0) × IsIdle now × (
 
 -- the answer of an attempt whose outcome has this object
 abbrev pub attempt_of : Landed → List ℕ → Attempt
-attempt_of (landeds.Whole outcome landing) object = attempts.Whole (with_object outcome object)
+attempt_of (landeds.Whole outcome _) object = attempts.Whole (with_object outcome object)
 attempt_of (landeds.Broke cause) object = attempts.Broke cause
 attempt_of (landeds.Memory dialed) object = attempts.Memory dialed
 
