@@ -1,7 +1,9 @@
 //! What `farm` prints, answers and puts, over devices that follow scripts.
 
-ghost use Rattle.std.specs.Prelude.{◌<◌, [], false};
+ghost use Rattle.std.specs.Prelude.{◌<◌, [], false, IfOk};
+ghost use Rattle.edge_traits.specs.Keepers.{IsIdle};
 ghost use Rattle.edge_traits.specs.Told.{told};
+ghost use Rattle.edge_memory.specs.Keepers.{keeper_state, keeper_shows};
 
 use crate::farm;
 use edge_memory::{
@@ -73,7 +75,9 @@ fn numbers(alloc: Global, number: u64) -> Result<CallNumbers, AllocError> {
     Ok(list)
 }
 
-fn kit(alloc: Global, script: &Script) -> Result<MemKit, AllocError> {
+fn kit(alloc: Global, script: &Script) -> Result<MemKit, AllocError>
+    ensures { IfOk result (λ kit. IsIdle (keeper_shows (keeper_state kit.keeper))) }
+{
     let mut links = LinkScripts::new(alloc);
     links.try_push(LinkScript {
         gives: Bytes::from_slice(alloc, script.reply)?,
@@ -150,9 +154,6 @@ pub(crate) fn run<W: Wait>(rt: &W, alloc: Global, script: &Script) -> Result<See
     let mut err = Page {
         text: Bytes::new(alloc),
     };
-    if kits.iter().any(|kit| kit.keeper.is_pending()) {
-        return Err("no put is pending".into());
-    }
     let ended = farm(
         rt,
         alloc,
@@ -364,9 +365,6 @@ fn stopped<W: Wait>(rt: &W, alloc: Global, stops: u64) -> Result<(u8, Option<Byt
     let mut err = Page {
         text: Bytes::new(alloc),
     };
-    if kits.iter().any(|kit| kit.keeper.is_pending()) {
-        return Err("no put is pending".into());
-    }
     let ended = farm(
         rt,
         alloc,
