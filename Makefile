@@ -7,11 +7,14 @@ demo:
 	tests/demo
 
 # The gate: each crate is proved, each edit that must fail is refused, each test and each stored run passes.
-# Then farm with a real distccd, and objects on a real disk; each is skipped where what it needs isn't installed.
+# Then farm with a real distccd, objects on a real disk, real clients of farmd, and mutated requests for it; each is skipped
+# where what it needs isn't installed.
 test:
 	rt ci
 	tests/interop
 	tests/delivery
+	tests/clients
+	tests/hostile
 
 # What farm and distcc add to gcc -E and gcc -c, per job.
 bench:

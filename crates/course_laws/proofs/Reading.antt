@@ -12,14 +12,14 @@ use Rattle.farm_machine.specs.Numbered.{added, untimed, Counts, NumberedLaw}
 use Rattle.course_laws.specs.Laws.{UntimedLaw}
 
 -- xs is a prefix of ys
-abbrev Begins : {A : Type 0} → List A → List A → Type 0
+abbrev pub Begins : {A : Type 0} → List A → List A → Type 0
 Begins {A} xs ys = (more : List A) × (ys ≡ xs ++ more)
 
-record Longer (es fs : Entries) : Type 0 where
-  runs : Begins es.runs fs.runs
-  fetches : Begins es.fetches fs.fetches
-  exchanges : Begins es.exchanges fs.exchanges
-  puts : Begins es.puts fs.puts
+pub record Longer (es fs : Entries) : Type 0 where
+  pub runs : Begins es.runs fs.runs
+  pub fetches : Begins es.fetches fs.fetches
+  pub exchanges : Begins es.exchanges fs.exchanges
+  pub puts : Begins es.puts fs.puts
 
 begins-itself : {A : Type 0} (xs : List A) → Begins xs xs
 begins-itself xs = ([], sym (append-nil xs))
@@ -27,7 +27,7 @@ begins-itself xs = ([], sym (append-nil xs))
 begins-more : {A : Type 0} (xs ys : List A) (x : A) → Begins (xs ++ x ∷ []) ys → Begins xs ys
 begins-more xs ys x (more, is) = (x ∷ more, is ∙ append_assoc xs (x ∷ []) more)
 
-longer : (acts : List Act) (es : Entries) → Longer es (added es acts)
+pub longer : (acts : List Act) (es : Entries) → Longer es (added es acts)
 longer [] es = record { runs = begins-itself es.runs; fetches = begins-itself es.fetches; exchanges = begins-itself es.exchanges; puts = begins-itself es.puts }
 longer (Did (ran x) ∷ acts) es =
     let then : Entries = record es { runs = es.runs ++ x ∷ [] } in

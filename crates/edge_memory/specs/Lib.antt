@@ -10,3 +10,5 @@ pub mod Stations
 pub mod Dialers
 pub mod Doors
 pub mod Nevers
+pub mod GateReply
+pub mod Gates

@@ -33,6 +33,17 @@ impl<L: OpenListener> TcpDoor<L> {
         }
     }
 
+    /// A door without a listener.
+    pub fn closed() -> TcpDoor<L>
+        ensures view { door_view result ≡ counted_door 0 }
+        ensures listener { is_listening result ≡ false }
+    {
+        TcpDoor {
+            listener: None,
+            faults: 0,
+        }
+    }
+
     /// Another door on the same listener. It has none where this one has none, or where the system refuses another.
     pub fn share(&self) -> TcpDoor<L>
         ensures view { door_view result ≡ counted_door 0 }

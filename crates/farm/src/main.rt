@@ -5,6 +5,7 @@ use edge_real::{StdSink, StdSource, system_kits};
 use farm_program::farm;
 use std::process::ExitCode;
 use std::sync::Wait;
+use std::thread::Threads;
 use std::{env, process};
 
 /// How many kits there are: the most workers.
@@ -38,7 +39,7 @@ fn variables_of(rt: &HostRuntime) -> anyhow::Result<Vec<(String, String)>> {
 
 // Runs `farm` on the program's words, its environment and the standard streams, and answers its exit status. It may wait
 // for a slot.
-fn run<W: Wait>(waits: &W, rt: &HostRuntime) -> anyhow::Result<u8> {
+fn run<W: Threads + Wait + Sync>(waits: &W, rt: &HostRuntime) -> anyhow::Result<u8> {
     let alloc = rt.alloc();
     let words = words_of(rt)?;
     let variables = variables_of(rt)?;

@@ -9,11 +9,11 @@ use Rattle.stream_print.specs.Ends.{complaint, Ends, all_printed}
 use Rattle.stream_print.proofs.PrintLemmas.{Printed-out, goes-same, part_of_one}
 use Rattle.farm_answers.specs.Texts.{output}
 
-pub output_whole : {notice : List ℕ} (text : List ℕ) (status : ℕ) (err old new : SinkView) → Grew old.written new.written text → Ends notice (output text ∷ []) status (record { out = old; err = err }) (record { out = new; err = err }) status
-output_whole text status err old new grew = all_printed (Printed-out grew refl) refl
+pub output_whole : {notice : List ℕ} (text : List ℕ) (status : ℕ) (err old new : SinkView) → Grew old.written new.written text → GoesOn old new → Ends notice (output text ∷ []) status (record { out = old; err = err }) (record { out = new; err = err }) status
+output_whole text status err old new grew goes = all_printed (Printed-out grew refl) (record { out = goes; err = goes-same err }) refl
 
 pub output_part : (text : List ℕ) (stop : PrintStop) (err old new : SinkView) → (n : ℕ) × (n < length text) × Grew old.written new.written (take n text) → (stop ≡ Stopped → DidStop old new) → (stop ≡ Memory → GoesOn old new) → PrintedPart (output text ∷ []) stop (record { out = old; err = err }) (record { out = new; err = err })
-output_part text stop err old new part stopped memory = record { done = output (take part.0 text) ∷ []; next = output text; part = part_of_one (output text) part.0 part.1; printed = Printed-out part.2 refl; stopped = stopped; memory = λ is. record { out = memory is; err = goes-same err } }
+output_part text stop err old new part stopped memory = record { done = output (take part.0 text) ∷ []; next = output text; part = part_of_one (output text) part.0 part.1; printed = Printed-out part.2 refl; stopped = stopped; other = λ _. goes-same err; memory = λ is. record { out = memory is; err = goes-same err } }
 
 -- the same text by another name
 pub complaint_by : {notice text text' : List ℕ} {status : ℕ} {old new : SinksView} {answer : ℕ} → text ≡ text' → Ends notice (complaint text ∷ []) status old new answer → Ends notice (complaint text' ∷ []) status old new answer

@@ -3,9 +3,11 @@ use Rattle.std.specs.Prelude.{ℕ, List, ◌++◌, codes}
 use Rattle.std.specs.Fmt.{decimal}
 use Rattle.host_list.specs.declared.fault.HostFault.{HostFault}
 use Rattle.host_list.specs.Faults.{number_of}
+use Rattle.job_list.specs.declared.fault.JobFault.{JobFault}
+use Rattle.job_list.specs.Faults.{number_of as job_number_of}
 use Rattle.stream_print.specs.declared.pieces.SinkKind.TheVariants.{Out}
 use Rattle.stream_print.specs.declared.pieces.Piece.{Piece}
-use Rattle.farm_words.specs.declared.help.TheConstants.{VERSION}
+use Rattle.farm_words.specs.Help.{version}
 
 -- a text for the output
 abbrev pub output : List ℕ → Piece
@@ -14,8 +16,8 @@ output text = record { sink = Out; bytes = text }
 abbrev pub no_memory_text : List ℕ
 no_memory_text = codes "farm: no memory\n"
 
-abbrev pub not_built_text : List ℕ
-not_built_text = codes "farm: not built yet\n"
+abbrev pub bad_period_text : List ℕ
+bad_period_text = codes "farm: bad DISTCC_BACKOFF_PERIOD\n"
 
 abbrev pub cannot_read_text : List ℕ
 cannot_read_text = codes "farm: cannot read the job list\n"
@@ -28,6 +30,23 @@ bad_words_text place = codes "farm: bad words at word " ++ decimal place ++ code
 abbrev pub host_fault_text : ℕ → HostFault → List ℕ
 host_fault_text at fault = codes "farm: host list: fault " ++ decimal (number_of fault) ++ codes " at byte " ++ decimal at ++ codes "\n"
 
+-- a fault of the job list, by its number and its line
+abbrev pub job_fault_text : ℕ → JobFault → List ℕ
+job_fault_text line fault = codes "farm: job list: fault " ++ decimal (job_number_of fault) ++ codes " at line " ++ decimal line ++ codes "\n"
+
+-- the exit statuses for words and environment, for the host list, for an input that can't be read, and for the job list
+abbrev pub bad_words_status : ℕ
+bad_words_status = 101
+
+abbrev pub bad_hosts_status : ℕ
+bad_hosts_status = 106
+
+abbrev pub cannot_read_status : ℕ
+cannot_read_status = 107
+
+abbrev pub bad_jobs_status : ℕ
+bad_jobs_status = 109
+
 -- what `--version` prints
 abbrev pub version_text : List ℕ
-version_text = VERSION.now
+version_text = version

@@ -4,10 +4,10 @@ ghost use Rattle.std.specs.Prelude.{[], ◌∷◌};
 ghost use Rattle.stream_print.specs.Prints.{sinks_view};
 ghost use Rattle.stream_print.specs.Ends.{Ends, complaint};
 ghost use Rattle.host_list.specs.HostLists.{printed};
-ghost use Rattle.farm_answers.specs.Texts.{no_memory_text, not_built_text, output};
+ghost use Rattle.farm_answers.specs.Texts.{no_memory_text, output};
 ghost use Rattle.farm_answers.specs.ByHosts.{ByHosts};
 
-use crate::refuse::{refuse_form, refuse_host_list, want_memory};
+use crate::refuse::{refuse_host_list, want_memory};
 use crate::tell::tell;
 use edge_traits::Sink;
 use farm_types::Hosts;
@@ -37,22 +37,6 @@ pub fn answer_hosts<O: Sink, E: Sink>(alloc: Global, text: &[u8], out: &mut O, e
 {
     match parse(alloc, text) {
         Ok(hosts) => list_hosts(alloc, &hosts, out, err),
-        Err(HostError::Fault { at, fault }) => refuse_host_list(alloc, at, fault, out, err),
-        Err(HostError::Memory) => want_memory(out, err),
-    }
-}
-
-/// Refuses the text of a host list by its fault, or else the command `cc`, which is not built yet.
-pub fn refuse_cc<O: Sink, E: Sink>(alloc: Global, text: &[u8], out: &mut O, err: &mut E) -> u8
-    ensures { ByHosts text.now
-        (λ hosts. Ends no_memory_text (complaint not_built_text ∷ []) 102
-        (sinks_view O.shows E.shows out.old err.old)
-        (sinks_view O.shows E.shows out.new err.new) result)
-        (sinks_view O.shows E.shows out.old err.old)
-        (sinks_view O.shows E.shows out.new err.new) result }
-{
-    match parse(alloc, text) {
-        Ok(_hosts) => refuse_form(out, err),
         Err(HostError::Fault { at, fault }) => refuse_host_list(alloc, at, fault, out, err),
         Err(HostError::Memory) => want_memory(out, err),
     }

@@ -7,10 +7,11 @@ mod refuse;
 mod scan;
 mod tell;
 
-pub use hosts::{answer_hosts, refuse_cc};
+pub use hosts::answer_hosts;
 pub use number::number_of;
 pub use refuse::{
-    NO_MEMORY_TEXT, refuse_form, refuse_host_list, refuse_unread, refuse_words, want_memory,
+    NO_MEMORY_TEXT, refuse_host_list, refuse_job_list, refuse_period, refuse_unread, refuse_words,
+    want_memory,
 };
 pub use scan::answer_scan;
 pub use tell::{answer_help, answer_version};

@@ -4,12 +4,13 @@ ghost use Rattle.std.specs.Prelude.{false};
 ghost use Rattle.edge_traits.specs.Told.{told};
 
 use crate::{
-    answer_help, answer_hosts, answer_scan, answer_version, refuse_cc, refuse_form, refuse_unread,
-    refuse_words,
+    answer_help, answer_hosts, answer_scan, answer_version, refuse_job_list, refuse_period,
+    refuse_unread, refuse_words,
 };
 use edge_traits::{EdgeFault, Sink};
 use farm_types::Bytes;
 use farm_words::CommandName;
+use job_list::JobFault;
 use std::alloc::{AllocError, Global};
 use std::test::Fail;
 
@@ -40,10 +41,10 @@ fn empty_page(alloc: Global) -> Page {
 #[derive(Clone, Copy)]
 enum Ask {
     Hosts(&'static str),
-    Cc(&'static str),
+    Jobs(u32, JobFault),
+    Period,
     Scan(&'static str),
     Words(usize),
-    Form,
     Unread,
     Help(Option<CommandName>),
     Version,
@@ -60,10 +61,10 @@ fn words_of(alloc: Global, line: &str) -> Result<Vec<String>, AllocError> {
 fn answer(alloc: Global, ask: Ask, out: &mut Page, err: &mut Page) -> Result<u8, AllocError> {
     Ok(match ask {
         Ask::Hosts(text) => answer_hosts(alloc, text.as_bytes(), out, err),
-        Ask::Cc(text) => refuse_cc(alloc, text.as_bytes(), out, err),
+        Ask::Jobs(line, fault) => refuse_job_list(alloc, line, fault, out, err),
+        Ask::Period => refuse_period(out, err),
         Ask::Scan(line) => answer_scan(alloc, words_of(alloc, line)?.as_slice(), out, err),
         Ask::Words(place) => refuse_words(alloc, place, out, err),
-        Ask::Form => refuse_form(out, err),
         Ask::Unread => refuse_unread(out, err),
         Ask::Help(name) => answer_help(name, out, err),
         Ask::Version => answer_version(out, err),
@@ -95,12 +96,23 @@ const ROWS: [(Ask, u8, &str, &str); 19] = [
         "",
         "farm: host list: fault 4 at byte 9\n",
     ),
-    (Ask::Cc(""), 102, "", "farm: not built yet\n"),
     (
-        Ask::Cc(" red,lzo"),
-        106,
+        Ask::Jobs(0, JobFault::NoJobs),
+        109,
         "",
-        "farm: host list: fault 2 at byte 1\n",
+        "farm: job list: fault 3 at line 0\n",
+    ),
+    (
+        Ask::Jobs(
+            2,
+            JobFault::SameOutput {
+                first: 1,
+                second: 2,
+            },
+        ),
+        109,
+        "",
+        "farm: job list: fault 6 at line 2\n",
     ),
     (Ask::Scan("scc -c x.c"), 0, "remote -c x.c x.o\n", ""),
     (
@@ -120,7 +132,7 @@ const ROWS: [(Ask, u8, &str, &str); 19] = [
     (Ask::Scan("scc -c x.c -o x.farm~"), 0, "local 22 at 4\n", ""),
     (Ask::Words(0), 101, "", "farm: bad words at word 0\n"),
     (Ask::Words(12), 101, "", "farm: bad words at word 12\n"),
-    (Ask::Form, 102, "", "farm: not built yet\n"),
+    (Ask::Period, 101, "", "farm: bad DISTCC_BACKOFF_PERIOD\n"),
     (Ask::Unread, 107, "", "farm: cannot read the job list\n"),
     (Ask::Version, 0, "farm 0.1, distcc protocol 1\n", ""),
     (

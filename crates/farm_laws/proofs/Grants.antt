@@ -1,16 +1,9 @@
 -- How often a grant is outstanding.
 use Rattle.std.proofs.Common.{◌≡◌, ◌≢◌, ℕ, ◌+◌, ◌<◌, Bool, true, false, ◌&&◌, ◌||◌, cond, List, [], ◌∷◌, Option, nat_eq, refl, sym, ap, ◌∙◌, arith, eq-eqb, ne_eqb}
-use Rattle.std.proofs.lemmas.Bool.{eqb-true, and_parts}
 use Rattle.slot_table.specs.History.{Holding, holding, host_eq, holding_eq, without, has}
-use Rattle.slot_table.proofs.Holdings.{same-caller, same-host, holding_eq-refl}
+use Rattle.slot_table.proofs.Holdings.{holding_eq-refl}
 use Rattle.farm_machine.specs.Farm.{times}
-
-same-grant : (a b : Holding) → holding_eq a b ≡ true → a ≡ b
-same-grant a b e =
-    let job : a.job ≡ b.job = eqb-true a.job b.job (and_parts (nat_eq a.job b.job) (host_eq a.host b.host) (and_parts (nat_eq a.caller b.caller) (nat_eq a.job b.job && host_eq a.host b.host) e).1).0 in
-    let caller : a.caller ≡ b.caller = same-caller a b e in
-    let host : a.host ≡ b.host = same-host a b e in
-    λ i. record { caller = caller i; job = job i; host = host i }
+use Rattle.farm_machine.proofs.Outs.{same-grant}
 
 -- a grant that is given back was there
 pub times-without : (x a : Holding) (ys : List Holding) → has a ys ≡ true → times x ys ≡ cond (holding_eq x a) (times x (without a ys) + 1) (times x (without a ys))

@@ -14,3 +14,5 @@ pub mod Driver
 pub mod Example
 pub mod ExampleRun
 pub mod Causes
+pub mod CheckRuns
+pub mod Checking

@@ -1,7 +1,15 @@
 //! The values that tell what became of a job, and the definitions of the farm: jobs and their courses, the machine, the
-//! weave, and what a compiler may answer.
+//! weave, and what a compiler may answer; and the check of a given run.
 #![tactic(auto)]
 
+mod checks;
+mod following;
+mod kinds;
+mod legality;
 mod reports;
 
+pub use checks::{are_numbered, check_run};
 pub use reports::{By, End, Event, EventList, Places, Report, ReportList, Why5};
+
+#[cfg(test)]
+mod tests;

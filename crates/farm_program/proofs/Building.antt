@@ -1,116 +1,122 @@
 -- From the parts of a build to the whole.
-use Rattle.std.proofs.Common.{◌≡◌, ◌<◌, ◌≤◌, ℕ, List, [], ◌∷◌, ◌++◌, length, length-append, get_or, take, drop, subst, sym, refl, arith}
-use Rattle.std.specs.Prelude.{slice_set}
-use Rattle.std.proofs.lemmas.Grind.{common_steps}
-use Rattle.std.proofs.lemmas.List.Elements.{All-get_or}
+use Rattle.std.proofs.Common.{◌≡◌, ◌<◌, ◌≤◌, ℕ, List, [], ◌∷◌, ◌++◌, zero, suc, length, get_or, refl, sym, ap, ◌∙◌, subst, inl, arith}
+use Rattle.std.specs.Prelude.{All}
+use Rattle.std.proofs.lemmas.List.Elements.{All-weaker}
 use Rattle.farm_types.specs.declared.hosts.Host.{Host}
 use Rattle.farm_types.specs.declared.hosts.Hosts.{Hosts}
 use Rattle.farm_types.specs.declared.jobs.JobConfig.{JobConfig}
-use Rattle.farm_types.specs.declared.placed.Word.{Word}
-use Rattle.farm_types.specs.declared.ran.Ran.{Ran}
 use Rattle.host_list.specs.HostLists.{IsHost, AreHosts}
-use Rattle.slot_table.specs.declared.limits.Limits.{Limits}
-use Rattle.slot_table.specs.declared.calls.CallEntry.{CallEntry}
-use Rattle.slot_table.specs.Limits.{AreValid}
-use Rattle.slot_table.specs.History.{outstanding}
-use Rattle.edge_traits.specs.Keepers.{IsIdle}
-use Rattle.edge_traits.specs.Kits.{KitView}
 use Rattle.edge_traits.specs.Sources.{SourceView}
+use Rattle.farm_machine.specs.declared.reports.Report.{Report}
 use Rattle.input_read.specs.Reads.{AllRead, ReadTo, BrokeOff, HasReadSome}
+use Rattle.job_driver.specs.declared.driver.Built.{Built}
+use Rattle.job_driver.specs.Driven.{Devices, JobsRan}
+use Rattle.job_driver.specs.Jobs.{job_at, AreDoable, AreUsable}
+use Rattle.job_list.specs.declared.fault.JobFault.TheVariants.{TooLong}
+use Rattle.job_list.specs.Jobs.{JobsOf, JobFaultStands}
+use Rattle.job_list.specs.Prints.{AreJobWords}
+use Rattle.stream_print.specs.declared.pieces.Piece.{Piece}
+use Rattle.stream_print.specs.declared.pieces.SinkKind.TheVariants.{Out as OutSink, Err as ErrSink}
+use Rattle.farm_cell.specs.Passes.{seen_of}
+use Rattle.farm_machine.specs.declared.reports.End.{End}
+use Rattle.report_text.specs.Pieces.{command_pieces, err_messages, failure_text, out_messages, pieces}
+use Rattle.report_text.specs.Numbers.{number}
 use Rattle.stream_print.specs.Prints.{SinksView}
 use Rattle.stream_print.specs.Ends.{complaint, Ends, WantOf}
-use Rattle.farm_machine.specs.declared.reports.Places.{Places}
-use Rattle.farm_machine.specs.declared.reports.Report.{Report}
-use Rattle.farm_machine.specs.declared.reports.Event.{Event}
-use Rattle.farm_machine.specs.declared.reports.End.{End}
-use Rattle.farm_machine.specs.Honest.{Peers, Programs}
-use Rattle.farm_machine.specs.Jobs.{Job, job_of, entry_at, no_host_entry, AreLimitsOf}
-use Rattle.farm_machine.specs.Numbered.{no_places}
-use Rattle.job_plan.specs.Lines.{IsPlainLine}
-use Rattle.job_run.specs.JobRuns.{JobRan}
-use Rattle.report_text.specs.Pieces.{pieces}
-use Rattle.report_text.specs.Numbers.{number}
-use Rattle.farm_answers.specs.Texts.{no_memory_text, not_built_text, cannot_read_text}
-use Rattle.farm_program.specs.Builds.{FirstRan, other_text, longer_text, Builds, built, other_input, unread, wanted, RunsText, text_ran, text_other, text_wanted}
+use Rattle.farm_answers.specs.Texts.{bad_jobs_status, cannot_read_status, cannot_read_text, job_fault_text, no_memory_text}
+use Rattle.farm_program.specs.Worlds.{World}
+use Rattle.farm_program.specs.Builds.{JobsDone, input_limit, Builds, built, faulty, unread, wanted, whole_text, long_text, RunsText, text_ran, text_faulty, text_wanted}
 
--- a text of more than the limit is no plain line, however it goes on
-pub no_long_line : (text : List ℕ) → length text ≡ 16777217 → (rest : List ℕ) (words : List (List ℕ)) → ¬ (IsPlainLine (text ++ rest) words)
-no_long_line text long rest words line =
-    let short : length (text ++ rest) ≤ 16777216 = line.short in
-    omega (arith, short, long, length-append text rest)
-
--- the same text by another name
-pub asks_by : {slice text : List ℕ} {words : List (List ℕ)} → slice ≡ text → IsPlainLine slice words → IsPlainLine text words
-asks_by {words = words} same line = subst (λ t. IsPlainLine t words) same line
-
-pub none_by : {slice text : List ℕ} → slice ≡ text → ((words : List (List ℕ)) → ¬ (IsPlainLine slice words)) → (words : List (List ℕ)) → ¬ (IsPlainLine text words)
-none_by same none words line = none words (subst (λ t. IsPlainLine t words) (sym same) line)
-
--- the limits of a host list have room for each entry, and a slot of each and a local one
-pub valid_limits : (limits : Limits 16) (hosts : Hosts) → AreLimitsOf limits hosts → AreHosts hosts → AreValid limits
-valid_limits limits hosts of are = record {
-  entries = let e = of.count in let few = are.few in omega (arith, e, few);
-  masked = let e = of.count in let few = are.few in omega (arith, e, few);
-  slots = λ i below.
-      let within : i < length hosts.list = let e = of.count in omega (arith, e, below) in
-      let entry : IsHost (entry_at hosts i) = All-get_or IsHost hosts.list i no_host_entry within are.each in
-      let low : 1 ≤ (entry_at hosts i).limit = entry.limit_low in
-      let same = of.limit i below in
-      omega (arith, low, same);
-  local_slots = let e = of.local_slots in let low = are.slots_low in omega (arith, e, low);
+-- the hosts of a list are usable
+pub usable_hosts : (hosts : Hosts) → AreHosts hosts → AreUsable hosts
+usable_hosts hosts are = record {
+  few = are.few;
+  slots = All-weaker IsHost (λ (host : Host). 1 ≤ host.limit) (λ host is. is.limit_low) hosts.list are.each;
+  local_slots = are.slots_low;
 }
 
--- the same job over limits and calls by other names
-pub ran_as : {h : ℕ} (peers : Peers) (programs : Programs) (j : Job) (l l' : Limits h) (caller number : ℕ) (at next : Places) (events : List Event) (end : End) (mine mine' calls : List CallEntry) (old new : KitView)
-    → l ≡ l' → mine ≡ mine' → JobRan peers programs j l caller number at next events end mine calls old new → JobRan peers programs j l' caller number at next events end mine' calls old new
-ran_as peers programs j l l' caller number at next events end mine mine' calls old new same_limits same_mine ran =
-    subst (λ k. JobRan peers programs j k caller number at next events end mine' calls old new) same_limits (subst (λ m. JobRan peers programs j l caller number at next events end m calls old new) same_mine ran)
-
--- the first kit did the job
-pub first_ran : {K : Type 0} (may : K → List ℕ → List ℕ → Type 0) (programs : K → List Word → List ℕ → Ran → Type 0) (shows : K → KitView) (config : JobConfig) (words : List (List ℕ)) (report : Report) (kits : List K) (other after : K) (limits : Limits 16) (next : Places) (calls : List CallEntry)
-    → 0 < length kits → report.number ≡ 0 → report.worker ≡ 0 → AreLimitsOf limits config.hosts → outstanding calls ≡ [] → IsIdle (shows after).keeper
-    → JobRan (may after) (programs after) (job_of words config) limits 0 0 no_places next report.events report.end [] calls (shows (get_or kits 0 other)) (shows after)
-    → FirstRan may programs shows config words report kits (slice_set kits 0 after)
-first_ran may programs shows config words report [] other after limits next calls some number worker of back idle ran = absurd (omega (arith, some))
-first_ran may programs shows config words report (kit ∷ others) other after limits next calls some number worker of back idle ran = record {
-  before = kit;
-  after = after;
-  others = others;
-  old_are = refl;
-  new_are = refl;
-  number = number;
-  worker = worker;
-  limits = limits;
-  of_hosts = of;
-  next = next;
-  calls = calls;
-  ran = ran;
-  back = back;
-  idle = idle;
+-- the jobs of a list can be done
+pub doable_jobs : (text : List ℕ) (jobs : List (List (List ℕ))) → JobsOf text jobs → All AreJobWords jobs → AreDoable jobs
+doable_jobs text jobs of words = record {
+  some = of.some;
+  most = of.few;
+  words = All-weaker AreJobWords (λ (ws : List (List ℕ)). 0 < length ws) (λ ws are. are.some) jobs words;
 }
 
--- what was to be printed, by other names
-pub ends_by : {hosts hosts' : List Host} {reports reports' : List Report} {old new : SinksView} {answer : ℕ} → hosts ≡ hosts' → reports ≡ reports' → Ends no_memory_text (pieces hosts reports) (number reports) old new answer → Ends no_memory_text (pieces hosts' reports') (number reports') old new answer
-ends_by {hosts = hosts} {reports' = reports'} {old = old} {new = new} {answer = answer} same_hosts same_reports ends =
-    subst (λ hs. Ends no_memory_text (pieces hs reports') (number reports') old new answer) same_hosts (subst (λ rs. Ends no_memory_text (pieces hosts rs) (number rs) old new answer) same_reports ends)
+pub one_doable : (words : List (List ℕ)) → 0 < length words → AreDoable (words ∷ [])
+one_doable words some = record {
+  some = omega arith;
+  most = omega arith;
+  words = λ k d below. one k d below;
+}
+  where
+    one : (k : ℕ) (d : List (List ℕ)) → k < length (words ∷ []) → 0 < length (get_or (words ∷ []) k d)
+    one zero d below = some
+    one (suc k) d below = absurd (omega (arith, below))
 
-module _ {K : Type 0} (may : K → List ℕ → List ℕ → Type 0) (programs : K → List Word → List ℕ → Ran → Type 0) (shows : K → KitView) (config : JobConfig) (a b : SourceView) (old_kits new_kits : List K) (old new : SinksView) (answer : ℕ) where
+module _ {K : Type 0} (d : Devices K) (config : JobConfig) (most : ℕ) (a b : SourceView) (old_kits new_kits : List K) (made : List Built) (old new : SinksView) (answer : ℕ) where
+  abbrev Whole : Type 0
+  Whole = Builds d config most (record { source = a; kits = old_kits; sinks = old; built = [] }) (record { source = b; kits = new_kits; sinks = new; built = made }) answer
+
   -- the whole text was read, and then the rest was done
-  pub read_whole : (text : List ℕ) → AllRead a b text → RunsText may programs shows config text old_kits new_kits old new answer → Builds may programs shows config (record { source = a; kits = old_kits; sinks = old }) (record { source = b; kits = new_kits; sinks = new }) answer
-  read_whole text read (text_ran words report asks run prints) = built (record { text = text; words = words; report = report; read = read; asks = asks; run = run; prints = prints })
-  read_whole text read (text_other none undone ends) = other_input (other_text read none) (record { undone = undone; ends = ends })
-  read_whole text read (text_wanted undone want) = wanted (record { read = record { text = text; took = read.took }; undone = undone; want = want })
+  pub read_whole : (text : List ℕ) → AllRead a b text → RunsText d config most text old_kits new_kits made old new answer → Whole
+  read_whole text read (text_ran {jobs = jobs} asks done prints) = built (record { text = text; jobs = jobs; read = read; asks = asks; done = done; prints = prints })
+  read_whole text read (text_faulty {line = line} {fault = fault} stands undone none ends) = faulty {line = line} {fault = fault} (whole_text read stands) (record { idle = record { undone = undone; none_built = none }; ends = ends })
+  read_whole text read (text_wanted undone none want) = wanted (record { read = record { text = text; took = read.took }; idle = record { undone = undone; none_built = none }; want = want })
 
-module _ {K : Type 0} (may : K → List ℕ → List ℕ → Type 0) (programs : K → List Word → List ℕ → Ran → Type 0) (shows : K → KitView) (config : JobConfig) (a b : SourceView) (kits : List K) (old new : SinksView) (answer : ℕ) where
-  pub read_too_long : ReadTo 16777217 a b → Ends no_memory_text (complaint not_built_text ∷ []) 102 old new answer → Builds may programs shows config (record { source = a; kits = kits; sinks = old }) (record { source = b; kits = kits; sinks = new }) answer
-  read_too_long read ends = other_input (longer_text read (no_long_line read.text read.long)) (record { undone = refl; ends = ends })
+module _ {K : Type 0} (d : Devices K) (config : JobConfig) (most : ℕ) (a b : SourceView) (kits : List K) (made : List Built) (none : made ≡ []) (old new : SinksView) (answer : ℕ) where
+  abbrev Same : Type 0
+  Same = Builds d config most (record { source = a; kits = kits; sinks = old; built = [] }) (record { source = b; kits = kits; sinks = new; built = made }) answer
 
-  pub read_broke_off : BrokeOff 16777217 a b → Ends no_memory_text (complaint cannot_read_text ∷ []) 107 old new answer → Builds may programs shows config (record { source = a; kits = kits; sinks = old }) (record { source = b; kits = kits; sinks = new }) answer
-  read_broke_off read ends = unread read (record { undone = refl; ends = ends })
+  pub read_too_long : ReadTo input_limit a b → Ends no_memory_text (complaint (job_fault_text 0 (TooLong input_limit)) ∷ []) bad_jobs_status old new answer → Same
+  read_too_long read ends =
+      let stands : JobFaultStands read.text 0 (TooLong input_limit) = inl (let long = read.long in omega (arith, long), refl, ap TooLong (sym read.long)) in
+      faulty (long_text read stands) (record { idle = record { undone = refl; none_built = none }; ends = ends })
 
-  pub read_wanted : HasReadSome a b → WantOf no_memory_text [] old new answer → Builds may programs shows config (record { source = a; kits = kits; sinks = old }) (record { source = b; kits = kits; sinks = new }) answer
-  read_wanted read want = wanted (record { read = read; undone = refl; want = want })
+  pub read_broke_off : BrokeOff input_limit a b → Ends no_memory_text (complaint cannot_read_text ∷ []) cannot_read_status old new answer → Same
+  read_broke_off read ends = unread read (record { idle = record { undone = refl; none_built = none }; ends = ends })
 
--- a list that was written over whole
-pub written_over : {K : Type 0} (n : ℕ) (old new : List K) → length new ≡ length old → n ≡ length old → new ≡ take n (new ++ drop (length new) old)
-written_over n old new same all = grind (arith, common_steps)
+  pub read_wanted : HasReadSome a b → WantOf no_memory_text [] old new answer → Same
+  read_wanted read want = wanted (record { read = read; idle = record { undone = refl; none_built = none }; want = want })
+
+-- the status by another name
+pub status_as : {notice : List ℕ} {texts : List Piece} {status answer other : ℕ} {old new : SinksView} → other ≡ answer → Ends notice texts status old new answer → Ends notice texts status old new other
+status_as {notice = notice} {texts = texts} {status = status} {old = old} {new = new} same ends = subst (λ (a : ℕ). Ends notice texts status old new a) (sym same) ends
+
+pub want_as : {notice : List ℕ} {answer other : ℕ} {old new : SinksView} → other ≡ answer → WantOf notice [] old new answer → WantOf notice [] old new other
+want_as {notice = notice} {old = old} {new = new} same want = subst (λ (a : ℕ). WantOf notice [] old new a) (sym same) want
+
+-- the one element of a list
+pub only-get : {X : Type 0} (xs ys : List X) (one x : X) → ys ≡ xs → xs ≡ one ∷ [] → get_or ys 0 x ≡ one
+only-get {X} xs ys one x same only = ap (λ (zs : List X). get_or zs 0 x) (same ∙ only)
+
+pub one-of : {X : Type 0} (xs : List X) → length xs ≡ 1 → (x : X) × (xs ≡ x ∷ [])
+one-of [] long = absurd (omega (arith, long))
+one-of (x ∷ []) long = (x, refl)
+one-of (x ∷ (y ∷ xs)) long = absurd (omega (arith, long))
+
+pub reports_as : (hosts : List Host) {reports reports' : List Report} {old new : SinksView} {answer : ℕ} → reports ≡ reports' → Ends no_memory_text (pieces hosts reports) (number reports) old new answer → Ends no_memory_text (pieces hosts reports') (number reports') old new answer
+reports_as hosts {old = old} {new = new} {answer = answer} same ends = subst (λ (rs : List Report). Ends no_memory_text (pieces hosts rs) (number rs) old new answer) same ends
+
+pub jobs_as : {K : Type 0} {d : Devices K} {config : JobConfig} {jobs jobs' : List (List (List ℕ))} {workers workers' : ℕ} {made : List Built} {old new : List K} → jobs ≡ jobs' → workers ≡ workers'
+    → (done : JobsDone d config jobs workers made old new) → (done' : JobsDone d config jobs' workers' made old new) × (done'.one ≡ done.one)
+jobs_as {d = d} {config = config} {jobs = jobs} {workers = workers} {workers' = workers'} {made = made} {old = old} {new = new} same_jobs same_workers done = (
+  record {
+    one = done.one;
+    only = done.only;
+    of_hosts = done.of_hosts;
+    of_jobs = done.of_jobs ∙ ap (λ (js : List (List (List ℕ))). length js) same_jobs;
+    ran = subst (λ (js : List (List (List ℕ))). JobsRan d done.one.last.limits (job_at js config) config.period workers' done.one.reports (seen_of done.one.pass) done.one.last.state old new) same_jobs
+        (subst (λ (n : ℕ). JobsRan d done.one.last.limits (job_at jobs config) config.period n done.one.reports (seen_of done.one.pass) done.one.last.state old new) same_workers done.ran);
+  },
+  refl,
+)
+
+-- what a single command prints, by other names
+pub command_ends : (hosts : List Host) (end : End) {err out : List ℕ} {status status' answer : ℕ} {notice : List ℕ} {old new : SinksView}
+    → err ≡ err_messages end ++ failure_text hosts end → out ≡ out_messages end → status ≡ status'
+    → Ends notice (record { sink = ErrSink; bytes = err } ∷ record { sink = OutSink; bytes = out } ∷ []) status old new answer → Ends notice (command_pieces hosts end) status' old new answer
+command_ends hosts end {out = out} {status = status} {answer = answer} {notice = notice} {old = old} {new = new} same_err same_out same ends =
+    subst (λ (s : ℕ). Ends notice (command_pieces hosts end) s old new answer) same
+    (subst (λ (t : List ℕ). Ends notice (record { sink = ErrSink; bytes = err_messages end ++ failure_text hosts end } ∷ record { sink = OutSink; bytes = t } ∷ []) status old new answer) same_out
+    (subst (λ (t : List ℕ). Ends notice (record { sink = ErrSink; bytes = t } ∷ record { sink = OutSink; bytes = out } ∷ []) status old new answer) same_err ends))

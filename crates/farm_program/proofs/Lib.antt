@@ -1,5 +1,4 @@
 pub mod ReportLemmas
 pub mod Building
-pub mod Completing
 pub mod Commanding
-mod Idling
+pub mod Completing

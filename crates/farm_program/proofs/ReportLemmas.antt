@@ -6,25 +6,26 @@ use Rattle.farm_types.specs.declared.hosts.Host.{Host}
 use Rattle.farm_machine.specs.declared.reports.Report.{Report}
 use Rattle.stream_print.specs.declared.pieces.Piece.{Piece}
 use Rattle.stream_print.specs.declared.one.PrintStop.{PrintStop}
-use Rattle.stream_print.specs.Prints.{SinksView, Printed, IsPart, Later}
+use Rattle.stream_print.specs.Prints.{SinksView, Printed, IsPart, BothGoOn}
 use Rattle.stream_print.specs.Ends.{IsFront, PrintedFront}
-use Rattle.stream_print.proofs.PrintLemmas.{Printed-join, Printed-nothing, PrintedPart-after, IsPart-after, Later-refl}
+use Rattle.stream_print.proofs.PrintLemmas.{Printed-join, Printed-nothing, PrintedPart-after, IsPart-after, goes-join, goes-same}
 use Rattle.report_text.specs.Pieces.{job_pieces, jobs_pieces, total_piece, pieces}
 
 -- a front of some texts, after those before them
 IsFront-after : {texts done all : List Piece} (before after : List Piece) → before ++ (texts ++ after) ≡ all → IsFront texts done → IsFront all (before ++ done)
-IsFront-after {texts = texts} {done = done} before after are (inl (rest, whole)) =
-    inl (rest ++ after, sym are ∙ ap (λ ts. before ++ (ts ++ after)) whole ∙ grind (arith, common_steps))
+IsFront-after {texts = texts} {done = done} before after are (inl (next, rest, whole)) =
+    inl (next, rest ++ after, sym are ∙ ap (λ ts. before ++ (ts ++ after)) whole ∙ grind (arith, common_steps))
 IsFront-after {texts = texts} {done = done} before after are (inr (next, part)) =
     inr (next, subst (λ ts. IsPart ts (before ++ done) next) are (IsPart-after before after part))
 
 -- a front of what comes after some whole texts
-pub PrintedFront-after : {stop : PrintStop} {texts : List Piece} {a b c : SinksView} (before after all : List Piece) → before ++ (texts ++ after) ≡ all → Printed a b before → Later a b → PrintedFront texts stop b c → PrintedFront all stop a c
-PrintedFront-after before after all are printed later front = record {
+pub PrintedFront-after : {stop : PrintStop} {texts : List Piece} {a b c : SinksView} (before after all : List Piece) → before ++ (texts ++ after) ≡ all → Printed a b before → BothGoOn a b → PrintedFront texts stop b c → PrintedFront all stop a c
+PrintedFront-after before after all are printed goes front = record {
   done = before ++ front.done;
   front = IsFront-after before after are front.front;
   printed = Printed-join printed front.printed;
-  stopped = λ stop. PrintedPart-after before after all are printed later (λ is. absurd (cc)) (front.stopped stop);
+  stopped = λ stop. PrintedPart-after before after all are printed goes (front.stopped stop);
+  memory = λ wanted. goes-join goes (front.memory wanted);
 }
 
 module _ (hosts : List Host) (reports : List Report) (i : ℕ) (report : Report) (within : i < length reports) (is : report ≡ get_or reports i report) where
@@ -41,8 +42,8 @@ module _ (hosts : List Host) (reports : List Report) (i : ℕ) (report : Report)
       ∙ ap (λ rs. jobs_pieces hosts rs) (ap (λ r. take i reports ++ (r ∷ [])) is ∙ grind (arith, common_steps))
 
   -- a job was printed in part, after those before it
-  pub job_cut : {stop : PrintStop} {a b c : SinksView} → Printed a b (jobs_pieces hosts (take i reports)) → Later a b → PrintedFront (job_pieces hosts report) stop b c → PrintedFront (jobs_pieces hosts reports) stop a c
-  job_cut printed later front = PrintedFront-after (jobs_pieces hosts (take i reports)) (jobs_pieces hosts (drop (suc i) reports)) (jobs_pieces hosts reports) spread printed later front
+  pub job_cut : {stop : PrintStop} {a b c : SinksView} → Printed a b (jobs_pieces hosts (take i reports)) → BothGoOn a b → PrintedFront (job_pieces hosts report) stop b c → PrintedFront (jobs_pieces hosts reports) stop a c
+  job_cut printed goes front = PrintedFront-after (jobs_pieces hosts (take i reports)) (jobs_pieces hosts (drop (suc i) reports)) (jobs_pieces hosts reports) spread printed goes front
 
   -- a job was printed whole, after those before it
   pub job_printed : {a b c : SinksView} → Printed a b (jobs_pieces hosts (take i reports)) → Printed b c (job_pieces hosts report) → Printed a c (jobs_pieces hosts (take (i + 1) reports))
@@ -51,7 +52,7 @@ module _ (hosts : List Host) (reports : List Report) (i : ℕ) (report : Report)
 module _ (hosts : List Host) (slice reports : List Report) (same : slice ≡ reports) (a b : SinksView) where
   -- the jobs were printed in part
   pub jobs_cut : {stop : PrintStop} → PrintedFront (jobs_pieces hosts slice) stop a b → PrintedFront (pieces hosts reports) stop a b
-  jobs_cut {stop = stop} front = PrintedFront-after [] (total_piece reports ∷ []) (pieces hosts reports) refl (Printed-nothing a) (Later-refl a) (subst (λ rs. PrintedFront (jobs_pieces hosts rs) stop a b) same front)
+  jobs_cut {stop = stop} front = PrintedFront-after [] (total_piece reports ∷ []) (pieces hosts reports) refl (Printed-nothing a) (record { out = goes-same a.out; err = goes-same a.err }) (subst (λ rs. PrintedFront (jobs_pieces hosts rs) stop a b) same front)
 
   module _ (jobs : Printed a b (jobs_pieces hosts slice)) (c : SinksView) where
     jobs_whole : Printed a b (jobs_pieces hosts reports)
@@ -61,5 +62,5 @@ module _ (hosts : List Host) (slice reports : List Report) (same : slice ≡ rep
     pub total_printed : Printed b c (total_piece reports ∷ []) → Printed a c (pieces hosts reports)
     total_printed total = Printed-join jobs_whole total
 
-    pub total_cut : {stop : PrintStop} → Later a b → PrintedFront (total_piece reports ∷ []) stop b c → PrintedFront (pieces hosts reports) stop a c
-    total_cut later front = PrintedFront-after (jobs_pieces hosts reports) [] (pieces hosts reports) refl jobs_whole later front
+    pub total_cut : {stop : PrintStop} → BothGoOn a b → PrintedFront (total_piece reports ∷ []) stop b c → PrintedFront (pieces hosts reports) stop a c
+    total_cut goes front = PrintedFront-after (jobs_pieces hosts reports) [] (pieces hosts reports) refl jobs_whole goes front

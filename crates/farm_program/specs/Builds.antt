@@ -1,89 +1,87 @@
--- What a build does.
-use Rattle.std.specs.Prelude.{◌≡◌, ◌≤◌, ℕ, Bool, List, [], ◌∷◌, ◌++◌}
+-- What `build` and `cc` do, once words, environment and host list are right.
+use Rattle.std.specs.Prelude.{◌≡◌, ℕ, min, Bool, List, [], ◌∷◌, length}
 use Rattle.farm_types.specs.declared.hosts.Hosts.{Hosts}
 use Rattle.farm_types.specs.declared.jobs.JobConfig.{JobConfig}
-use Rattle.farm_types.specs.declared.placed.Word.{Word}
-use Rattle.farm_types.specs.declared.ran.Ran.{Ran}
-use Rattle.host_list.specs.HostLists.{AreHosts}
-use Rattle.slot_table.specs.declared.limits.Limits.{Limits}
-use Rattle.slot_table.specs.declared.calls.CallEntry.{CallEntry}
-use Rattle.slot_table.specs.History.{outstanding}
-use Rattle.edge_traits.specs.Keepers.{IsIdle}
-use Rattle.edge_traits.specs.Kits.{KitView}
 use Rattle.edge_traits.specs.Sources.{SourceView}
+use Rattle.farm_cell.specs.Passes.{seen_of}
+use Rattle.farm_machine.specs.declared.reports.Report.{Report}
+use Rattle.farm_machine.specs.Jobs.{AreLimitsOf}
 use Rattle.input_read.specs.Reads.{AllRead, ReadTo, BrokeOff, HasReadSome}
+use Rattle.job_driver.specs.declared.driver.Built.{Built}
+use Rattle.job_driver.specs.Driven.{Devices, JobsRan}
+use Rattle.job_driver.specs.Jobs.{job_at}
+use Rattle.job_list.specs.declared.fault.JobFault.{JobFault}
+use Rattle.job_list.specs.Jobs.{JobsOf, JobFaultStands}
+use Rattle.report_text.specs.Pieces.{pieces, command_pieces}
+use Rattle.report_text.specs.Numbers.{number}
 use Rattle.stream_print.specs.Prints.{SinksView}
 use Rattle.stream_print.specs.Ends.{complaint, Ends, WantOf}
-use Rattle.farm_machine.specs.declared.reports.Places.{Places}
-use Rattle.farm_machine.specs.declared.reports.Report.{Report}
-use Rattle.farm_machine.specs.Jobs.{job_of, AreLimitsOf}
-use Rattle.farm_machine.specs.Numbered.{no_places}
-use Rattle.job_plan.specs.Lines.{IsPlainLine}
-use Rattle.job_run.specs.JobRuns.{JobRan}
-use Rattle.report_text.specs.Pieces.{pieces}
-use Rattle.report_text.specs.Numbers.{number}
-use Rattle.farm_answers.specs.Texts.{no_memory_text, not_built_text, cannot_read_text}
-use Rattle.farm_program.specs.Worlds.{World, Refused}
+use Rattle.farm_answers.specs.Texts.{bad_jobs_status, cannot_read_status, cannot_read_text, job_fault_text, no_memory_text}
+use Rattle.farm_program.specs.Worlds.{World, Idle, Refused}
 
--- How jobs are run on these hosts: with fallback and retry or without, a host that broke an exchange left alone for 60 seconds, and one
--- host asked.
-abbrev pub config_of : Hosts → Bool → Bool → JobConfig
-config_of hosts fallback retry = record { hosts = hosts; fallback = fallback; retry = retry; period = 60; tries = 1 }
+-- how jobs are run
+abbrev pub config_of : Hosts → Bool → Bool → ℕ → ℕ → JobConfig
+config_of hosts fallback retry period tries = record { hosts = hosts; fallback = fallback; retry = retry; period = period; tries = tries }
 
--- the hosts are as a host list has them, and at least one of them may be asked, and at most 16
-pub record IsRight (config : JobConfig) : Type 0 where
-  pub hosts : AreHosts config.hosts
-  pub some : 1 ≤ config.tries
-  pub tries : config.tries ≤ 16
+-- the bytes of an input that are read at most: one more than a job list may have
+abbrev pub input_limit : ℕ
+input_limit = 16777217
 
--- The first kit did the job of these words, of which this is the report, over slots of its own by the limits of the host list. Each slot
--- is back, and no put is pending. The other kits did nothing.
-pub record FirstRan {K : Type 0} (may_give : K → List ℕ → List ℕ → Type 0) (programs : K → List Word → List ℕ → Ran → Type 0) (shows : K → KitView) (config : JobConfig) (words : List (List ℕ)) (report : Report) (old new : List K) : Type 0 where
-  pub before : K
-  pub after : K
-  pub others : List K
-  pub old_are : old ≡ before ∷ others
-  pub new_are : new ≡ after ∷ others
-  pub number : report.number ≡ 0
-  pub worker : report.worker ≡ 0
-  pub limits : Limits 16
-  pub of_hosts : AreLimitsOf limits config.hosts
-  pub next : Places
-  pub calls : List CallEntry
-  pub ran : JobRan (may_give after) (programs after) (job_of words config) limits 0 0 no_places next report.events report.end [] calls (shows before) (shows after)
-  pub back : outstanding calls ≡ []
-  pub idle : IsIdle (shows after).keeper
+-- Each job of the list was run, by this many workers over slots that keep the limits of the host list. What was built tells of it.
+pub record JobsDone {K : Type 0} (d : Devices K) (config : JobConfig) (jobs : List (List (List ℕ))) (workers : ℕ) (built : List Built) (old new : List K) : Type 0 where
+  pub one : Built
+  pub only : built ≡ one ∷ []
+  pub of_hosts : AreLimitsOf one.last.limits config.hosts
+  pub of_jobs : one.last.limits.jobs ≡ length jobs
+  pub ran : JobsRan d one.last.limits (job_at jobs config) config.period workers one.reports (seen_of one.pass) one.last.state old new
 
--- The whole input was read and is a plain line, its job was run, and its report was to be printed.
-pub record BuildRan {K : Type 0} (may_give : K → List ℕ → List ℕ → Type 0) (programs : K → List Word → List ℕ → Ran → Type 0) (shows : K → KitView) (config : JobConfig) (old new : World K) (answer : ℕ) : Type 0 where
+-- as many workers as were asked for, but no more than there are kits or jobs
+abbrev pub worker_number : {K : Type 0} → ℕ → List K → List (List (List ℕ)) → ℕ
+worker_number most kits jobs = min (min most (length kits)) (length jobs)
+
+-- The whole input was read and is a job list, its jobs were run, and their reports were to be printed.
+pub record ListBuilt {K : Type 0} (d : Devices K) (config : JobConfig) (most : ℕ) (old new : World K) (answer : ℕ) : Type 0 where
   pub text : List ℕ
-  pub words : List (List ℕ)
-  pub report : Report
+  pub jobs : List (List (List ℕ))
   pub read : AllRead old.source new.source text
-  pub asks : IsPlainLine text words
-  pub run : FirstRan may_give programs shows config words report old.kits new.kits
-  pub prints : Ends no_memory_text (pieces config.hosts.list (report ∷ [])) (number (report ∷ [])) old.sinks new.sinks answer
+  pub asks : JobsOf text jobs
+  pub done : JobsDone d config jobs (worker_number most old.kits jobs) new.built old.kits new.kits
+  pub prints : Ends no_memory_text (pieces config.hosts.list done.one.reports) (number done.one.reports) old.sinks new.sinks answer
 
--- The whole input, what is left unread included, is no plain line.
-pub data IsOther (old new : SourceView) : Type 0 where
-  other_text : {text : List ℕ} → AllRead old new text → ((words : List (List ℕ)) → ¬ (IsPlainLine text words)) → IsOther old new
-  longer_text : (read : ReadTo 16777217 old new) → ((rest : List ℕ) (words : List (List ℕ)) → ¬ (IsPlainLine (read.text ++ rest) words)) → IsOther old new
+-- what was read of the input, to its end or to the limit, is no job list, by this fault
+pub data HasListFault (old new : SourceView) (line : ℕ) (fault : JobFault) : Type 0 where
+  whole_text : {text : List ℕ} → AllRead old new text → JobFaultStands text line fault → HasListFault old new line fault
+  long_text : (read : ReadTo input_limit old new) → JobFaultStands read.text line fault → HasListFault old new line fault
 
--- Memory was wanting outside a job, before it began: nothing was done, and nothing but the notice was printed.
+-- Memory was wanting before the first job began: none was run, and nothing but the notice was printed.
 pub record Wanted {K : Type 0} (old new : World K) (answer : ℕ) : Type 0 where
   pub read : HasReadSome old.source new.source
-  pub undone : new.kits ≡ old.kits
+  pub idle : Idle old new
   pub want : WantOf no_memory_text [] old.sinks new.sinks answer
 
 -- A build by this configuration. What the input is and how far it could be read tell the first three apart; the last is free.
-pub data Builds {K : Type 0} (may_give : K → List ℕ → List ℕ → Type 0) (programs : K → List Word → List ℕ → Ran → Type 0) (shows : K → KitView) (config : JobConfig) (old new : World K) (answer : ℕ) : Type 0 where
-  built : BuildRan may_give programs shows config old new answer → Builds may_give programs shows config old new answer
-  other_input : IsOther old.source new.source → Refused not_built_text 102 old new answer → Builds may_give programs shows config old new answer
-  unread : BrokeOff 16777217 old.source new.source → Refused cannot_read_text 107 old new answer → Builds may_give programs shows config old new answer
-  wanted : Wanted old new answer → Builds may_give programs shows config old new answer
+pub data Builds {K : Type 0} (d : Devices K) (config : JobConfig) (most : ℕ) (old new : World K) (answer : ℕ) : Type 0 where
+  built : ListBuilt d config most old new answer → Builds d config most old new answer
+  faulty : {line : ℕ} {fault : JobFault} → HasListFault old.source new.source line fault → Refused (job_fault_text line fault) bad_jobs_status old new answer → Builds d config most old new answer
+  unread : BrokeOff input_limit old.source new.source → Refused cannot_read_text cannot_read_status old new answer → Builds d config most old new answer
+  wanted : Wanted old new answer → Builds d config most old new answer
 
 -- the rest of a build, once its whole text was read
-pub data RunsText {K : Type 0} (may_give : K → List ℕ → List ℕ → Type 0) (programs : K → List Word → List ℕ → Ran → Type 0) (shows : K → KitView) (config : JobConfig) (text : List ℕ) (old_kits new_kits : List K) (old new : SinksView) (answer : ℕ) : Type 0 where
-  text_ran : (words : List (List ℕ)) (report : Report) → IsPlainLine text words → FirstRan may_give programs shows config words report old_kits new_kits → Ends no_memory_text (pieces config.hosts.list (report ∷ [])) (number (report ∷ [])) old new answer → RunsText may_give programs shows config text old_kits new_kits old new answer
-  text_other : ((words : List (List ℕ)) → ¬ (IsPlainLine text words)) → new_kits ≡ old_kits → Ends no_memory_text (complaint not_built_text ∷ []) 102 old new answer → RunsText may_give programs shows config text old_kits new_kits old new answer
-  text_wanted : new_kits ≡ old_kits → WantOf no_memory_text [] old new answer → RunsText may_give programs shows config text old_kits new_kits old new answer
+pub data RunsText {K : Type 0} (d : Devices K) (config : JobConfig) (most : ℕ) (text : List ℕ) (old_kits new_kits : List K) (made : List Built) (old new : SinksView) (answer : ℕ) : Type 0 where
+  text_ran : {jobs : List (List (List ℕ))} → JobsOf text jobs → (done : JobsDone d config jobs (worker_number most old_kits jobs) made old_kits new_kits)
+      → Ends no_memory_text (pieces config.hosts.list done.one.reports) (number done.one.reports) old new answer → RunsText d config most text old_kits new_kits made old new answer
+  text_faulty : {line : ℕ} {fault : JobFault} → JobFaultStands text line fault → new_kits ≡ old_kits → made ≡ [] → Ends no_memory_text (complaint (job_fault_text line fault) ∷ []) bad_jobs_status old new answer → RunsText d config most text old_kits new_kits made old new answer
+  text_wanted : new_kits ≡ old_kits → made ≡ [] → WantOf no_memory_text [] old new answer → RunsText d config most text old_kits new_kits made old new answer
+
+-- The command was run as the one job of one worker, and its report was to be printed.
+pub record CommandRan {K : Type 0} (d : Devices K) (config : JobConfig) (words : List (List ℕ)) (old new : World K) (answer : ℕ) : Type 0 where
+  pub unread : new.source ≡ old.source
+  pub done : JobsDone d config (words ∷ []) 1 new.built old.kits new.kits
+  pub report : Report
+  pub alone : done.one.reports ≡ report ∷ []
+  pub prints : Ends no_memory_text (command_pieces config.hosts.list report.end) (number (report ∷ [])) old.sinks new.sinks answer
+
+-- a single command by this configuration; want of memory before it began is free
+pub data RunsCommand {K : Type 0} (d : Devices K) (config : JobConfig) (words : List (List ℕ)) (old new : World K) (answer : ℕ) : Type 0 where
+  command_ran : CommandRan d config words old new answer → RunsCommand d config words old new answer
+  command_wanted : new.source ≡ old.source → Idle old new → WantOf no_memory_text [] old.sinks new.sinks answer → RunsCommand d config words old new answer

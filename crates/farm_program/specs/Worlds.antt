@@ -1,32 +1,39 @@
--- What the devices of the whole program show, and how a call ends that does no job.
+-- What the devices of the whole program show, what was built, and how a call ends that does no job.
 use Rattle.std.specs.Prelude.{◌≡◌, ℕ, List, [], ◌∷◌}
 use Rattle.edge_traits.specs.Sources.{SourceView}
 use Rattle.edge_traits.specs.Sinks.{SinkView}
 use Rattle.stream_print.specs.declared.pieces.Piece.{Piece}
 use Rattle.stream_print.specs.Prints.{SinksView, sinks_view}
 use Rattle.stream_print.specs.Ends.{complaint, Ends}
+use Rattle.job_driver.specs.declared.driver.Built.{Built}
 use Rattle.farm_answers.specs.Texts.{no_memory_text}
 
--- the input, a kit for each worker, and the two sinks
+-- the input, a kit for each worker, the two sinks, and what each run of jobs left so far
 pub record World (K : Type 0) : Type 0 where
   pub source : SourceView
   pub kits : List K
   pub sinks : SinksView
+  pub built : List Built
 
-abbrev pub world : {R K O E : Type 0} → (R → SourceView) → (O → SinkView) → (E → SinkView) → R → List K → O → E → World K
-world source out_shows err_shows input kits out err = record { source = source input; kits = kits; sinks = sinks_view out_shows err_shows out err }
+abbrev pub world : {R K O E : Type 0} → (R → SourceView) → (O → SinkView) → (E → SinkView) → R → List K → O → E → List Built → World K
+world source out_shows err_shows input kits out err built = record { source = source input; kits = kits; sinks = sinks_view out_shows err_shows out err; built = built }
 
--- Nothing was read, and nothing was done.
+-- no job was run
+pub record Idle {K : Type 0} (old new : World K) : Type 0 where
+  pub undone : new.kits ≡ old.kits
+  pub none_built : new.built ≡ []
+
+-- nothing was read, and no job was run
 pub record Untouched {K : Type 0} (old new : World K) : Type 0 where
   pub unread : new.source ≡ old.source
-  pub undone : new.kits ≡ old.kits
+  pub idle : Idle old new
 
--- Nothing was read and nothing done, this text was to be printed on its sink, and this status to be answered.
+-- Nothing was read and no job run, this text was to be printed on its sink, and this status to be answered.
 pub record Answered {K : Type 0} (piece : Piece) (status : ℕ) (old new : World K) (answer : ℕ) : Type 0 where
   pub untouched : Untouched old new
   pub ends : Ends no_memory_text (piece ∷ []) status old.sinks new.sinks answer
 
--- Nothing was done, this text was to be printed on the sink of errors, and this status to be answered.
+-- No job was run, this text was to be printed on the sink of errors, and this status to be answered.
 pub record Refused {K : Type 0} (text : List ℕ) (status : ℕ) (old new : World K) (answer : ℕ) : Type 0 where
-  pub undone : new.kits ≡ old.kits
+  pub idle : Idle old new
   pub ends : Ends no_memory_text (complaint text ∷ []) status old.sinks new.sinks answer

@@ -1,12 +1,15 @@
 //! The program `farm`: what its `main` calls.
 #![tactic(auto)]
 
-mod build;
-mod hosts;
+mod by_hosts;
+mod jobs;
+mod list;
 mod report;
+mod single;
 mod top;
 
-pub use top::{Ended, farm};
+pub use jobs::{BuiltList, Ended};
+pub use top::farm;
 
 #[cfg(test)]
 mod tests;

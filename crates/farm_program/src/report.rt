@@ -1,19 +1,20 @@
 //! The reports are printed job by job, each text made when it is needed.
 
-ghost use Rattle.std.specs.Prelude.{[], ◌∷◌, OnOk, IfErr};
-ghost use Rattle.stream_print.specs.Prints.{sinks_view, Printed, Later};
+ghost use Rattle.std.specs.Prelude.{◌≡◌, [], ◌∷◌, length, OnOk, IfErr};
+ghost use Rattle.farm_machine.specs.declared.reports.Report.{Report};
+ghost use Rattle.stream_print.specs.Prints.{sinks_view, Printed, BothGoOn};
 ghost use Rattle.stream_print.specs.Ends.{Ends, PrintedFront};
-ghost use Rattle.report_text.specs.Pieces.{job_pieces, jobs_pieces, total_piece, pieces};
+ghost use Rattle.report_text.specs.Pieces.{command_pieces, job_pieces, jobs_pieces, total_piece, pieces};
 ghost use Rattle.report_text.specs.Numbers.{number};
 ghost use Rattle.farm_answers.specs.Texts.{no_memory_text};
 
 use edge_traits::Sink;
-use farm_answers::want_memory;
+use farm_answers::{NO_MEMORY_TEXT, want_memory};
 use farm_machine::{Report, ReportList};
 use farm_types::Hosts;
-use report_text::{lines, status, total};
+use report_text::{command_lines, lines, status, total};
 use std::alloc::Global;
-use stream_print::{Piece, PrintStop, STOPPED, SinkKind, print_all, print_piece};
+use stream_print::{Piece, PrintStop, STOPPED, SinkKind, finish, print_all, print_piece};
 
 // Prints the pieces of one job.
 fn print_job<O: Sink, E: Sink>(
@@ -28,8 +29,8 @@ fn print_job<O: Sink, E: Sink>(
     ensures front { IfErr result (λ stop. PrintedFront (job_pieces hosts.now.list report.now) stop
         (sinks_view O.shows E.shows out.old err.old)
         (sinks_view O.shows E.shows out.new err.new)) }
-    ensures later { Later (sinks_view O.shows E.shows out.old err.old)
-        (sinks_view O.shows E.shows out.new err.new) }
+    ensures goes_on { OnOk result (BothGoOn (sinks_view O.shows E.shows out.old err.old)
+        (sinks_view O.shows E.shows out.new err.new)) }
 {
     let printed = match lines(alloc, hosts, report) {
         Ok(printed) => printed,
@@ -60,8 +61,8 @@ fn print_total<O: Sink, E: Sink>(
     ensures front { IfErr result (λ stop. PrintedFront (total_piece reports.now ∷ []) stop
         (sinks_view O.shows E.shows out.old err.old)
         (sinks_view O.shows E.shows out.new err.new)) }
-    ensures later { Later (sinks_view O.shows E.shows out.old err.old)
-        (sinks_view O.shows E.shows out.new err.new) }
+    ensures goes_on { OnOk result (BothGoOn (sinks_view O.shows E.shows out.old err.old)
+        (sinks_view O.shows E.shows out.new err.new)) }
 {
     match total(alloc, reports) {
         Ok(bytes) => {
@@ -89,8 +90,8 @@ fn print_jobs<O: Sink, E: Sink>(
         PrintedFront (jobs_pieces hosts.now.list reports.now) stop
         (sinks_view O.shows E.shows out.old err.old)
         (sinks_view O.shows E.shows out.new err.new)) }
-    ensures later { Later (sinks_view O.shows E.shows out.old err.old)
-        (sinks_view O.shows E.shows out.new err.new) }
+    ensures goes_on { OnOk result (BothGoOn (sinks_view O.shows E.shows out.old err.old)
+        (sinks_view O.shows E.shows out.new err.new)) }
 {
     for report in reports {
         match print_job(alloc, hosts, report, out, err) {
@@ -114,8 +115,8 @@ fn print_reports<O: Sink, E: Sink>(
     ensures front { IfErr result (λ stop. PrintedFront (pieces hosts.now.list reports.now) stop
         (sinks_view O.shows E.shows out.old err.old)
         (sinks_view O.shows E.shows out.new err.new)) }
-    ensures later { Later (sinks_view O.shows E.shows out.old err.old)
-        (sinks_view O.shows E.shows out.new err.new) }
+    ensures goes_on { OnOk result (BothGoOn (sinks_view O.shows E.shows out.old err.old)
+        (sinks_view O.shows E.shows out.new err.new)) }
 {
     match print_jobs(alloc, hosts, reports.as_slice(), out, err) {
         Ok(()) => {}
@@ -143,5 +144,37 @@ pub fn finish_build<O: Sink, E: Sink>(
         Ok(()) => status(reports),
         Err(PrintStop::Stopped) => STOPPED,
         Err(PrintStop::Memory) => want_memory(out, err),
+    }
+}
+
+/// Prints what a single command left, by its one report, and answers its exit status.
+pub fn finish_command<O: Sink, E: Sink>(
+    alloc: Global,
+    hosts: &Hosts,
+    reports: &ReportList,
+    out: &mut O,
+    err: &mut E,
+) -> u8
+    requires one { length reports.now ≡ 1 }
+    ensures { (report : Report) → reports.now ≡ report ∷ [] →
+        Ends no_memory_text (command_pieces hosts.now.list report.end) (number reports.now)
+        (sinks_view O.shows E.shows out.old err.old)
+        (sinks_view O.shows E.shows out.new err.new) result }
+{
+    match command_lines(alloc, hosts, &reports.as_slice()[0].end) {
+        Ok(printed) => {
+            let pieces = [
+                Piece {
+                    sink: SinkKind::Err,
+                    bytes: printed.err,
+                },
+                Piece {
+                    sink: SinkKind::Out,
+                    bytes: printed.out,
+                },
+            ];
+            finish(&pieces, status(reports), NO_MEMORY_TEXT, out, err)
+        }
+        Err(_) => want_memory(out, err),
     }
 }

@@ -15,6 +15,7 @@ use farm_types::{Bytes, Ran};
 use std::alloc::{AllocError, Global};
 use std::sync::Wait;
 use std::test::Fail;
+use std::thread::Threads;
 
 type MemKit = Kit<MemDialer, MemStation, MemKeeper, MemClock>;
 
@@ -79,15 +80,17 @@ fn kit(alloc: Global, script: &Script) -> Result<MemKit, AllocError>
     ensures { IfOk result (λ kit. IsIdle (keeper_shows (keeper_state kit.keeper))) }
 {
     let mut links = LinkScripts::new(alloc);
-    links.try_push(LinkScript {
-        gives: Bytes::from_slice(alloc, script.reply)?,
-        moves: Moves {
-            fails: numbers(alloc, script.link_fails)?,
-            zeros: numbers(alloc, script.link_stops)?,
-            most: 4_096,
-        },
-    })?;
     let mut rans = RanList::new(alloc);
+    for _ in 0..3 {
+        links.try_push(LinkScript {
+            gives: Bytes::from_slice(alloc, script.reply)?,
+            moves: Moves {
+                fails: numbers(alloc, script.link_fails)?,
+                zeros: numbers(alloc, script.link_stops)?,
+                most: 4_096,
+            },
+        })?;
+    }
     rans.try_push(Ran {
         status: script.run_status,
         out: Bytes::from_slice(alloc, b"int a = 1;\n")?,
@@ -141,7 +144,11 @@ pub(crate) struct Seen {
     pub(crate) object: Option<Bytes>,
 }
 
-pub(crate) fn run<W: Wait>(rt: &W, alloc: Global, script: &Script) -> Result<Seen, Fail> {
+pub(crate) fn run<W: Threads + Wait + Sync>(
+    rt: &W,
+    alloc: Global,
+    script: &Script,
+) -> Result<Seen, Fail> {
     let words = words_of(alloc, script)?;
     let variables = variables_of(alloc, script)?;
     let text = Bytes::from_slice(alloc, script.input)?;
@@ -186,7 +193,7 @@ pub(crate) struct Row {
 }
 
 // Jobs that are run. The object is that of the file `x.o`.
-const JOBS: [Row; 14] = [
+const JOBS: &[Row] = &[
     Row {
         script: FIRST,
         status: 0,
@@ -324,6 +331,71 @@ const JOBS: [Row; 14] = [
         err: b"",
         object: None,
     },
+    Row {
+        script: Script {
+            input: b"scc -c x.c\n# y\nscc -c 'y.c'\n\nscc -c z.c",
+            put_fails: 6,
+            ..FIRST
+        },
+        status: 107,
+        out: b"1 remote H:3632 stat 00000000\n2 failed put\n3 remote H:3632 stat 00000000\ntotal 3 ok 2\n",
+        err: b"note\n",
+        object: Some(b"SCO1\ndef a 1\n"),
+    },
+    Row {
+        script: Script {
+            words: &["build", "--hosts", "a b", "--tries", "2", "--no-fallback"],
+            dial_fails: 1,
+            ..FIRST
+        },
+        status: 0,
+        out: b"1 remote b:3632 stat 00000000\ntotal 1 ok 1\n",
+        err: b"note\n",
+        object: Some(b"SCO1\ndef a 1\n"),
+    },
+    Row {
+        script: Script {
+            words: &["build", "--no-fallback"],
+            ..FIRST
+        },
+        status: 116,
+        out: b"1 failed no host\ntotal 1 ok 0\n",
+        err: b"",
+        object: None,
+    },
+    Row {
+        script: Script {
+            input: b"scc -c x.c y.c\n",
+            ..FIRST
+        },
+        status: 0,
+        out: b"int a = 1;\n1 local stat 00000000\ntotal 1 ok 1\n",
+        err: b"note\n",
+        object: None,
+    },
+    Row {
+        script: Script {
+            words: &["cc", "scc", "-c", "x.c"],
+            env: &[("DISTCC_HOSTS", "H")],
+            ..FIRST
+        },
+        status: 0,
+        out: b"",
+        err: b"note\n",
+        object: Some(b"SCO1\ndef a 1\n"),
+    },
+    Row {
+        script: Script {
+            words: &["cc", "scc", "-c", "x.c"],
+            env: &[("DISTCC_HOSTS", "H"), ("DISTCC_FALLBACK", "0")],
+            dial_fails: 1,
+            ..FIRST
+        },
+        status: 103,
+        out: b"",
+        err: b"farm: failed H:3632 dial\n",
+        object: None,
+    },
 ];
 
 pub(crate) fn is_as_expected(seen: &Seen, row: &Row) -> bool {
@@ -348,7 +420,11 @@ fn jobs_end_as_their_devices_let_them(rt: HostRuntime) -> Result<(), Fail> {
 }
 
 // The status where a sink takes at most so many bytes at once, and none at the call of this number.
-fn stopped<W: Wait>(rt: &W, alloc: Global, stops: u64) -> Result<(u8, Option<Bytes>), Fail> {
+fn stopped<W: Threads + Wait + Sync>(
+    rt: &W,
+    alloc: Global,
+    stops: u64,
+) -> Result<(u8, Option<Bytes>), Fail> {
     let words = words_of(alloc, &FIRST)?;
     let text = Bytes::from_slice(alloc, FIRST.input)?;
     let mut input = MemSource::new(text, CallNumbers::new(alloc), 100);

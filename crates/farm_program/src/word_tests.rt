@@ -5,10 +5,9 @@ use std::alloc::Global;
 use std::process::Abort;
 use std::sync::Wait;
 use std::test::Fail;
+use std::thread::Threads;
 
 const DONE: &str = "1 remote H:3632 stat 00000000\ntotal 1 ok 1\n";
-
-const NOT_BUILT: &str = "farm: not built yet\n";
 
 const HOSTS: &str = "red:4000/2\nblue:4001/3\n--localslots=4\n--localslots_cpp=8\n";
 
@@ -163,16 +162,16 @@ const COMMANDS: [Row; 21] = [
     Row {
         words: &["rehearse", "512"],
         env: &[("DISTCC_HOSTS", "@red")],
-        status: 102,
+        status: 101,
         out: "",
-        err: NOT_BUILT,
+        err: "farm: bad words at word 0\n",
     },
     Row {
         words: &["cc", "gcc", "-c", "x.c"],
-        env: &[("DISTCC_HOSTS", "H")],
-        status: 102,
+        env: &[("DISTCC_HOSTS", "@H"), ("DISTCC_BACKOFF_PERIOD", "1000001")],
+        status: 101,
         out: "",
-        err: NOT_BUILT,
+        err: "farm: bad DISTCC_BACKOFF_PERIOD\n",
     },
     Row {
         words: &["cc", "gcc", "-c", "x.c"],
@@ -258,7 +257,7 @@ const BAD_WORDS: [(&[&str], &str); 19] = [
     (&["make"], "0"),
     (&["build", "--workers", "0"], "2"),
     (&["build", "--workers", "17"], "2"),
-    (&["build", "--workers", "016"], "2"),
+    (&["build", "--workers", "017"], "2"),
     (&["build", "--workers", "+4"], "2"),
     (&["build", "--workers"], "2"),
     (&["build", "--hosts", "@red", "--hosts", "H"], "3"),
@@ -288,16 +287,32 @@ const HELP: [(&[&str], &str); 6] = [
     (&["rehearse", "--help"], "Usage: farm rehearse N\n"),
 ];
 
-// Inputs of the first run's words that ask for no job, or can't be read: which read fails, where 0 is none; and the status.
-const INPUTS: [(&[u8], u64, u8); 8] = [
-    (b"", 0, 102),
-    (b"\n", 0, 102),
-    (b"gcc -c x.c", 0, 102),
-    (b"gcc -c x.c\ngcc -c y.c\n", 0, 102),
-    (b"gcc  -c x.c\n", 0, 102),
-    (b"gcc -c 'x.c'\n", 0, 102),
-    (b"gcc -c x.c\n", 2, 107),
-    (b"gcc -c 'x.c'\n", 1, 107),
+const UNREAD: &str = "farm: cannot read the job list\n";
+
+// Inputs that are no job list, or can't be read: which read fails, where 0 is none; the status, and what is said.
+const INPUTS: &[(&[u8], u64, u8, &str)] = &[
+    (b"", 0, 109, "farm: job list: fault 3 at line 0\n"),
+    (b"# gcc\n\n", 0, 109, "farm: job list: fault 3 at line 0\n"),
+    (
+        b"gcc -c 'x.c\n",
+        0,
+        109,
+        "farm: job list: fault 1 at line 1\n",
+    ),
+    (
+        b"gcc -c x.c\\",
+        0,
+        109,
+        "farm: job list: fault 2 at line 1\n",
+    ),
+    (
+        b"scc -c a.c\nscc -c a.c\n",
+        0,
+        109,
+        "farm: job list: fault 6 at line 2\n",
+    ),
+    (b"gcc -c x.c\n", 2, 107, UNREAD),
+    (b"gcc -c 'x.c'\n", 1, 107, UNREAD),
 ];
 
 // Whether nothing but this was printed, and whether there is an object exactly where the status is 0 and a job ran.
@@ -308,7 +323,11 @@ fn shows(seen: &Seen, status: u8, out: &str, err: &str) -> bool {
         && seen.object.is_some() == (out == DONE)
 }
 
-fn check_rows<R: Abort + Wait>(rt: &R, alloc: Global, rows: &[Row]) -> Result<(), Fail> {
+fn check_rows<R: Abort + Threads + Wait + Sync>(
+    rt: &R,
+    alloc: Global,
+    rows: &[Row],
+) -> Result<(), Fail> {
     for (at, row) in rows.iter().enumerate() {
         let script = Script {
             words: row.words,
@@ -379,7 +398,7 @@ fn help_is_printed(rt: HostRuntime) -> Result<(), Fail> {
 
 #[test]
 fn inputs_without_a_job_are_refused(rt: HostRuntime) -> Result<(), Fail> {
-    for (input, read_fails, status) in INPUTS {
+    for &(input, read_fails, status, err) in INPUTS {
         let seen = run(
             &rt,
             rt.alloc(),
@@ -389,11 +408,6 @@ fn inputs_without_a_job_are_refused(rt: HostRuntime) -> Result<(), Fail> {
                 ..FIRST
             },
         )?;
-        let err = if status == 102 {
-            NOT_BUILT
-        } else {
-            "farm: cannot read the job list\n"
-        };
         assert!(rt; shows(&seen, status, "", err), "{input:?}: {:?}", seen.err);
     }
     Ok(())

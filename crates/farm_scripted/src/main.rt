@@ -9,9 +9,10 @@ use scripted::scripted_kit;
 use std::env;
 use std::process::ExitCode;
 use std::sync::Wait;
+use std::thread::Threads;
 
 // Runs `farm` on the program's words and standard streams, and answers its exit status. It may wait for a slot.
-fn run<W: Wait>(waits: &W, rt: &HostRuntime) -> anyhow::Result<u8> {
+fn run<W: Threads + Wait + Sync>(waits: &W, rt: &HostRuntime) -> anyhow::Result<u8> {
     let alloc = rt.alloc();
     let mut words = Vec::new(alloc);
     for word in env::args(rt)?.skip(1) {

@@ -1,19 +1,19 @@
 -- The words of a command line, by the first and the others.
-use Rattle.std.proofs.Common.{◌≡◌, ℕ, suc, List, [], ◌∷◌, length, map, false, MatchResult, Result, Ok, Err, refl, ap, sym, ◌∙◌, subst}
+use Rattle.std.proofs.Common.{◌≡◌, ℕ, suc, List, [], ◌∷◌, length, map, false, Result, Ok, Err, MatchResult, refl, ap, sym, ◌∙◌, subst}
 use Rattle.std.proofs.lemmas.List.{length-map}
 use Rattle.farm_words.specs.declared.name.CommandName.{CommandName}
 use Rattle.farm_words.specs.declared.command.Command.{Command}
-use Rattle.farm_words.specs.Numbers.{number_of}
+use Rattle.farm_words.specs.Numbers.{jobs_of}
 use Rattle.farm_words.specs.Names.{first_word}
-use Rattle.farm_words.specs.Commands.{meaning, command_meant, counted, rehearse_words, is_help_first, asks_help, by_first_word, read_words, IsCommand, BadAt}
+use Rattle.farm_words.specs.Commands.{Meaning, meaning, command_meant, counted, rehearse_words, is_help_first, asks_help, ByFirstWord, WordsRead, IsCommand, BadAt}
 
 -- what an answer means is its place in the contract
-pub answers : (result : Result Command ℕ) (words : List (List ℕ)) → command_meant result ≡ read_words words → MatchResult result (λ command. IsCommand words (meaning command)) (BadAt words)
-answers (Ok command) words is = sym is
-answers (Err place) words is = sym is
+pub answers : (result : Result Command ℕ) (words : List (List ℕ)) → WordsRead words (command_meant result) → MatchResult result (λ command. IsCommand words (meaning command)) (BadAt words)
+answers (Ok command) words is = is
+answers (Err place) words is = is
 
 module _ {X : Type 0} (f : X → List ℕ) where
-  pub nothing_first : (words : List X) → length words ≡ 0 → Err 0 ≡ read_words (map f words)
+  pub nothing_first : (words : List X) → length words ≡ 0 → WordsRead (map f words) (Err 0)
   nothing_first [] none = refl
   nothing_first (word ∷ words) none = absurd (let e : suc (length words) ≡ 0 = none in cc)
 
@@ -26,13 +26,14 @@ module _ {X : Type 0} (f : X → List ℕ) where
   nothing_asked name (word ∷ words) none = absurd (let e : suc (length words) ≡ 0 = none in cc)
 
   module _ (words : List X) (word : X) (more : List X) (text : List ℕ) (are : words ≡ word ∷ more) (spelled : text ≡ f word) where
-    pub first_read : by_first_word (first_word text) (map f more) ≡ read_words (map f words)
-    first_read = ap (λ t. by_first_word (first_word t) (map f more)) spelled ∙ ap (λ ws. read_words (map f ws)) (sym are)
+    pub first_read : (answer : Result Meaning ℕ) → ByFirstWord (first_word text) (map f more) answer → WordsRead (map f words) answer
+    first_read answer read =
+        subst (λ (ws : List X). WordsRead (map f ws) answer) (sym are) (subst (λ t. ByFirstWord (first_word t) (map f more) answer) spelled read)
 
-    pub first_counted : counted (number_of 512 text) (map f words) ≡ rehearse_words (map f words)
+    pub first_counted : counted (jobs_of text) (map f words) ≡ rehearse_words (map f words)
     first_counted =
-        ap (λ t. counted (number_of 512 t) (map f words)) spelled
-        ∙ subst (λ (ws : List X). counted (number_of 512 (f word)) (map f ws) ≡ rehearse_words (map f ws)) (sym are) refl
+        ap (λ t. counted (jobs_of t) (map f words)) spelled
+        ∙ subst (λ (ws : List X). counted (jobs_of (f word)) (map f ws) ≡ rehearse_words (map f ws)) (sym are) refl
 
     pub first_asked : (name : CommandName) → is_help_first name text (length more) ≡ asks_help name (map f words)
     first_asked name =

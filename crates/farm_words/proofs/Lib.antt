@@ -1,5 +1,9 @@
 mod Cutting
 mod NumberLemmas
-mod OptionLemmas
+mod Walk
+mod Items
+mod OptionReading
 mod CommandLemmas
+pub mod Periods
 pub mod Reading
+pub mod Within

@@ -1,19 +1,90 @@
 -- One reading of each command line.
-use Rattle.std.proofs.Common.{◌≡◌, ℕ, List, Result, Ok, Err, refl, sym, ◌∙◌, inl, inr}
-use Rattle.std.specs.Prelude.{◌⊎◌}
-use Rattle.farm_words.specs.Commands.{BadAt, IsCommand, Meaning, read_words}
+use Rattle.std.proofs.Common.{◌≡◌, ℕ, List, [], ◌∷◌, Bool, true, false, Option, Some, None, Result, Ok, Err, refl, ap, sym, ◌∙◌, inl, inr}
+use Rattle.std.specs.Prelude.{◌⊎◌, MatchBool, if◌then◌else◌}
+use Rattle.farm_words.specs.declared.name.CommandName.{CommandName}
+use Rattle.farm_words.specs.declared.name.CommandName.TheVariants as name
+use Rattle.farm_words.specs.declared.name.FirstWord.{FirstWord}
+use Rattle.farm_words.specs.declared.name.FirstWord.TheVariants as first
+use Rattle.farm_words.specs.Names.{first_word}
+use Rattle.farm_words.specs.Options.{Given}
+use Rattle.farm_words.specs.Commands.{BadAt, IsCommand, Meaning, Build, Cc, Hosts, Scan, Help, Version, at_most, at_least_one, rehearse_words, with_options, asks_help, NamedCommand, ByFirstWord, WordsRead}
+use Rattle.farm_words.proofs.Walk.{options_of}
+use Rattle.farm_words.proofs.OptionReading.{walk_reads, walk_says}
+
+-- a command by the words behind its name
+abbrev command_words : CommandName → List (List ℕ) → Result Meaning ℕ
+command_words name.Build words = with_options Build (options_of name.Build words)
+command_words name.Cc words = at_least_one (Cc words) words
+command_words name.Hosts words = with_options (λ options. Hosts options.hosts) (options_of name.Hosts words)
+command_words name.Scan words = at_least_one (Scan words) words
+command_words name.Rehearse words = rehearse_words words
+
+abbrev by_first_word : Option FirstWord → List (List ℕ) → Result Meaning ℕ
+by_first_word None words = Err 0
+by_first_word (Some first.Help) words = at_most 0 (Help None) words
+by_first_word (Some first.Version) words = at_most 0 Version words
+by_first_word (Some (first.Name name)) words =
+    if asks_help name words then at_most 1 (Help (Some name)) words else command_words name words
+
+-- what words mean, computed
+abbrev read_words : List (List ℕ) → Result Meaning ℕ
+read_words [] = Err 0
+read_words (word ∷ words) = by_first_word (first_word word) words
+
+named_some : (name : CommandName) (words : List (List ℕ)) → NamedCommand name words (command_words name words)
+named_some name.Build words = (options_of name.Build words, walk_reads name.Build words, refl)
+named_some name.Cc words = refl
+named_some name.Hosts words = (options_of name.Hosts words, walk_reads name.Hosts words, refl)
+named_some name.Scan words = refl
+named_some name.Rehearse words = refl
+
+named_one : (name : CommandName) (words : List (List ℕ)) (answer : Result Meaning ℕ) → NamedCommand name words answer → answer ≡ command_words name words
+named_one name.Build words answer read = read.2 ∙ ap (with_options Build) (walk_says name.Build words read.0 read.1)
+named_one name.Cc words answer is = is
+named_one name.Hosts words answer read = read.2 ∙ ap (with_options (λ (options : Given). Hosts options.hosts)) (walk_says name.Hosts words read.0 read.1)
+named_one name.Scan words answer is = is
+named_one name.Rehearse words answer is = is
+
+help_some : (b : Bool) (name : CommandName) (words : List (List ℕ)) (help : Result Meaning ℕ) → MatchBool b ((if b then help else command_words name words) ≡ help) (NamedCommand name words (if b then help else command_words name words))
+help_some true name words help = refl
+help_some false name words help = named_some name words
+
+help_one : (b : Bool) (name : CommandName) (words : List (List ℕ)) (help answer : Result Meaning ℕ) → MatchBool b (answer ≡ help) (NamedCommand name words answer) → answer ≡ (if b then help else command_words name words)
+help_one true name words help answer is = is
+help_one false name words help answer read = named_one name words answer read
+
+first_some : (word : Option FirstWord) (words : List (List ℕ)) → ByFirstWord word words (by_first_word word words)
+first_some None words = refl
+first_some (Some first.Help) words = refl
+first_some (Some first.Version) words = refl
+first_some (Some (first.Name name)) words = help_some (asks_help name words) name words (at_most 1 (Help (Some name)) words)
+
+first_one : (word : Option FirstWord) (words : List (List ℕ)) (answer : Result Meaning ℕ) → ByFirstWord word words answer → answer ≡ by_first_word word words
+first_one None words answer is = is
+first_one (Some first.Help) words answer is = is
+first_one (Some first.Version) words answer is = is
+first_one (Some (first.Name name)) words answer read = help_one (asks_help name words) name words (at_most 1 (Help (Some name)) words) answer read
+
+-- words are read in one way
+read_some : (words : List (List ℕ)) → WordsRead words (read_words words)
+read_some [] = refl
+read_some (word ∷ words) = first_some (first_word word) words
+
+read_one : (words : List (List ℕ)) (answer : Result Meaning ℕ) → WordsRead words answer → answer ≡ read_words words
+read_one [] answer is = is
+read_one (word ∷ words) answer read = first_one (first_word word) words answer read
 
 pub some_reading : (words : List (List ℕ)) → ((meant : Meaning) × IsCommand words meant) ⊎ ((place : ℕ) × BadAt words place)
-some_reading words = elim (read_words words) as (λ r. read_words words ≡ r → ((meant : Meaning) × IsCommand words meant) ⊎ ((place : ℕ) × BadAt words place)) [
+some_reading words = elim (read_words words) as (λ r. WordsRead words r → ((meant : Meaning) × IsCommand words meant) ⊎ ((place : ℕ) × BadAt words place)) [
   | Ok meant ↦ λ is. inl (meant, is)
   | Err place ↦ λ is. inr (place, is)
-] refl
+] (read_some words)
 
 pub one_meaning : (words : List (List ℕ)) (one other : Meaning) → IsCommand words one → IsCommand words other → one ≡ other
-one_meaning words one other h k = let e : ◌≡◌ {A = Result Meaning ℕ} (Ok one) (Ok other) = sym h ∙ k in cc
+one_meaning words one other h k = let e : ◌≡◌ {A = Result Meaning ℕ} (Ok one) (Ok other) = read_one words (Ok one) h ∙ sym (read_one words (Ok other) k) in cc
 
 pub no_both : (words : List (List ℕ)) (meant : Meaning) (place : ℕ) → IsCommand words meant → BadAt words place → ⊥
-no_both words meant place h k = let e : ◌≡◌ {A = Result Meaning ℕ} (Ok meant) (Err place) = sym h ∙ k in cc
+no_both words meant place h k = let e : ◌≡◌ {A = Result Meaning ℕ} (Ok meant) (Err place) = read_one words (Ok meant) h ∙ sym (read_one words (Err place) k) in cc
 
 pub one_place : (words : List (List ℕ)) (place there : ℕ) → BadAt words place → BadAt words there → place ≡ there
-one_place words place there h k = let e : ◌≡◌ {A = Result Meaning ℕ} (Err place) (Err there) = sym h ∙ k in cc
+one_place words place there h k = let e : ◌≡◌ {A = Result Meaning ℕ} (Err place) (Err there) = read_one words (Err place) h ∙ sym (read_one words (Err there) k) in cc

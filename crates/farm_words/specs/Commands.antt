@@ -1,5 +1,5 @@
 -- The commands of `farm`, by their words.
-use Rattle.std.specs.Prelude.{◌≡◌, ℕ, ◌+◌, ◌==◌, nat_le, Bool, false, ◌&&◌, ◌||◌, not, List, [], ◌∷◌, length, map, string_bytes, codes, bytes_eq, Option, Some, None, Result, Ok, Err, if◌then◌else◌}
+use Rattle.std.specs.Prelude.{◌≡◌, ℕ, ◌+◌, ◌==◌, nat_le, Bool, false, ◌&&◌, ◌||◌, not, List, [], ◌∷◌, length, map, string_bytes, codes, bytes_eq, Option, Some, None, Result, Ok, Err, MatchBool, if◌then◌else◌}
 use Rattle.std.specs.Option.{option_copied}
 use Rattle.farm_words.specs.declared.name.CommandName.{CommandName}
 use Rattle.farm_words.specs.declared.name.CommandName.TheVariants as name
@@ -8,8 +8,8 @@ use Rattle.farm_words.specs.declared.name.FirstWord.TheVariants as first
 use Rattle.farm_words.specs.declared.command.Command.{Command}
 use Rattle.farm_words.specs.declared.command.Command.TheVariants as command
 use Rattle.farm_words.specs.Names.{first_word, takes_any_words}
-use Rattle.farm_words.specs.Numbers.{number_of}
-use Rattle.farm_words.specs.Options.{Given, given, options_of}
+use Rattle.farm_words.specs.Numbers.{jobs_of}
+use Rattle.farm_words.specs.Options.{Given, given, OptionsRead}
 
 -- what a command is to do
 pub data Meaning : Type 0 where
@@ -49,25 +49,23 @@ counted (Some jobs) words = at_most 1 (Rehearse jobs) words
 
 abbrev pub rehearse_words : List (List ℕ) → Result Meaning ℕ
 rehearse_words [] = Err 1
-rehearse_words (word ∷ words) = counted (number_of 512 word) (word ∷ words)
+rehearse_words (word ∷ words) = counted (jobs_of word) (word ∷ words)
 
 abbrev pub with_options : (Given → Meaning) → Result Given ℕ → Result Meaning ℕ
 with_options meant (Ok options) = Ok (meant options)
 with_options meant (Err place) = Err place
 
-abbrev pub build_words : List (List ℕ) → Result Meaning ℕ
-build_words words = with_options Build (options_of name.Build words)
-
-abbrev pub hosts_words : List (List ℕ) → Result Meaning ℕ
-hosts_words words = with_options (λ options. Hosts options.hosts) (options_of name.Hosts words)
+-- a command with the options that the words behind its name are
+abbrev pub OptionCommand : CommandName → (Given → Meaning) → List (List ℕ) → Result Meaning ℕ → Type 0
+OptionCommand name meant words answer = (read : Result Given ℕ) × OptionsRead name words read × (answer ≡ with_options meant read)
 
 -- a command by the words behind its name
-abbrev pub command_words : CommandName → List (List ℕ) → Result Meaning ℕ
-command_words name.Build words = build_words words
-command_words name.Cc words = at_least_one (Cc words) words
-command_words name.Hosts words = hosts_words words
-command_words name.Scan words = at_least_one (Scan words) words
-command_words name.Rehearse words = rehearse_words words
+abbrev pub NamedCommand : CommandName → List (List ℕ) → Result Meaning ℕ → Type 0
+NamedCommand name.Build words answer = OptionCommand name.Build Build words answer
+NamedCommand name.Cc words answer = answer ≡ at_least_one (Cc words) words
+NamedCommand name.Hosts words answer = OptionCommand name.Hosts (λ options. Hosts options.hosts) words answer
+NamedCommand name.Scan words answer = answer ≡ at_least_one (Scan words) words
+NamedCommand name.Rehearse words answer = answer ≡ rehearse_words words
 
 -- `--help` stands behind a command's name; where any words may follow the name it is the only one
 abbrev pub is_help_first : CommandName → List ℕ → ℕ → Bool
@@ -77,22 +75,23 @@ abbrev pub asks_help : CommandName → List (List ℕ) → Bool
 asks_help name [] = false
 asks_help name (word ∷ more) = is_help_first name word (length more)
 
-abbrev pub by_first_word : Option FirstWord → List (List ℕ) → Result Meaning ℕ
-by_first_word None words = Err 0
-by_first_word (Some first.Help) words = at_most 0 (Help None) words
-by_first_word (Some first.Version) words = at_most 0 Version words
-by_first_word (Some (first.Name name)) words =
-    if asks_help name words then at_most 1 (Help (Some name)) words else command_words name words
+-- what the first word asks for, with the others behind it
+abbrev pub ByFirstWord : Option FirstWord → List (List ℕ) → Result Meaning ℕ → Type 0
+ByFirstWord None words answer = answer ≡ Err 0
+ByFirstWord (Some first.Help) words answer = answer ≡ at_most 0 (Help None) words
+ByFirstWord (Some first.Version) words answer = answer ≡ at_most 0 Version words
+ByFirstWord (Some (first.Name name)) words answer =
+    MatchBool (asks_help name words) (answer ≡ at_most 1 (Help (Some name)) words) (NamedCommand name words answer)
 
 -- what the words of `farm` mean, or the place of the first that doesn't fit; that of a missing word is their number
-abbrev pub read_words : List (List ℕ) → Result Meaning ℕ
-read_words [] = Err 0
-read_words (word ∷ words) = by_first_word (first_word word) words
+abbrev pub WordsRead : List (List ℕ) → Result Meaning ℕ → Type 0
+WordsRead [] answer = answer ≡ Err 0
+WordsRead (word ∷ words) answer = ByFirstWord (first_word word) words answer
 
 -- the words are this command
 abbrev pub IsCommand : List (List ℕ) → Meaning → Type 0
-IsCommand words meant = read_words words ≡ Ok meant
+IsCommand words meant = WordsRead words (Ok meant)
 
 -- the words are no command, and this is the place of the first that doesn't fit
 abbrev pub BadAt : List (List ℕ) → ℕ → Type 0
-BadAt words place = read_words words ≡ Err place
+BadAt words place = WordsRead words (Err place)

@@ -1,5 +1,7 @@
 -- What the environment says.
-use Rattle.std.specs.Prelude.{ℕ, Bool, false, ◌&&◌, not, List, [], ◌∷◌, codes, bytes_eq, Option, Some, None, unwrap_or, if◌then◌else◌}
+use Rattle.std.specs.Prelude.{◌≡◌, ℕ, Bool, false, ◌&&◌, not, List, [], ◌∷◌, codes, bytes_eq, Option, Some, None, unwrap_or, MatchOption, if◌then◌else◌}
+use Rattle.farm_words.specs.Limits.{period_default}
+use Rattle.farm_words.specs.Numbers.{IsPeriod}
 
 -- the value of a variable, each of which is a name and a value: of a name that stands twice the first holds
 abbrev pub value_of : List (List ℕ × List ℕ) → List ℕ → Option (List ℕ)
@@ -19,3 +21,11 @@ is_zero (Some value) = bytes_eq value (codes "0")
 -- neither `--no-fallback` nor `DISTCC_FALLBACK` turns fallback off
 abbrev pub is_fallback_on : Bool → List (List ℕ × List ℕ) → Bool
 is_fallback_on fallback variables = fallback && not (is_zero (value_of variables (codes "DISTCC_FALLBACK")))
+
+-- the back-off period in seconds: that of `DISTCC_BACKOFF_PERIOD`, or the default where the name doesn't stand
+abbrev pub PeriodOf : List (List ℕ × List ℕ) → ℕ → Type 0
+PeriodOf variables period = MatchOption (value_of variables (codes "DISTCC_BACKOFF_PERIOD")) (period ≡ period_default) (λ value. IsPeriod value period)
+
+-- the name stands, and its value is no period
+abbrev pub HasBadPeriod : List (List ℕ × List ℕ) → Type 0
+HasBadPeriod variables = MatchOption (value_of variables (codes "DISTCC_BACKOFF_PERIOD")) ⊥ (λ value. (n : ℕ) → ¬ (IsPeriod value n))

@@ -1,13 +1,81 @@
--- The help of each command.
-use Rattle.std.specs.Prelude.{ℕ, List, Option, Some, None}
+-- What `--help` and `--version` print.
+use Rattle.std.specs.Prelude.{ℕ, List, ◌++◌, codes, Option, Some, None}
 use Rattle.farm_words.specs.declared.name.CommandName.{CommandName}
 use Rattle.farm_words.specs.declared.name.CommandName.TheVariants as command
-use Rattle.farm_words.specs.declared.help.TheConstants.{PROGRAM_HELP, BUILD_HELP, CC_HELP, HOSTS_HELP, SCAN_HELP, REHEARSE_HELP}
+
+-- the version
+abbrev pub version : List ℕ
+version =
+    codes "farm 0.1, distcc protocol 1\n"
+
+-- the help of the program
+abbrev pub program_help : List ℕ
+program_help =
+    codes "Usage: farm COMMAND [WORD]...\n"
+    ++ codes "Compiles on other machines, by distcc's protocol.\n"
+    ++ codes "\n"
+    ++ codes "Commands:\n"
+    ++ codes "  build     do the job on standard input\n"
+    ++ codes "  cc        do one compile command (not built yet)\n"
+    ++ codes "  hosts     print the host list\n"
+    ++ codes "  scan      say whether a compile command may be sent\n"
+    ++ codes "  rehearse  do made-up jobs in memory (not built yet)\n"
+    ++ codes "\n"
+    ++ codes "farm COMMAND --help says more of a command; farm --version prints the version.\n"
+    ++ codes "\n"
+    ++ codes "Environment:\n"
+    ++ codes "  DISTCC_HOSTS           the host list, where --hosts gives none\n"
+    ++ codes "  DISTCC_FALLBACK        if it is 0, as --no-fallback\n"
+    ++ codes "  DISTCC_BACKOFF_PERIOD  for how many seconds a host that failed is left alone,\n"
+    ++ codes "                         0 to 1000000; 60 where it isn't there\n"
+
+-- the help of each command
+abbrev pub build_help : List ℕ
+build_help =
+    codes "Usage: farm build [OPTION]...\n"
+    ++ codes "Does the compile command on standard input: one line, words apart by one space.\n"
+    ++ codes "\n"
+    ++ codes "Options, in any order, each at most once:\n"
+    ++ codes "  --hosts LIST   the host list, in place of DISTCC_HOSTS\n"
+    ++ codes "  --workers N    do at most N jobs at once, 1 to 16; 4 where it isn't given\n"
+    ++ codes "  --tries N      try at most N hosts for a job, 1 to 16; 1 where it isn't given\n"
+    ++ codes "  --no-fallback  don't compile here what no host compiled\n"
+    ++ codes "  --no-retry     don't compile here what failed on a host\n"
+    ++ codes "\n"
+    ++ codes "So far a build does one job, and --workers and --tries change nothing.\n"
+
+abbrev pub cc_help : List ℕ
+cc_help =
+    codes "Usage: farm cc WORD...\n"
+    ++ codes "Does the compile command that the words are, with the hosts of DISTCC_HOSTS.\n"
+    ++ codes "\n"
+    ++ codes "Not built yet.\n"
+
+abbrev pub hosts_help : List ℕ
+hosts_help =
+    codes "Usage: farm hosts [--hosts LIST]\n"
+    ++ codes "Prints the host list as farm reads it, one host a line.\n"
+    ++ codes "\n"
+    ++ codes "  --hosts LIST   the host list, in place of DISTCC_HOSTS\n"
+
+abbrev pub scan_help : List ℕ
+scan_help =
+    codes "Usage: farm scan WORD...\n"
+    ++ codes "Prints the class of the compile command that the words are: remote, with its\n"
+    ++ codes "action, source and output, where it may be sent; or local, with the number and\n"
+    ++ codes "the place of the reason, where it has to be done here.\n"
+
+abbrev pub rehearse_help : List ℕ
+rehearse_help =
+    codes "Usage: farm rehearse N\n"
+    ++ codes "Does N made-up jobs, 1 to 512, in memory.\n"
+    ++ codes "\n"
+    ++ codes "Not built yet.\n"
 
 abbrev pub help_of : Option CommandName → List ℕ
-help_of None = PROGRAM_HELP.now
-help_of (Some command.Build) = BUILD_HELP.now
-help_of (Some command.Cc) = CC_HELP.now
-help_of (Some command.Hosts) = HOSTS_HELP.now
-help_of (Some command.Scan) = SCAN_HELP.now
-help_of (Some command.Rehearse) = REHEARSE_HELP.now
+help_of None = program_help
+help_of (Some command.Build) = build_help
+help_of (Some command.Cc) = cc_help
+help_of (Some command.Hosts) = hosts_help
+help_of (Some command.Scan) = scan_help
+help_of (Some command.Rehearse) = rehearse_help

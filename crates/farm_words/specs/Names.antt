@@ -19,14 +19,37 @@ first_word word =
     else (if bytes_eq word (codes "--version") then Some first.Version
     else None))))))
 
+-- the word that names an option
+abbrev pub option_text : OptionName → List ℕ
+option_text option.Hosts = codes "--hosts"
+option_text option.Workers = codes "--workers"
+option_text option.Tries = codes "--tries"
+option_text option.NoFallback = codes "--no-fallback"
+option_text option.NoRetry = codes "--no-retry"
+
 -- the option that a word names
 abbrev pub option_named : List ℕ → Option OptionName
 option_named word =
-    if bytes_eq word (codes "--hosts") then Some option.Hosts
-    else (if bytes_eq word (codes "--workers") then Some option.Workers
-    else (if bytes_eq word (codes "--no-fallback") then Some option.NoFallback
-    else (if bytes_eq word (codes "--no-retry") then Some option.NoRetry
-    else None)))
+    if bytes_eq word (option_text option.Hosts) then Some option.Hosts
+    else (if bytes_eq word (option_text option.Workers) then Some option.Workers
+    else (if bytes_eq word (option_text option.Tries) then Some option.Tries
+    else (if bytes_eq word (option_text option.NoFallback) then Some option.NoFallback
+    else (if bytes_eq word (option_text option.NoRetry) then Some option.NoRetry
+    else None))))
+
+-- a word stands behind it
+abbrev pub takes_value : OptionName → Bool
+takes_value option.NoFallback = false
+takes_value option.NoRetry = false
+takes_value _ = true
+
+abbrev pub same_option : OptionName → OptionName → Bool
+same_option option.Hosts option.Hosts = true
+same_option option.Workers option.Workers = true
+same_option option.Tries option.Tries = true
+same_option option.NoFallback option.NoFallback = true
+same_option option.NoRetry option.NoRetry = true
+same_option _ _ = false
 
 -- `build` has all options, and `hosts` has `--hosts`
 abbrev pub has_option : CommandName → OptionName → Bool

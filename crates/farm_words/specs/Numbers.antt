@@ -1,27 +1,43 @@
 -- The numbers that words spell.
-use Rattle.std.specs.Prelude.{◌≡◌, ◌≢◌, ◌≤◌, ℕ, Bool, true, ◌&&◌, ◌==◌, not, nat_le, nat_lt, List, [], ◌∷◌, length, slice_index, Option, Some, None, if◌then◌else◌}
+use Rattle.std.specs.Prelude.{◌≡◌, ◌≤◌, ℕ, Bool, true, ◌&&◌, nat_le, nat_lt, List, [], ◌∷◌, length, Option, Some, None, if◌then◌else◌}
 use Rattle.std.specs.Char.{digit_value}
 use Rattle.std.specs.Str.Parse.{IsNumeral, digits_value}
+use Rattle.farm_words.specs.Limits.{count_digits, workers_max, jobs_max, tries_digits, tries_max, period_digits, period_max}
+
+-- The word spells this number in at most so many decimal digits, with nothing beside them, and the number is within these two.
+pub record IsNumber (digits least greatest : ℕ) (word : List ℕ) (n : ℕ) : Type 0 where
+  pub numeral : IsNumeral 10 word
+  pub few : length word ≤ digits
+  pub value : digits_value 10 word ≡ n
+  pub enough : least ≤ n
+  pub most : n ≤ greatest
 
 -- each byte is a decimal digit
 abbrev pub all_digits : List ℕ → Bool
 all_digits [] = true
 all_digits (byte ∷ bytes) = nat_lt (digit_value byte) 10 && all_digits bytes
 
--- 1 to 3 decimal digits, of which the first is no `0`
-abbrev pub is_short_number : List ℕ → Bool
-is_short_number word =
-    nat_le 1 (length word) && nat_le (length word) 3 && all_digits word && not (slice_index word 0 == 48)
+-- 1 to so many decimal digits
+abbrev pub is_short_number : ℕ → List ℕ → Bool
+is_short_number digits word = nat_le 1 (length word) && nat_le (length word) digits && all_digits word
 
--- the number from 1 to the greatest that a word spells so
-abbrev pub number_of : ℕ → List ℕ → Option ℕ
-number_of greatest word =
-    if is_short_number word && nat_le (digits_value 10 word) greatest then Some (digits_value 10 word) else None
+-- the number that the word spells so
+abbrev pub number_of : ℕ → ℕ → ℕ → List ℕ → Option ℕ
+number_of digits least greatest word =
+    if is_short_number digits word && nat_le least (digits_value 10 word) && nat_le (digits_value 10 word) greatest then Some (digits_value 10 word) else None
 
--- the word spells this number so
-pub record IsNumber (greatest : ℕ) (word : List ℕ) (n : ℕ) : Type 0 where
-  pub numeral : IsNumeral 10 word
-  pub few : length word ≤ 3
-  pub first : slice_index word 0 ≢ 48
-  pub value : digits_value 10 word ≡ n
-  pub most : n ≤ greatest
+-- the number of `--workers`
+abbrev pub workers_of : List ℕ → Option ℕ
+workers_of word = number_of count_digits 1 workers_max word
+
+-- the number of `--tries`
+abbrev pub tries_of : List ℕ → Option ℕ
+tries_of word = number_of tries_digits 1 tries_max word
+
+-- the number of jobs of a rehearsal
+abbrev pub jobs_of : List ℕ → Option ℕ
+jobs_of word = number_of count_digits 1 jobs_max word
+
+-- the word spells this back-off period
+abbrev pub IsPeriod : List ℕ → ℕ → Type 0
+IsPeriod word n = IsNumber period_digits 0 period_max word n

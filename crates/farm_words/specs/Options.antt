@@ -1,84 +1,111 @@
--- The options of a command, word by word.
-use Rattle.std.specs.Prelude.{ℕ, ◌+◌, Bool, true, false, ◌&&◌, not, List, [], ◌∷◌, Option, Some, None, is_some, Result, Ok, Err, if◌then◌else◌}
-use Rattle.std.specs.Option.{option_map, option_copied}
+-- The options of a command, by the words that they are.
+use Rattle.std.specs.Prelude.{◌≡◌, ℕ, ◌+◌, Bool, true, false, not, List, [], ◌∷◌, ◌++◌, length, Option, Some, None, is_some, unwrap_or, Result, Ok, Err, if◌then◌else◌}
+use Rattle.std.specs.List.{flat_map}
+use Rattle.std.specs.Option.{option_and_then, option_copied}
 use Rattle.farm_words.specs.declared.name.CommandName.{CommandName}
 use Rattle.farm_words.specs.declared.name.OptionName.{OptionName}
 use Rattle.farm_words.specs.declared.name.OptionName.TheVariants as option
 use Rattle.farm_words.specs.declared.options.Options.{Options}
-use Rattle.farm_words.specs.declared.options.Expected.{Expected}
-use Rattle.farm_words.specs.declared.options.Expected.TheVariants as expected
-use Rattle.farm_words.specs.declared.options.Reading.{Reading}
-use Rattle.farm_words.specs.Names.{option_named, has_option}
-use Rattle.farm_words.specs.Numbers.{number_of}
+use Rattle.farm_words.specs.Limits.{workers_default, tries_default}
+use Rattle.farm_words.specs.Names.{option_text, takes_value, same_option, has_option}
+use Rattle.farm_words.specs.Numbers.{workers_of, tries_of}
 
 -- what options say
 pub record Given : Type 0 where
   pub hosts : Option (List ℕ)
   pub workers : Option ℕ
+  pub tries : Option ℕ
   pub fallback : Bool
   pub retry : Bool
 
 abbrev pub given : Options → Given
-given options = record { hosts = option_copied options.hosts; workers = options.workers; fallback = options.fallback; retry = options.retry }
+given options = record { hosts = option_copied options.hosts; workers = options.workers; tries = options.tries; fallback = options.fallback; retry = options.retry }
+
+-- the number of workers, and of exchanges that a job may make
+abbrev pub worker_count : Given → ℕ
+worker_count given = unwrap_or given.workers workers_default
+
+abbrev pub try_count : Given → ℕ
+try_count given = unwrap_or given.tries tries_default
+
+-- an option, and the word behind it where it has a value
+pub record Item : Type 0 where
+  pub name : OptionName
+  pub value : List ℕ
+
+-- the words that it is
+abbrev pub item_words : Item → List (List ℕ)
+item_words item = option_text item.name ∷ (if takes_value item.name then item.value ∷ [] else [])
+
+abbrev pub items_words : List Item → List (List ℕ)
+items_words items = flat_map item_words items
+
+-- the word may be the value of this option
+abbrev pub value_fits : OptionName → List ℕ → Bool
+value_fits option.Hosts word = true
+value_fits option.Workers word = is_some (workers_of word)
+value_fits option.Tries word = is_some (tries_of word)
+value_fits option.NoFallback word = true
+value_fits option.NoRetry word = true
+
+-- the value of the option of this name, where it is among these
+abbrev pub value_in : OptionName → List Item → Option (List ℕ)
+value_in name [] = None
+value_in name (item ∷ items) = if same_option item.name name then Some item.value else value_in name items
+
+-- it is among these
+abbrev pub stands_in : OptionName → List Item → Bool
+stands_in name items = is_some (value_in name items)
+
+-- what these options say
+abbrev pub given_by : List Item → Given
+given_by items = record {
+  hosts = value_in option.Hosts items;
+  workers = option_and_then workers_of (value_in option.Workers items);
+  tries = option_and_then tries_of (value_in option.Tries items);
+  fallback = not (stands_in option.NoFallback items);
+  retry = not (stands_in option.NoRetry items);
+}
+
+-- an option of this name may stand behind these: the command has it, and it isn't among them
+pub record MayFollow (command : CommandName) (items : List Item) (name : OptionName) : Type 0 where
+  pub of_command : has_option command name ≡ true
+  pub first : stands_in name items ≡ false
+
+-- options that the command may have, in any order, each at most once, whose values fit
+pub data AreItems (command : CommandName) : List Item → Type 0 where
+  no_items : AreItems command []
+  one_more : {items : List Item} (item : Item) → AreItems command items → MayFollow command items item.name → value_fits item.name item.value ≡ true → AreItems command (items ++ item ∷ [])
+
+-- the words are options of the command, one after another, and say this
+pub record AreOptions (command : CommandName) (words : List (List ℕ)) (says : Given) : Type 0 where
+  pub items : List Item
+  pub right : AreItems command items
+  pub are : words ≡ items_words items
+  pub said : says ≡ given_by items
+
+-- Behind these options the words don't go on as options: the word at this place, counted from 0 among these words, doesn't fit.
+pub data StopAt (command : CommandName) (items : List Item) : List (List ℕ) → ℕ → Type 0 where
+  no_option : {word : List ℕ} {more : List (List ℕ)} → ((name : OptionName) → word ≡ option_text name → MayFollow command items name → ⊥) → StopAt command items (word ∷ more) 0
+  no_value : {name : OptionName} → MayFollow command items name → takes_value name ≡ true → StopAt command items (option_text name ∷ []) 1
+  bad_value : {name : OptionName} {value : List ℕ} {more : List (List ℕ)} → MayFollow command items name → takes_value name ≡ true → value_fits name value ≡ false → StopAt command items (option_text name ∷ value ∷ more) 1
+
+-- The words are no options of the command, and this is the place, on the command line, of the first that doesn't fit: options stand in front of it,
+-- one after another. The first of these words stands at place 1. That of a missing word is behind the last.
+pub record BadOptionAt (command : CommandName) (words : List (List ℕ)) (place : ℕ) : Type 0 where
+  pub items : List Item
+  pub rest : List (List ℕ)
+  pub behind : ℕ
+  pub right : AreItems command items
+  pub are : words ≡ items_words items ++ rest
+  pub stop : StopAt command items rest behind
+  pub at : place ≡ 1 + length (items_words items) + behind
+
+-- what words say as options, or the place of the first that doesn't fit
+abbrev pub OptionsRead : CommandName → List (List ℕ) → Result Given ℕ → Type 0
+OptionsRead command words (Ok says) = AreOptions command words says
+OptionsRead command words (Err place) = BadOptionAt command words place
 
 abbrev pub options_meant : Result Options ℕ → Result Given ℕ
 options_meant (Ok options) = Ok (given options)
 options_meant (Err place) = Err place
-
--- what options say where there are none
-abbrev pub nothing_given : Given
-nothing_given = record { hosts = None; workers = None; fallback = true; retry = true }
-
--- what the words so far say, and what the next word has to be
-pub record State : Type 0 where
-  pub given : Given
-  pub expected : Expected
-
-abbrev pub state : Reading → State
-state reading = record { given = given reading.options; expected = reading.expected }
-
--- whether an option stood already
-abbrev pub is_given : Given → OptionName → Bool
-is_given given option.Hosts = is_some given.hosts
-is_given given option.Workers = is_some given.workers
-is_given given option.NoFallback = not given.fallback
-is_given given option.NoRetry = not given.retry
-
--- the state behind an option's name
-abbrev pub begin_option : Given → OptionName → State
-begin_option given option.Hosts = record { given = given; expected = expected.HostList }
-begin_option given option.Workers = record { given = given; expected = expected.WorkerCount }
-begin_option given option.NoFallback = record { given = record given { fallback = false }; expected = expected.Option }
-begin_option given option.NoRetry = record { given = record given { retry = false }; expected = expected.Option }
-
--- an option that the command has, and that didn't stand before
-abbrev pub after_option : CommandName → Given → Option OptionName → Option State
-after_option command given None = None
-after_option command given (Some name) =
-    if has_option command name && not (is_given given name) then Some (begin_option given name) else None
-
--- the state behind a word: none where the word doesn't fit
-abbrev pub after_word : CommandName → Given → Expected → List ℕ → Option State
-after_word command given expected.Option word = after_option command given (option_named word)
-after_word command given expected.HostList word =
-    Some (record { given = record given { hosts = Some word }; expected = expected.Option })
-after_word command given expected.WorkerCount word =
-    option_map (λ workers. record { given = record given { workers = Some workers }; expected = expected.Option }) (number_of 16 word)
-
--- behind the last word no value may be missing
-abbrev pub at_end : Given → Expected → ℕ → Result Given ℕ
-at_end given expected.Option place = Ok given
-at_end given _ place = Err place
-
--- What these words and those before them say; or the place of the first that doesn't fit, where the first of these words
--- stands at `place`.
-abbrev pub options_from : CommandName → ℕ → State → List (List ℕ) → Result Given ℕ
-options_from command place reached [] = at_end reached.given reached.expected place
-options_from command place reached (word ∷ words) = elim (after_word command reached.given reached.expected word) [
-  | None ↦ Err place
-  | Some next ↦ options_from command (place + 1) next words
-]
-
--- what the options of a command say, whose first word stands at place 1
-abbrev pub options_of : CommandName → List (List ℕ) → Result Given ℕ
-options_of command words = options_from command 1 (record { given = nothing_given; expected = expected.Option }) words

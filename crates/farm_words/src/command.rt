@@ -1,9 +1,9 @@
 //! The commands of `farm`.
 
 ghost use Rattle.std.specs.Prelude.{◌≡◌, ◌≤◌, map, string_bytes, MatchResult};
-ghost use Rattle.farm_words.specs.Commands.{BadAt, IsCommand, asks_help, at_least_one, at_most, build_words, by_first_word, command_meant, command_words, counted, hosts_words, is_help_first, meaning, rehearse_words};
+ghost use Rattle.farm_words.specs.Commands.{BadAt, ByFirstWord, IsCommand, NamedCommand, asks_help, at_least_one, at_most, command_meant, counted, is_help_first, meaning, rehearse_words};
 ghost use Rattle.farm_words.specs.Names.{first_word};
-ghost use Rattle.farm_words.specs.Numbers.{number_of};
+ghost use Rattle.farm_words.specs.Numbers.{jobs_of};
 
 use crate::name::{CommandName, FirstWord, is_help, parse_first_word};
 use crate::number::parse_jobs;
@@ -72,7 +72,7 @@ fn is_help_asked(name: CommandName, words: &[String]) -> bool
 }
 
 fn parse_build(words: &[String]) -> Result<Command<'_>, usize>
-    ensures { command_meant result ≡ build_words (map string_bytes words.now) }
+    ensures { NamedCommand CommandName.Build (map string_bytes words.now) (command_meant result) }
 {
     match parse_options(CommandName::Build, words) {
         Ok(options) => Ok(Command::Build(options)),
@@ -81,7 +81,7 @@ fn parse_build(words: &[String]) -> Result<Command<'_>, usize>
 }
 
 fn parse_hosts(words: &[String]) -> Result<Command<'_>, usize>
-    ensures { command_meant result ≡ hosts_words (map string_bytes words.now) }
+    ensures { NamedCommand CommandName.Hosts (map string_bytes words.now) (command_meant result) }
 {
     match parse_options(CommandName::Hosts, words) {
         Ok(options) => Ok(Command::Hosts {
@@ -93,7 +93,7 @@ fn parse_hosts(words: &[String]) -> Result<Command<'_>, usize>
 
 // A rehearsal of as many jobs as a word says, which is the first of these.
 fn with_jobs<'a>(word: &str, words: &'a [String]) -> Result<Command<'a>, usize>
-    ensures { command_meant result ≡ counted (number_of 512 word.now) (map string_bytes words.now) }
+    ensures { command_meant result ≡ counted (jobs_of word.now) (map string_bytes words.now) }
 {
     match parse_jobs(word) {
         Some(jobs) => with_at_most(Command::Rehearse { jobs }, words, 1),
@@ -112,7 +112,7 @@ fn parse_rehearse(words: &[String]) -> Result<Command<'_>, usize>
 
 // The command with this name, by the words behind it.
 fn parse_named(name: CommandName, words: &[String]) -> Result<Command<'_>, usize>
-    ensures { command_meant result ≡ command_words name (map string_bytes words.now) }
+    ensures { NamedCommand name (map string_bytes words.now) (command_meant result) }
 {
     match name {
         CommandName::Build => parse_build(words),
@@ -124,7 +124,7 @@ fn parse_named(name: CommandName, words: &[String]) -> Result<Command<'_>, usize
 }
 
 fn parse_by_name(name: CommandName, words: &[String]) -> Result<Command<'_>, usize>
-    ensures { command_meant result ≡ by_first_word (Some (FirstWord.Name name)) (map string_bytes words.now) }
+    ensures { ByFirstWord (Some (FirstWord.Name name)) (map string_bytes words.now) (command_meant result) }
 {
     if is_help_asked(name, words) {
         with_at_most(Command::Help(Some(name)), words, 1)
@@ -135,7 +135,7 @@ fn parse_by_name(name: CommandName, words: &[String]) -> Result<Command<'_>, usi
 
 // The command by its first word and the others.
 fn parse_after<'a>(first: &str, words: &'a [String]) -> Result<Command<'a>, usize>
-    ensures { command_meant result ≡ by_first_word (first_word first.now) (map string_bytes words.now) }
+    ensures { ByFirstWord (first_word first.now) (map string_bytes words.now) (command_meant result) }
 {
     match parse_first_word(first) {
         None => Err(0),

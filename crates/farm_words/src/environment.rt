@@ -1,10 +1,12 @@
 //! What is read from the environment.
 
-ghost use Rattle.std.specs.Prelude.{◌≡◌, bytes_eq, map, string_bytes};
+ghost use Rattle.std.specs.Prelude.{◌≡◌, bytes_eq, map, string_bytes, MatchOption};
 ghost use Rattle.std.specs.Option.{option_copied};
-ghost use Rattle.farm_words.specs.Environment.{host_text_of, is_fallback_on, is_zero, value_of};
+ghost use Rattle.farm_words.specs.Environment.{HasBadPeriod, PeriodOf, host_text_of, is_fallback_on, is_zero, value_of};
 
+use crate::number::parse_period;
 use crate::options::Options;
+use farm_types::limits::PERIOD_DEFAULT;
 
 fn has_name(variable: &(String, String), name: &str) -> bool
     ensures { result ≡ bytes_eq (string_bytes variable.now.0) name.now }
@@ -54,5 +56,18 @@ fn is_off(value: Option<&str>) -> bool
     match value {
         Some(value) => value == "0",
         None => false,
+    }
+}
+
+/// For how many seconds a host that broke an exchange is left alone: the number of `DISTCC_BACKOFF_PERIOD`, 0 to 1,000,000 in 1
+/// to 7 decimal digits, or 60 where the name doesn't stand. None where its value is anything else. Takes no memory.
+pub fn back_off_period(env: &[(String, String)]) -> Option<u32>
+    ensures { MatchOption result
+        (HasBadPeriod (map (λ v. (string_bytes v.0, string_bytes v.1)) env.now))
+        (PeriodOf (map (λ v. (string_bytes v.0, string_bytes v.1)) env.now)) }
+{
+    match lookup(env, "DISTCC_BACKOFF_PERIOD") {
+        Some(value) => parse_period(value),
+        None => Some(PERIOD_DEFAULT),
     }
 }

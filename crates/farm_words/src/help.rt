@@ -1,7 +1,7 @@
 //! What `--help` and `--version` print (docs/usage.md says the same).
 
 ghost use Rattle.std.specs.Prelude.{◌≡◌};
-ghost use Rattle.farm_words.specs.Help.{help_of};
+ghost use Rattle.farm_words.specs.Help.{help_of, version};
 
 use crate::name::CommandName;
 
@@ -22,8 +22,10 @@ Commands:
 farm COMMAND --help says more of a command; farm --version prints the version.
 
 Environment:
-  DISTCC_HOSTS     the host list, where --hosts gives none
-  DISTCC_FALLBACK  if it is 0, as --no-fallback
+  DISTCC_HOSTS           the host list, where --hosts gives none
+  DISTCC_FALLBACK        if it is 0, as --no-fallback
+  DISTCC_BACKOFF_PERIOD  for how many seconds a host that failed is left alone,
+                         0 to 1000000; 60 where it isn't there
 ";
 
 /// What `farm build --help` prints.
@@ -32,11 +34,12 @@ Does the compile command on standard input: one line, words apart by one space.
 
 Options, in any order, each at most once:
   --hosts LIST   the host list, in place of DISTCC_HOSTS
-  --workers N    do at most N jobs at once, 1 to 16
+  --workers N    do at most N jobs at once, 1 to 16; 4 where it isn't given
+  --tries N      try at most N hosts for a job, 1 to 16; 1 where it isn't given
   --no-fallback  don't compile here what no host compiled
   --no-retry     don't compile here what failed on a host
 
-So far a build does one job, and --workers changes nothing.
+So far a build does one job, and --workers and --tries change nothing.
 ";
 
 /// What `farm cc --help` prints.
@@ -83,7 +86,7 @@ pub fn help_text(name: Option<CommandName>) -> &'static [u8]
 
 /// The program's version.
 pub fn version_text() -> &'static [u8]
-    ensures { result.now ≡ VERSION.now }
+    ensures { result.now ≡ version }
 {
     VERSION
 }

@@ -10,9 +10,9 @@ mod number;
 mod options;
 
 pub use command::{Command, parse_command};
-pub use environment::{host_text, is_fallback_on, lookup};
+pub use environment::{back_off_period, host_text, is_fallback_on, lookup};
 pub use help::{help_text, version_text};
-pub use laws::one_reading;
+pub use laws::{one_period, one_reading};
 pub use name::CommandName;
 pub use options::Options;
 

@@ -31,6 +31,7 @@ pub(crate) enum FirstWord {
 pub(crate) enum OptionName {
     Hosts,
     Workers,
+    Tries,
     NoFallback,
     NoRetry,
 }
@@ -85,6 +86,7 @@ pub(crate) fn parse_option_name(word: &str) -> Option<OptionName>
     match word {
         "--hosts" => Some(OptionName::Hosts),
         "--workers" => Some(OptionName::Workers),
+        "--tries" => Some(OptionName::Tries),
         "--no-fallback" => Some(OptionName::NoFallback),
         "--no-retry" => Some(OptionName::NoRetry),
         _ => None,

@@ -1,19 +1,31 @@
 //! Numbers in words.
 
 ghost use Rattle.std.specs.Prelude.{◌≡◌, ◌≤◌, ℕ, MatchOption};
-ghost use Rattle.farm_words.specs.Numbers.{IsNumber, number_of};
+ghost use Rattle.farm_words.specs.Numbers.{IsNumber, IsPeriod, jobs_of, tries_of, workers_of};
 
-use farm_types::limits::{JOBS_MAX, WORKERS_MAX};
+use farm_types::limits::{JOBS_MAX, PERIOD_MAX, WORKERS_MAX};
 
-// The number from 1 to the greatest that a word spells in 1 to 3 decimal digits, without a sign or a leading zero.
-fn parse_number(word: &str, greatest: u16) -> Option<u16>
-    ensures { MatchOption result ((n : ℕ) → ¬ (IsNumber greatest word.now n)) (IsNumber greatest word.now) }
+/// The most decimal digits of a number of workers or of jobs.
+const COUNT_DIGITS: usize = 3;
+
+/// The most decimal digits of a number of tries.
+const TRIES_DIGITS: usize = 2;
+
+/// The most exchanges that a job may make.
+const TRIES_MAX: u32 = 16;
+
+/// The most decimal digits of a back-off period.
+const PERIOD_DIGITS: usize = 7;
+
+// The number within these two that a word spells in at most so many decimal digits, with nothing beside them.
+fn parse_number(word: &str, digits: usize, least: u32, greatest: u32) -> Option<u32>
+    ensures { MatchOption result ((n : ℕ) → ¬ (IsNumber digits least greatest word.now n)) (IsNumber digits least greatest word.now) }
 {
-    if 3 < word.len() || word.starts_with('+') || word.starts_with('0') {
+    if digits < word.len() || word.starts_with('+') {
         return None;
     }
-    match word.parse::<u16>() {
-        Ok(number) if number <= greatest => Some(number),
+    match word.parse::<u32>() {
+        Ok(number) if least <= number && number <= greatest => Some(number),
         Ok(_) => None,
         Err(_) => None,
     }
@@ -21,20 +33,37 @@ fn parse_number(word: &str, greatest: u16) -> Option<u16>
 
 // The number of workers that a word spells.
 pub(crate) fn parse_workers(word: &str) -> Option<u8>
-    ensures { result ≡ number_of 16 word.now }
+    ensures { result ≡ workers_of word.now }
 {
-    match parse_number(word, WORKERS_MAX as u16) {
+    match parse_number(word, COUNT_DIGITS, 1, WORKERS_MAX as u32) {
         Some(workers) => Some(workers as u8),
+        None => None,
+    }
+}
+
+// The number of tries that a word spells.
+pub(crate) fn parse_tries(word: &str) -> Option<u8>
+    ensures { result ≡ tries_of word.now }
+{
+    match parse_number(word, TRIES_DIGITS, 1, TRIES_MAX) {
+        Some(tries) => Some(tries as u8),
         None => None,
     }
 }
 
 // The number of jobs that a word spells.
 pub(crate) fn parse_jobs(word: &str) -> Option<u16>
-    ensures { result ≡ number_of 512 word.now }
+    ensures { result ≡ jobs_of word.now }
 {
-    match parse_number(word, JOBS_MAX as u16) {
-        Some(jobs) => Some(jobs),
+    match parse_number(word, COUNT_DIGITS, 1, JOBS_MAX as u32) {
+        Some(jobs) => Some(jobs as u16),
         None => None,
     }
+}
+
+// The back-off period that a word spells.
+pub(crate) fn parse_period(word: &str) -> Option<u32>
+    ensures { MatchOption result ((n : ℕ) → ¬ (IsPeriod word.now n)) (IsPeriod word.now) }
+{
+    parse_number(word, PERIOD_DIGITS, 0, PERIOD_MAX)
 }

@@ -2,10 +2,12 @@
 
 ghost use Rattle.std.specs.Prelude.{◌≡◌, map, string_bytes};
 ghost use Rattle.std.specs.Option.{option_map};
-ghost use Rattle.farm_words.specs.Options.{after_word, at_end, begin_option, given, is_given, options_meant, options_of, state};
+ghost use Rattle.farm_words.specs.Options.{OptionsRead, given, options_meant, try_count, worker_count};
+ghost use Rattle.farm_words.specs.Steps.{after_word, at_end, begin_option, is_given, state};
 
 use crate::name::{CommandName, OptionName, parse_option_name};
-use crate::number::parse_workers;
+use crate::number::{parse_tries, parse_workers};
+use farm_types::limits::WORKERS_DEFAULT;
 
 /// What the options of a command say.
 #[derive(Clone, Copy, Debug, PartialEq, Eq)]
@@ -14,10 +16,31 @@ pub struct Options<'a> {
     pub hosts: Option<&'a str>,
     /// The number of `--workers`, 1 to 16.
     pub workers: Option<u8>,
+    /// The number of `--tries`, 1 to 16.
+    pub tries: Option<u8>,
     /// False with `--no-fallback`.
     pub fallback: bool,
     /// False with `--no-retry`.
     pub retry: bool,
+}
+
+/// The exchanges that a job may make where `--tries` isn't given.
+const TRIES_DEFAULT: u8 = 1;
+
+impl Options<'_> {
+    /// The number of workers: that of `--workers`, or else 4.
+    pub fn worker_count(&self) -> u8
+        ensures { result ≡ worker_count (given self.now) }
+    {
+        self.workers.unwrap_or(WORKERS_DEFAULT as u8)
+    }
+
+    /// How many exchanges a job may make: the number of `--tries`, or else 1.
+    pub fn try_count(&self) -> u8
+        ensures { result ≡ try_count (given self.now) }
+    {
+        self.tries.unwrap_or(TRIES_DEFAULT)
+    }
 }
 
 // What the next word has to be.
@@ -26,6 +49,7 @@ pub(crate) enum Expected {
     Option,
     HostList,
     WorkerCount,
+    TryCount,
 }
 
 // What the words so far say.
@@ -42,6 +66,7 @@ fn is_option_given(options: &Options<'_>, option: OptionName) -> bool
     match option {
         OptionName::Hosts => options.hosts.is_some(),
         OptionName::Workers => options.workers.is_some(),
+        OptionName::Tries => options.tries.is_some(),
         OptionName::NoFallback => !options.fallback,
         OptionName::NoRetry => !options.retry,
     }
@@ -59,6 +84,10 @@ fn with_option(options: Options<'_>, option: OptionName) -> Reading<'_>
         OptionName::Workers => Reading {
             options,
             expected: Expected::WorkerCount,
+        },
+        OptionName::Tries => Reading {
+            options,
+            expected: Expected::TryCount,
         },
         OptionName::NoFallback => Reading {
             options: Options {
@@ -111,6 +140,16 @@ fn with_word<'a>(
                 expected: Expected::Option,
             })
         }
+        Expected::TryCount => {
+            let tries = parse_tries(word)?;
+            Some(Reading {
+                options: Options {
+                    tries: Some(tries),
+                    ..options
+                },
+                expected: Expected::Option,
+            })
+        }
     }
 }
 
@@ -120,7 +159,7 @@ fn finish(options: Options<'_>, expected: Expected, place: usize) -> Result<Opti
 {
     match expected {
         Expected::Option => Ok(options),
-        Expected::HostList | Expected::WorkerCount => Err(place),
+        Expected::HostList | Expected::WorkerCount | Expected::TryCount => Err(place),
     }
 }
 
@@ -130,12 +169,13 @@ pub(crate) fn parse_options<'a>(
     command: CommandName,
     words: &'a [String],
 ) -> Result<Options<'a>, usize>
-    ensures { options_meant result ≡ options_of command (map string_bytes words.now) }
+    ensures { OptionsRead command (map string_bytes words.now) (options_meant result) }
 {
     let mut reading = Reading {
         options: Options {
             hosts: None,
             workers: None,
+            tries: None,
             fallback: true,
             retry: true,
         },

@@ -6,7 +6,6 @@ use Rattle.std.proofs.lemmas.List.{get_or_read}
 use Rattle.farm_types.specs.declared.hosts.Host.{Host}
 use Rattle.farm_types.specs.declared.ran.Outcome.{Outcome}
 use Rattle.reply_stream.specs.Objects.{with_object}
-use Rattle.edge_traits.specs.Causes.{Rose}
 use Rattle.edge_traits.specs.Keepers.{IsIdle, HasPending}
 use Rattle.remote_transfer.specs.Landings.{IsLanding}
 use Rattle.remote_transfer.specs.declared.answers.Landing.{Landing}
@@ -26,31 +25,31 @@ use Rattle.job_run.specs.declared.step.Step.TheVariants as step
 use Rattle.job_run.specs.declared.exchanging.Answer.{Answer}
 use Rattle.job_run.specs.declared.exchanging.Answer.TheVariants as answer
 use Rattle.job_run.specs.Stages.{IsAtKeeper, AnswerIs, answer_by, LocalIs, StepIs, SentIs, step_of, step_after, compiled_at}
-use Rattle.job_run.specs.Worlds.{World, Went, Ended}
-use Rattle.job_run.proofs.Composing.{cause-before, rose-before, went-then, went-ended}
+use Rattle.job_run.specs.Worlds.{World, WentOn, Ended}
+use Rattle.job_run.proofs.Composing.{cause-before, rose-before, stands-by, on-then, on-ended}
 
 -- what follows from a compile in a slot that was lent
 pub lent-step : {h : ℕ} (j : Job) (l l' : Limits h) (caller caller' number : ℕ) (a b c : World) (at mid : At) (source note : List ℕ) (r : Result Outcome Why5)
-    → l' ≡ l → caller' ≡ caller → IsIdle c.kit.keeper → Went j l caller number a b at mid → LocalIs j l' caller' number b c mid note r → StepIs j l caller number a c at source note (step_of r)
-lent-step j l l' caller caller' number a b c at mid source note (Ok o) same_limits same_caller idle first last = (o.object, went-then j l l' caller caller' number a b c at mid (Finish Here note o) same_limits same_caller first last, (refl, idle))
-lent-step j l l' caller caller' number a b c at mid source note (Err why) same_limits same_caller idle first last = went-ended j l l' caller caller' number a b c at mid (Failed why) same_limits same_caller first last
+    → l' ≡ l → caller' ≡ caller → IsIdle c.kit.keeper → WentOn j l caller number a b at mid → LocalIs j l' caller' number b c mid note r → StepIs j l caller number a c at source note (step_of r)
+lent-step j l l' caller caller' number a b c at mid source note (Ok o) same_limits same_caller idle first last = (o.object, on-then j l l' caller caller' number a b c at mid (Finish Here note o) same_limits same_caller first last, (refl, idle))
+lent-step j l l' caller caller' number a b c at mid source note (Err why) same_limits same_caller idle first last = on-ended j l l' caller caller' number a b c at mid (Failed why) same_limits same_caller first last
 
 -- what follows from a host's outcome
 pub whole-step : {h : ℕ} (j : Job) (l : Limits h) (caller number host : ℕ) (a b : World) (at : At) (source note : List ℕ) (o : Outcome) (object : List ℕ)
-    → Went j l caller number a b at (after_whole j host source note (with_object o object)) → IsAtKeeper o (output_name j) object b.kit.keeper → StepIs j l caller number a b at source note (step_after j.config host o)
+    → WentOn j l caller number a b at (after_whole j host source note (with_object o object)) → IsAtKeeper o (output_name j) object b.kit.keeper → StepIs j l caller number a b at source note (step_after j.config host o)
 whole-step j l caller number host a b at source note o object went held = go (nat_eq o.status 0) refl (j.config.fallback && j.config.retry) went
   where
     go : (done : Bool) → nat_eq o.status 0 ≡ done → (again : Bool)
-        → Went j l caller number a b at (cond done (Finish (Remote host) note (with_object o object)) (cond again (Locally source note) (Over (Done o.status note o.err o.out (Remote host)))))
+        → WentOn j l caller number a b at (cond done (Finish (Remote host) note (with_object o object)) (cond again (Locally source note) (Over (Done o.status note o.err o.out (Remote host)))))
         → StepIs j l caller number a b at source note (cond (not done && again) step.Here (step.Compiled (Remote host) o))
-    go true is again w = (object, subst (λ (d : Bool). Went j l caller number a b at (cond d (Finish (Remote host) note (with_object o object)) (Over (Done o.status note o.err o.out (Remote host))))) (sym is) w, held)
+    go true is again w = (object, subst (λ (d : Bool). WentOn j l caller number a b at (cond d (Finish (Remote host) note (with_object o object)) (Over (Done o.status note o.err o.out (Remote host))))) (sym is) w, held)
     go false is true w = w
-    go false is false w = (object, subst (λ (d : Bool). Went j l caller number a b at (cond d (Finish (Remote host) note (with_object o object)) (Over (Done o.status note o.err o.out (Remote host))))) (sym is) w, held)
+    go false is false w = (object, subst (λ (d : Bool). WentOn j l caller number a b at (cond d (Finish (Remote host) note (with_object o object)) (Over (Done o.status note o.err o.out (Remote host))))) (sym is) w, held)
 
 -- what a whole reply leads to, by where its object is
 pub whole-answer : {h : ℕ} (j : Job) (l : Limits h) (caller number : ℕ) (a b : World) (at : At) (host : ℕ) (source note : List ℕ) (tried : List Tried) (o : Outcome) (where_is : Landing) (path object : List ℕ) (r : Answer)
     → r ≡ answer_by o where_is → output_name j ≡ path → IsLanding where_is o path object a.kit.keeper.faults b.kit.keeper
-    → Went j l caller number a b at (after_whole j host source note (with_object o object)) → AnswerIs j l caller number a b at host source note tried r
+    → WentOn j l caller number a b at (after_whole j host source note (with_object o object)) → AnswerIs j l caller number a b at host source note tried r
 whole-answer j l caller number a b at host source note tried o where_is path object r is named lands went =
     subst (λ (r : Answer). AnswerIs j l caller number a b at host source note tried r) (sym is) (go where_is lands)
   where
@@ -59,18 +58,18 @@ whole-answer j l caller number a b at host source note tried o where_is path obj
 
     go : (w : Landing) → IsLanding w o path object a.kit.keeper.faults b.kit.keeper → AnswerIs j l caller number a b at host source note tried (answer_by o w)
     go landing.Pending at_keeper = (object, went, record { pending = λ well. subst (λ (p : List ℕ). HasPending b.kit.keeper p object) (sym named) at_keeper.1; idle = λ failed. absurd (failed at_keeper.0) })
-    go landing.Lost at_keeper = (with_object o object, at_keeper.0, subst (λ (to : At). Went j l caller number a b at to) (at-zero at_keeper.0) went, at_keeper.2)
+    go landing.Lost at_keeper = (with_object o object, at_keeper.0, subst (λ (to : At). WentOn j l caller number a b at to) (at-zero at_keeper.0) went, at_keeper.2)
     go landing.Nothing at_keeper = (object, went, record { pending = λ well. absurd (at_keeper.0 well); idle = λ failed. at_keeper.1 })
 
 -- with fallback the job is compiled here, and else it has failed
 pub here-step : {h : ℕ} (j : Job) (l : Limits h) (caller number : ℕ) (a b : World) (at : At) (source note : List ℕ) (why : Why5)
-    → Went j l caller number a b at (or_here j source note (Failed why)) → HasEndCause (Failed why) a.kit b.kit
+    → WentOn j l caller number a b at (or_here j source note (Failed why)) → HasEndCause (Failed why) a.kit b.kit
     → StepIs j l caller number a b at source note (cond j.config.fallback step.Here (step.Failed why))
 here-step j l caller number a b at source note why went cause = go j.config.fallback went
   where
-    go : (fallback : Bool) → Went j l caller number a b at (cond fallback (Locally source note) (Over (Failed why))) → StepIs j l caller number a b at source note (cond fallback step.Here (step.Failed why))
+    go : (fallback : Bool) → WentOn j l caller number a b at (cond fallback (Locally source note) (Over (Failed why))) → StepIs j l caller number a b at source note (cond fallback step.Here (step.Failed why))
     go true w = w
-    go false w = record { to = Over (Failed why); went = w; ends = refl; cause = cause }
+    go false w = record { to = Over (Failed why); went = w.went; ends = refl; cause = cause; station = stands-by (Failed why) a.kit.station b.kit.station w.station }
 
 -- from the start to a place where the job may end so, its acts are a course
 pub course-of : (j : Job) (acts : List Act) (at to : At) (end : End) → Reach j at acts to → Ends j to end → From j at acts end
@@ -78,53 +77,53 @@ course-of j [] at to end e ends = subst (λ (b : At). Ends j b end) (sym e) ends
 course-of j (x ∷ acts) at to end (b, next, more) ends = (b, next, course-of j acts b to end more ends)
 
 -- the same for a job that is known by another number
-went-as : {h : ℕ} (j : Job) (l : Limits h) (caller n number : ℕ) (a b : World) (at to : At) → n ≡ number → Went j l caller n a b at to → Went j l caller number a b at to
-went-as j l caller n number a b at to same went = subst (λ (k : ℕ). Went j l caller k a b at to) same went
+went-as : {h : ℕ} (j : Job) (l : Limits h) (caller n number : ℕ) (a b : World) (at to : At) → n ≡ number → WentOn j l caller n a b at to → WentOn j l caller number a b at to
+went-as j l caller n number a b at to same went = subst (λ (k : ℕ). WentOn j l caller k a b at to) same went
 
 local-as : {h : ℕ} (j : Job) (l : Limits h) (caller n number : ℕ) (a b : World) (at : At) (note : List ℕ) (r : Result Outcome Why5) → n ≡ number → LocalIs j l caller n a b at note r → LocalIs j l caller number a b at note r
 local-as j l caller n number a b at note r same is = subst (λ (k : ℕ). LocalIs j l caller k a b at note r) same is
 
 -- a slot was taken, and then this
 pub took-local : {h : ℕ} (j : Job) (l l' : Limits h) (caller caller' n number : ℕ) (a b c : World) (at mid : At) (source note : List ℕ) (r : Result Outcome Why5) (s : Step)
-    → l' ≡ l → caller' ≡ caller → n ≡ number → s ≡ step_of r → IsIdle c.kit.keeper → LocalIs j l' caller' n b c mid note r → Went j l caller number a b at mid → StepIs j l caller number a c at source note s
+    → l' ≡ l → caller' ≡ caller → n ≡ number → s ≡ step_of r → IsIdle c.kit.keeper → LocalIs j l' caller' n b c mid note r → WentOn j l caller number a b at mid → StepIs j l caller number a c at source note s
 took-local j l l' caller caller' n number a b c at mid source note r s same_limits same_caller same_number is idle last first =
     subst (λ (t : Step). StepIs j l caller number a c at source note t) (sym is)
     (lent-step j l l' caller caller' number a b c at mid source note r same_limits same_caller idle first (local-as j l' caller' n number b c mid note r same_number last))
 
 pub took-whole : {h : ℕ} (j : Job) (l l' : Limits h) (caller caller' n number host place : ℕ) (a b c : World) (at mid : At) (source note : List ℕ) (tried : List Tried) (o : Outcome) (s : Step)
-    → l' ≡ l → caller' ≡ caller → n ≡ number → place ≡ host → s ≡ step_after j.config place o → AnswerIs j l' caller' n b c mid host source note tried (answer.Whole o) → Went j l caller number a b at mid → StepIs j l caller number a c at source note s
+    → l' ≡ l → caller' ≡ caller → n ≡ number → place ≡ host → s ≡ step_after j.config place o → AnswerIs j l' caller' n b c mid host source note tried (answer.Whole o) → WentOn j l caller number a b at mid → StepIs j l caller number a c at source note s
 took-whole j l l' caller caller' n number host place a b c at mid source note tried o s same_limits same_caller same_number same_host is (object, last, held) first =
     subst (λ (t : Step). StepIs j l caller number a c at source note t) (sym (is ∙ ap (λ (k : ℕ). step_after j.config k o) same_host))
-    (whole-step j l caller number host a c at source note o object (went-then j l l' caller caller' number a b c at mid (after_whole j host source note (with_object o object)) same_limits same_caller first (went-as j l' caller' n number b c mid (after_whole j host source note (with_object o object)) same_number last)) held)
+    (whole-step j l caller number host a c at source note o object (on-then j l l' caller caller' number a b c at mid (after_whole j host source note (with_object o object)) same_limits same_caller first (went-as j l' caller' n number b c mid (after_whole j host source note (with_object o object)) same_number last)) held)
 
 pub took-lost : {h : ℕ} (j : Job) (l l' : Limits h) (caller caller' n number host : ℕ) (a b c : World) (at mid : At) (source note : List ℕ) (tried : List Tried)
-    → l' ≡ l → caller' ≡ caller → n ≡ number → AnswerIs j l' caller' n b c mid host source note tried answer.Lost → Went j l caller number a b at mid → Ended j l caller number a c at (Failed Put)
-took-lost j l l' caller caller' n number host a b c at mid source note tried same_limits same_caller same_number (o, well, last, rose) first = record {
-  to = Finish (Remote host) note o;
-  went = went-then j l l' caller caller' number a b c at mid (Finish (Remote host) note o) same_limits same_caller first (went-as j l' caller' n number b c mid (Finish (Remote host) note o) same_number last);
-  ends = inl (well, inr refl);
-  cause = rose-before a.kit.keeper.faults b.kit.keeper.faults c.kit.keeper.faults first.later.keeper rose;
-}
+    → l' ≡ l → caller' ≡ caller → n ≡ number → AnswerIs j l' caller' n b c mid host source note tried answer.Lost → WentOn j l caller number a b at mid → Ended j l caller number a c at (Failed Put)
+took-lost j l l' caller caller' n number host a b c at mid source note tried same_limits same_caller same_number (o, well, last, rose) first =
+    let both = on-then j l l' caller caller' number a b c at mid (Finish (Remote host) note o) same_limits same_caller first (went-as j l' caller' n number b c mid (Finish (Remote host) note o) same_number last) in
+    record {
+      to = Finish (Remote host) note o;
+      went = both.went;
+      ends = inl (well, inr refl);
+      cause = rose-before a.kit.keeper.faults b.kit.keeper.faults c.kit.keeper.faults first.went.later.keeper rose;
+      station = both.station;
+    }
 
 pub took-broke : {h : ℕ} (j : Job) (l l' : Limits h) (caller caller' n number host place : ℕ) (cause : Cause) (a b c : World) (at mid : At) (source note : List ℕ) (tried : List Tried)
     → l' ≡ l → caller' ≡ caller → n ≡ number → place ≡ host → host < l.count
-    → Went j l' caller' n b c mid (after_broken j host cause source note tried) × HasEndCause (Failed (Broke host cause)) b.kit c.kit → Went j l caller number a b at mid
-    → (place < l.count) × Went j l caller number a c at (after_broken j place cause source note tried) × HasEndCause (Failed (Broke place cause)) a.kit c.kit
+    → WentOn j l' caller' n b c mid (after_broken j host cause source note tried) × HasEndCause (Failed (Broke host cause)) b.kit c.kit → WentOn j l caller number a b at mid
+    → (place < l.count) × WentOn j l caller number a c at (after_broken j place cause source note tried) × HasEndCause (Failed (Broke place cause)) a.kit c.kit
 took-broke j l l' caller caller' n number host place cause a b c at mid source note tried same_limits same_caller same_number same_host below last first =
-    subst (λ (k : ℕ). (k < l.count) × Went j l caller number a c at (after_broken j k cause source note tried) × HasEndCause (Failed (Broke k cause)) a.kit c.kit) (sym same_host) (
+    subst (λ (k : ℕ). (k < l.count) × WentOn j l caller number a c at (after_broken j k cause source note tried) × HasEndCause (Failed (Broke k cause)) a.kit c.kit) (sym same_host) (
       below,
-      went-then j l l' caller caller' number a b c at mid (after_broken j host cause source note tried) same_limits same_caller first (went-as j l' caller' n number b c mid (after_broken j host cause source note tried) same_number last.0),
-      cause-before a.kit b.kit c.kit (Failed (Broke host cause)) first.later last.1,
+      on-then j l l' caller caller' number a b c at mid (after_broken j host cause source note tried) same_limits same_caller first (went-as j l' caller' n number b c mid (after_broken j host cause source note tried) same_number last.0),
+      cause-before a.kit b.kit c.kit (Failed (Broke host cause)) first.went.later last.1,
     )
 
 pub took-wanted : {h : ℕ} (j : Job) (l l' : Limits h) (caller caller' n number : ℕ) (a b c : World) (at mid : At)
-    → l' ≡ l → caller' ≡ caller → n ≡ number → Went j l' caller' n b c mid (Over (Failed Memory)) → Went j l caller number a b at mid → Ended j l caller number a c at (Failed Memory)
-took-wanted j l l' caller caller' n number a b c at mid same_limits same_caller same_number last first = record {
-  to = Over (Failed Memory);
-  went = went-then j l l' caller caller' number a b c at mid (Over (Failed Memory)) same_limits same_caller first (went-as j l' caller' n number b c mid (Over (Failed Memory)) same_number last);
-  ends = refl;
-  cause = tt;
-}
+    → l' ≡ l → caller' ≡ caller → n ≡ number → WentOn j l' caller' n b c mid (Over (Failed Memory)) → WentOn j l caller number a b at mid → Ended j l caller number a c at (Failed Memory)
+took-wanted j l l' caller caller' n number a b c at mid same_limits same_caller same_number last first =
+    let both = on-then j l l' caller caller' number a b c at mid (Over (Failed Memory)) same_limits same_caller first (went-as j l' caller' n number b c mid (Over (Failed Memory)) same_number last) in
+    record { to = Over (Failed Memory); went = both.went; ends = refl; cause = tt; station = both.station }
 
 -- an entry of the mask was not tried
 pub fresh-entry : (masked below tried : Bool) → masked ≡ true → masked ≡ (below && not tried) → tried ≡ false
@@ -151,16 +150,16 @@ stage-last j source note tried above = ap (λ (b : Bool). cond b (Send source no
 
 -- what comes after a stage
 pub step-then : {h : ℕ} (j : Job) (l l' : Limits h) (caller caller' number : ℕ) (a b c : World) (at mid : At) (source note : List ℕ) (s : Step)
-    → l' ≡ l → caller' ≡ caller → Went j l caller number a b at mid → StepIs j l' caller' number b c mid source note s → StepIs j l caller number a c at source note s
-step-then j l l' caller caller' number a b c at mid source note step.Here same_limits same_caller first last = went-then j l l' caller caller' number a b c at mid (Locally source note) same_limits same_caller first last
-step-then j l l' caller caller' number a b c at mid source note (step.Compiled by o) same_limits same_caller first last = (last.0, went-then j l l' caller caller' number a b c at mid (compiled_at by note (with_object o last.0)) same_limits same_caller first last.1, last.2)
-step-then j l l' caller caller' number a b c at mid source note (step.Failed why) same_limits same_caller first last = went-ended j l l' caller caller' number a b c at mid (Failed why) same_limits same_caller first last
+    → l' ≡ l → caller' ≡ caller → WentOn j l caller number a b at mid → StepIs j l' caller' number b c mid source note s → StepIs j l caller number a c at source note s
+step-then j l l' caller caller' number a b c at mid source note step.Here same_limits same_caller first last = on-then j l l' caller caller' number a b c at mid (Locally source note) same_limits same_caller first last
+step-then j l l' caller caller' number a b c at mid source note (step.Compiled by o) same_limits same_caller first last = (last.0, on-then j l l' caller caller' number a b c at mid (compiled_at by note (with_object o last.0)) same_limits same_caller first last.1, last.2)
+step-then j l l' caller caller' number a b c at mid source note (step.Failed why) same_limits same_caller first last = on-ended j l l' caller caller' number a b c at mid (Failed why) same_limits same_caller first last
 
-pub arrive : {h : ℕ} (j : Job) (l : Limits h) (caller number : ℕ) (a b : World) (at to other : At) → to ≡ other → Went j l caller number a b at to → Went j l caller number a b at other
-arrive j l caller number a b at to other same went = subst (λ (t : At). Went j l caller number a b at t) same went
+pub arrive : {h : ℕ} (j : Job) (l : Limits h) (caller number : ℕ) (a b : World) (at to other : At) → to ≡ other → WentOn j l caller number a b at to → WentOn j l caller number a b at other
+arrive j l caller number a b at to other same went = subst (λ (t : At). WentOn j l caller number a b at t) same went
 
 pub here-as : {h : ℕ} (j : Job) (l : Limits h) (caller number : ℕ) (a b : World) (at : At) (source note : List ℕ) (s : Step) (last why : Why5)
-    → s ≡ cond j.config.fallback step.Here (step.Failed last) → last ≡ why → Went j l caller number a b at (or_here j source note (Failed why)) → HasEndCause (Failed last) a.kit b.kit → StepIs j l caller number a b at source note s
+    → s ≡ cond j.config.fallback step.Here (step.Failed last) → last ≡ why → WentOn j l caller number a b at (or_here j source note (Failed why)) → HasEndCause (Failed last) a.kit b.kit → StepIs j l caller number a b at source note s
 here-as j l caller number a b at source note s last why is same went cause =
     subst (λ (t : Step). StepIs j l caller number a b at source note t) (sym (is ∙ ap (λ (w : Why5). cond j.config.fallback step.Here (step.Failed w)) same))
     (here-step j l caller number a b at source note why went (subst (λ (w : Why5). HasEndCause (Failed w) a.kit b.kit) same cause))

@@ -1,10 +1,11 @@
 -- One part of a job after another.
-use Rattle.std.proofs.Common.{◌≡◌, ℕ, ◌≤◌, List, ◌++◌, sym, ap, ◌∙◌, subst, append_assoc, arith, inl, inr}
+use Rattle.std.proofs.Common.{◌≡◌, ℕ, ◌≤◌, List, ◌++◌, refl, sym, ap, ◌∙◌, subst, append_assoc, arith, inl, inr}
 use Rattle.slot_table.specs.declared.limits.Limits.{Limits}
 use Rattle.slot_table.specs.declared.calls.CallEntry.{CallEntry}
 use Rattle.edge_traits.specs.declared.cause.Cause.TheVariants.{Dial, Send as CutSend, Recv, Truncated, BadReply, Stopped}
 use Rattle.edge_traits.specs.Kits.{KitView}
 use Rattle.edge_traits.specs.Causes.{Rose}
+use Rattle.edge_traits.specs.Stations.{StationView, NoneRose}
 use Rattle.edge_traits.specs.Deeds.{Deed, exchanges_in, moments_in, DidIn, MayAll}
 use Rattle.edge_traits.proofs.DeedLemmas.{DidIn-join}
 use Rattle.farm_machine.specs.declared.reports.Event.{Event}
@@ -13,14 +14,14 @@ use Rattle.farm_machine.specs.declared.reports.Why5.TheVariants.{Station, Put, B
 use Rattle.farm_machine.specs.declared.reports.End.{End}
 use Rattle.farm_machine.specs.declared.reports.End.TheVariants.{Done, Failed}
 use Rattle.farm_machine.specs.Acts.{SlotEvent, Act, slots_of, deeds_of}
-use Rattle.farm_machine.specs.Causes.{HasEndCause, KitLater}
+use Rattle.farm_machine.specs.Causes.{HasEndCause, StationStands, KitLater}
 use Rattle.farm_machine.specs.Course.{At, Reach}
 use Rattle.farm_machine.specs.Farm.{wanted}
 use Rattle.farm_machine.specs.Jobs.{Job}
 use Rattle.farm_machine.specs.Moments.{AreMoments}
 use Rattle.farm_machine.specs.Numbered.{numbered, advanced, untimed}
 use Rattle.farm_machine.specs.Own.{Serves}
-use Rattle.job_run.specs.Worlds.{World, HasTaken, Went, Ended}
+use Rattle.job_run.specs.Worlds.{World, HasTaken, Went, WentOn, Ended}
 use Rattle.job_run.proofs.Lists.{slots-append, deeds-append, untimed-append, slots-untimed, advanced-append, numbered-append, ran-append, ran-along, may-append, may-along, moments-append, reach-append, serves-append, exchanges-append, moments_in-append}
 use Rattle.job_run.proofs.Taken.{taken-reach}
 
@@ -68,8 +69,37 @@ cause-later a b c (Failed (Broke host Stopped)) cause later = tt
 cause-later a b c (Failed NoHost) cause later = tt
 cause-later a b c (Failed Memory) cause later = tt
 
+-- a station that was not asked
+pub none-rose : (s : StationView) → NoneRose s s
+none-rose s = record { faults = refl; overruns = refl }
+
+none-rose-then : (a b c : StationView) → NoneRose a b → NoneRose b c → NoneRose a c
+none-rose-then a b c first second = record { faults = second.faults ∙ first.faults; overruns = second.overruns ∙ first.overruns }
+
+pub went-on : {h : ℕ} {j : Job} {l : Limits h} {caller number : ℕ} {a b : World} {at to : At} → Went j l caller number a b at to → NoneRose a.kit.station b.kit.station → WentOn j l caller number a b at to
+went-on went none = record { went = went; station = none }
+
+-- where no count of the station rose, it stands at any end
+pub stands-by : (end : End) (old new : StationView) → NoneRose old new → StationStands end old new
+stands-by (Done status note err out by) old new none = none
+stands-by (Failed Station) old new none = tt
+stands-by (Failed Put) old new none = none
+stands-by (Failed Fetch) old new none = none
+stands-by (Failed (Broke host cause)) old new none = none
+stands-by (Failed NoHost) old new none = none
+stands-by (Failed Memory) old new none = none
+
+stands-before : (a b c : StationView) (end : End) → NoneRose a b → StationStands end b c → StationStands end a c
+stands-before a b c (Done status note err out by) first last = none-rose-then a b c first last
+stands-before a b c (Failed Station) first last = tt
+stands-before a b c (Failed Put) first last = none-rose-then a b c first last
+stands-before a b c (Failed Fetch) first last = none-rose-then a b c first last
+stands-before a b c (Failed (Broke host cause)) first last = none-rose-then a b c first last
+stands-before a b c (Failed NoHost) first last = none-rose-then a b c first last
+stands-before a b c (Failed Memory) first last = none-rose-then a b c first last
+
 -- One part after another: by the limits and the caller that the first has, which stayed the same.
-pub went-then : {h : ℕ} (j : Job) (l l' : Limits h) (caller caller' number : ℕ) (a b c : World) (at mid to : At)
+went-then : {h : ℕ} (j : Job) (l l' : Limits h) (caller caller' number : ℕ) (a b c : World) (at mid to : At)
     → l' ≡ l → caller' ≡ caller → Went j l caller number a b at mid → Went j l' caller' number b c mid to → Went j l caller number a c at to
 went-then {h = h} j l l' caller caller' number a b c at mid to same_limits same_caller first second = record {
   acts = first.acts ++ second.acts;
@@ -97,11 +127,19 @@ went-then {h = h} j l l' caller caller' number a b c at mid to same_limits same_
   same_programs = record { kept = λ x y z h. second.same_programs.kept x y z (first.same_programs.kept x y z h); back = λ x y z h. first.same_programs.back x y z (second.same_programs.back x y z h) };
 }
 
-pub went-ended : {h : ℕ} (j : Job) (l l' : Limits h) (caller caller' number : ℕ) (a b c : World) (at mid : At) (end : End)
-    → l' ≡ l → caller' ≡ caller → Went j l caller number a b at mid → Ended j l' caller' number b c mid end → Ended j l caller number a c at end
-went-ended j l l' caller caller' number a b c at mid end same_limits same_caller first last = record {
+pub on-then : {h : ℕ} (j : Job) (l l' : Limits h) (caller caller' number : ℕ) (a b c : World) (at mid to : At)
+    → l' ≡ l → caller' ≡ caller → WentOn j l caller number a b at mid → WentOn j l' caller' number b c mid to → WentOn j l caller number a c at to
+on-then j l l' caller caller' number a b c at mid to same_limits same_caller first second = record {
+  went = went-then j l l' caller caller' number a b c at mid to same_limits same_caller first.went second.went;
+  station = none-rose-then a.kit.station b.kit.station c.kit.station first.station second.station;
+}
+
+pub on-ended : {h : ℕ} (j : Job) (l l' : Limits h) (caller caller' number : ℕ) (a b c : World) (at mid : At) (end : End)
+    → l' ≡ l → caller' ≡ caller → WentOn j l caller number a b at mid → Ended j l' caller' number b c mid end → Ended j l caller number a c at end
+on-ended j l l' caller caller' number a b c at mid end same_limits same_caller first last = record {
   to = last.to;
-  went = went-then j l l' caller caller' number a b c at mid last.to same_limits same_caller first last.went;
+  went = went-then j l l' caller caller' number a b c at mid last.to same_limits same_caller first.went last.went;
   ends = last.ends;
-  cause = cause-before a.kit b.kit c.kit end first.later last.cause;
+  cause = cause-before a.kit b.kit c.kit end first.went.later last.cause;
+  station = stands-before a.kit.station b.kit.station c.kit.station end first.station last.station;
 }

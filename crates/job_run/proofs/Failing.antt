@@ -17,7 +17,7 @@ use Rattle.edge_traits.specs.declared.cause.Cause.TheVariants.{Dial, Send as Cut
 use Rattle.edge_traits.specs.Causes.{Rose}
 use Rattle.edge_traits.specs.Kits.{KitView}
 use Rattle.edge_traits.specs.Keepers.{FetchCause}
-use Rattle.edge_traits.specs.Stations.{RunFault}
+use Rattle.edge_traits.specs.Stations.{StationView, RunFault}
 use Rattle.farm_types.specs.declared.request.Request.{Request}
 use Rattle.farm_types.specs.declared.hosts.Host.{Host}
 use Rattle.farm_types.specs.declared.ran.Outcome.{Outcome}
@@ -36,7 +36,7 @@ use Rattle.farm_machine.specs.declared.reports.By.{By}
 use Rattle.farm_machine.specs.declared.reports.End.{End}
 use Rattle.farm_machine.specs.declared.reports.End.TheVariants.{Done, Failed}
 use Rattle.farm_machine.specs.Acts.{TakesLocal, Met}
-use Rattle.farm_machine.specs.Causes.{HasEndCause}
+use Rattle.farm_machine.specs.Causes.{HasEndCause, StationStands}
 use Rattle.farm_machine.specs.Course.{At, LentHere, Over, Next}
 use Rattle.farm_machine.specs.Jobs.{Job, request_for, host_at}
 use Rattle.job_run.specs.Failures.{station_failure, fetch_failure, put_failure}
@@ -56,6 +56,12 @@ pub not-run-cause : (bounds : Bounds) (fault : StationFault) (why : Why5) (old n
 not-run-cause bounds station.Failed why old new is rose = subst (λ (w : Why5). HasEndCause (Failed w) old new) (sym is) (inl rose)
 not-run-cause bounds (station.TooMuch stream bytes) why old new is rose = subst (λ (w : Why5). HasEndCause (Failed w) old new) (sym is) (inr rose.0)
 not-run-cause bounds station.Memory why old new is free = subst (λ (w : Why5). HasEndCause (Failed w) old new) (sym is) tt
+
+-- where it wanted memory, no count of the station rose
+pub not-run-stands : (bounds : Bounds) (fault : StationFault) (why : Why5) (old new : StationView) → why ≡ station_failure fault → RunFault bounds old new fault → StationStands (Failed why) old new
+not-run-stands bounds station.Failed why old new is rose = subst (λ (w : Why5). StationStands (Failed w) old new) (sym is) tt
+not-run-stands bounds (station.TooMuch stream bytes) why old new is rose = subst (λ (w : Why5). StationStands (Failed w) old new) (sym is) tt
+not-run-stands bounds station.Memory why old new is none = subst (λ (w : Why5). StationStands (Failed w) old new) (sym is) none
 
 pub not-fetched : (fault : FetchFault) (why : Why5) → why ≡ fetch_failure fault → (why ≡ Fetch) ⊎ (why ≡ Memory)
 not-fetched fetch.Failed why is = inl is

@@ -1,21 +1,19 @@
 -- Where objects are, and whether a put is pending.
-use Rattle.std.proofs.Common.{◌≡◌, ◌≢◌, ℕ, Bool, true, false, ◌&&◌, not, cond, nat_eq, List, refl, sym, ap, ◌∙◌, subst}
+use Rattle.std.proofs.Common.{◌≡◌, ◌≢◌, ℕ, Bool, true, false, ◌&&◌, not, cond, nat_eq, List, refl, sym, subst}
 use Rattle.std.proofs.lemmas.Bool.{eqb-false}
-use Rattle.std.specs.Prelude.{Result}
 use Rattle.farm_types.specs.declared.jobs.JobConfig.{JobConfig}
 use Rattle.farm_types.specs.declared.ran.Outcome.{Outcome}
 use Rattle.edge_traits.specs.Keepers.{KeeperView, IsIdle, IsPending, HasPending}
 use Rattle.edge_traits.proofs.Putting.{is-there}
 use Rattle.farm_machine.specs.declared.reports.By.{By}
 use Rattle.farm_machine.specs.declared.reports.By.TheVariants.{Cpp, Remote, Here, InPlace}
-use Rattle.farm_machine.specs.declared.reports.Why5.{Why5}
 use Rattle.remote_transfer.specs.declared.answers.Landing.{Landing}
 use Rattle.remote_transfer.specs.declared.answers.Landing.TheVariants as landing
 use Rattle.remote_transfer.specs.Landings.{IsLanding}
 use Rattle.job_run.specs.declared.step.Step.{Step}
 use Rattle.job_run.specs.declared.step.Step.TheVariants as step
 use Rattle.job_run.specs.declared.exchanging.Answer.{Answer}
-use Rattle.job_run.specs.Stages.{IsAtKeeper, HasObject, CanDeliver, AnswerIdle, StepIdle, answer_by, step_after, step_of}
+use Rattle.job_run.specs.Stages.{IsAtKeeper, HasObject, CanDeliver, AnswerIdle, StepIdle, answer_by, step_after}
 
 -- what a whole reply leaves
 pub answer-idle : (o : Outcome) (where_is : Landing) (path object : List ℕ) (before : ℕ) (keeper : KeeperView) (r : Answer) → r ≡ answer_by o where_is → IsLanding where_is o path object before keeper → AnswerIdle r keeper

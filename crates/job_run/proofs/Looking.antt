@@ -11,7 +11,7 @@ use Rattle.edge_traits.specs.declared.entries.Put.{Put}
 use Rattle.edge_traits.specs.Kits.{KitView}
 use Rattle.edge_traits.specs.Keepers.{KeeperView}
 use Rattle.edge_traits.specs.Dialers.{DialerView}
-use Rattle.edge_traits.specs.Stations.{StationView}
+use Rattle.edge_traits.specs.Stations.{StationView, NoneRose}
 use Rattle.edge_traits.specs.Told.{Grew, Became, SameRelation, SameRelation3}
 use Rattle.edge_traits.specs.Deeds.{timed, runs_in, fetches_in, exchanges_in, puts_in, moments_in, files_put, DidIn, MayAll}
 use Rattle.edge_traits.proofs.ToldLemmas.{Grew-refl, Grew-by}
@@ -31,7 +31,7 @@ use Rattle.farm_machine.specs.Weave.{IsWaitedFor}
 use Rattle.farm_machine.specs.Machine.{HostSlot, Adds, job_call}
 use Rattle.job_run.specs.Stages.{HasUntried}
 use Rattle.job_run.specs.Waits.{asked}
-use Rattle.job_run.specs.Worlds.{World, HasTaken, Went}
+use Rattle.job_run.specs.Worlds.{World, HasTaken, WentOn}
 use Rattle.job_run.proofs.Leaves.{Noted}
 
 -- looks at the clock
@@ -99,6 +99,9 @@ later-looks a b dialer station keeper = record {
   dialer = let e = ap (λ (d : DialerView). d.faults) dialer in omega (arith, e);
 }
 
+none-looked : (a b : KitView) → b.station ≡ a.station → NoneRose a.station b.station
+none-looked a b station = record { faults = ap (λ (s : StationView). s.faults) station; overruns = ap (λ (s : StationView). s.overruns) station }
+
 -- each of a range passes
 all-so : (p : ℕ → Bool) (a n : ℕ) → ((i : ℕ) → i < a + n → p i ≡ true) → list_all p (range_with_len a n) ≡ true
 all-so p a zero each = refl
@@ -138,21 +141,24 @@ pub went-asked : {h : ℕ} (l : Limits h) (j : Job) (caller number : ℕ) (mask 
     → Noted a.events a.places (Met x ∷ []) b.events b.places
     → b.mine ≡ a.mine ++ asked caller number mask refused now reply
     → HasUntried l mask tried → Next j (Send source note tried) (Met x) to
-    → Went j l caller number a b (Send source note tried) to
+    → WentOn j l caller number a b (Send source note tried) to
 went-asked l j caller number mask refused now reply x a b source note tried to waited call dialer station keeper moments same_peers same_programs noted mine untried next = record {
-  acts = looks (refused ++ now ∷ []) ++ Met x ∷ [];
-  calls = asked caller number mask refused now reply;
-  did = did-looks a.kit b.kit (refused ++ now ∷ []) x dialer station keeper moments;
-  named = noted.0 ∙ ap (λ (es : List Event). a.events ++ es) (sym (numbered-looks a.places (refused ++ now ∷ []) (Met x ∷ [])));
-  grown = noted.1 ∙ sym (advanced-looks a.places (refused ++ now ∷ []) (Met x ∷ []));
-  reach = subst (λ (xs : List Act). Reach j (Send source note tried) xs to) (sym (untimed-looks (refused ++ now ∷ []) (Met x ∷ []))) (to, next, refl);
-  mine = mine;
-  serves = λ past taken. subst (λ (xs : List SlotEvent). Serves (wanted l) caller number past xs (asked caller number mask refused now reply)) (sym (slots-looks (refused ++ now ∷ []) (Met x ∷ [])))
-      (serves-asked (wanted l) caller number past mask refused now reply x (mask-wanted l mask source note tried past untried taken) waited call);
-  moments = subst (λ (ms : List ℕ). AreMoments j.config.period (asked caller number mask refused now reply) ms) (moments-looks (refused ++ now ∷ []) x) (moments-asked j.config.period caller number mask refused now reply);
-  later = later-looks a.kit b.kit dialer station keeper;
-  may = λ known. subst (λ xs. MayAll b.peers xs) (exchanges-looks (refused ++ now ∷ []) x) tt;
-  ran = ran-looks b.programs (refused ++ now ∷ []) x;
-  same_peers = same_peers;
-  same_programs = same_programs;
+  went = record {
+    acts = looks (refused ++ now ∷ []) ++ Met x ∷ [];
+    calls = asked caller number mask refused now reply;
+    did = did-looks a.kit b.kit (refused ++ now ∷ []) x dialer station keeper moments;
+    named = noted.0 ∙ ap (λ (es : List Event). a.events ++ es) (sym (numbered-looks a.places (refused ++ now ∷ []) (Met x ∷ [])));
+    grown = noted.1 ∙ sym (advanced-looks a.places (refused ++ now ∷ []) (Met x ∷ []));
+    reach = subst (λ (xs : List Act). Reach j (Send source note tried) xs to) (sym (untimed-looks (refused ++ now ∷ []) (Met x ∷ []))) (to, next, refl);
+    mine = mine;
+    serves = λ past taken. subst (λ (xs : List SlotEvent). Serves (wanted l) caller number past xs (asked caller number mask refused now reply)) (sym (slots-looks (refused ++ now ∷ []) (Met x ∷ [])))
+        (serves-asked (wanted l) caller number past mask refused now reply x (mask-wanted l mask source note tried past untried taken) waited call);
+    moments = subst (λ (ms : List ℕ). AreMoments j.config.period (asked caller number mask refused now reply) ms) (moments-looks (refused ++ now ∷ []) x) (moments-asked j.config.period caller number mask refused now reply);
+    later = later-looks a.kit b.kit dialer station keeper;
+    may = λ known. subst (λ xs. MayAll b.peers xs) (exchanges-looks (refused ++ now ∷ []) x) tt;
+    ran = ran-looks b.programs (refused ++ now ∷ []) x;
+    same_peers = same_peers;
+    same_programs = same_programs;
+  };
+  station = none-looked a.kit b.kit station;
 }

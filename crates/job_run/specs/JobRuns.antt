@@ -8,7 +8,7 @@ use Rattle.farm_machine.specs.declared.reports.Event.{Event}
 use Rattle.farm_machine.specs.declared.reports.End.{End}
 use Rattle.farm_machine.specs.declared.reports.Places.{Places}
 use Rattle.farm_machine.specs.Acts.{Act, slots_of, deeds_of}
-use Rattle.farm_machine.specs.Causes.{HasEndCause, KitLater}
+use Rattle.farm_machine.specs.Causes.{HasEndCause, StationStands, KitLater}
 use Rattle.farm_machine.specs.Course.{Course}
 use Rattle.farm_machine.specs.Farm.{wanted}
 use Rattle.farm_machine.specs.Honest.{Peers, Programs, AllRan}
@@ -20,7 +20,7 @@ use Rattle.farm_machine.specs.Own.{Serves}
 -- All that the job did, looks at the clock included, is one list of acts. Its deeds are the new entries of the kit's lists; its events name
 -- them, numbered on from the places, which have grown by them; without looks at the clock it is a course, with this end. Its slot events are
 -- the new calls on the slots, with the refused takes before each, and the moments that these calls name are those that the clock gave. A
--- failure of a device goes with a rise of that device's count. Peers gave what peers may give, and programs left what programs may leave.
+-- failure of a device goes with a rise of that device's count, and where the job didn't end by a failed run no count of the station rose. Peers gave what peers may give, and programs left what programs may leave.
 pub record JobRan {h : ℕ} (peers : Peers) (programs : Programs) (j : Job) (l : Limits h) (caller number : ℕ) (at next : Places) (events : List Event) (end : End) (mine_old mine_new : List CallEntry) (old new : KitView) : Type 0 where
   pub acts : List Act
   pub calls : List CallEntry
@@ -32,6 +32,7 @@ pub record JobRan {h : ℕ} (peers : Peers) (programs : Programs) (j : Job) (l :
   pub serves : Serves (wanted l) caller number [] (slots_of acts) calls
   pub moments : AreMoments j.config.period calls (moments_in (deeds_of acts))
   pub cause : HasEndCause end old new
+  pub station : StationStands end old.station new.station
   pub later : KitLater old new
   pub may : IsTrue new.dialer.exchanges.known → MayAll peers (exchanges_in (deeds_of acts))
   pub ran : AllRan programs acts

@@ -28,11 +28,11 @@ use Rattle.job_run.specs.declared.sending.Asked.{Asked}
 use Rattle.job_run.specs.declared.sending.Asked.TheVariants as asked
 use Rattle.job_run.specs.declared.step.Step.{Step}
 use Rattle.job_run.specs.declared.step.Step.TheVariants as step
-use Rattle.job_run.specs.Worlds.{World, Went, Ended}
+use Rattle.job_run.specs.Worlds.{World, WentOn, Ended}
 
 -- the source is there, or the job has its end
 abbrev pub PreparedIs : {h : ℕ} → Job → Limits h → ℕ → ℕ → World → World → Prepared → Type 0
-PreparedIs j l caller number old new (prepared.Ready source note) = Went j l caller number old new Start (Send source note [])
+PreparedIs j l caller number old new (prepared.Ready source note) = WentOn j l caller number old new Start (Send source note [])
 PreparedIs j l caller number old new (prepared.Over end) = Ended j l caller number old new Start end
 
 -- the job is to be compiled here: where it stands for that, or where its request is past the limits
@@ -41,7 +41,7 @@ IsForHere j source note at = (at ≡ Locally source note) ⊎ ((¬ (CanRequest j
 
 -- a compile here left this, or the job has failed
 abbrev pub LocalIs : {h : ℕ} → Job → Limits h → ℕ → ℕ → World → World → At → List ℕ → Result Outcome Why5 → Type 0
-LocalIs j l caller number old new at note (Ok o) = Went j l caller number old new at (Finish Here note o)
+LocalIs j l caller number old new at note (Ok o) = WentOn j l caller number old new at (Finish Here note o)
 LocalIs j l caller number old new at note (Err why) = Ended j l caller number old new at (Failed why)
 
 -- Where the object of a host's whole reply is: of status 0 a put of it is pending under this name, and of another none is.
@@ -77,12 +77,12 @@ AnswerIdle other keeper = IsIdle keeper
 -- what follows from an exchange
 abbrev pub AnswerIs : {h : ℕ} → Job → Limits h → ℕ → ℕ → World → World → At → ℕ → List ℕ → List ℕ → List Tried → Answer → Type 0
 AnswerIs j l caller number old new at host source note tried (answer.Whole o) =
-    (object : List ℕ) × Went j l caller number old new at (after_whole j host source note (with_object o object)) × IsAtKeeper o (output_name j) object new.kit.keeper
+    (object : List ℕ) × WentOn j l caller number old new at (after_whole j host source note (with_object o object)) × IsAtKeeper o (output_name j) object new.kit.keeper
 AnswerIs j l caller number old new at host source note tried answer.Lost =
-    (o : Outcome) × (o.status ≡ 0) × Went j l caller number old new at (Finish (Remote host) note o) × Rose old.kit.keeper.faults new.kit.keeper.faults
+    (o : Outcome) × (o.status ≡ 0) × WentOn j l caller number old new at (Finish (Remote host) note o) × Rose old.kit.keeper.faults new.kit.keeper.faults
 AnswerIs j l caller number old new at host source note tried (answer.Broke cause) =
-    Went j l caller number old new at (after_broken j host cause source note tried) × HasEndCause (Failed (Broke host cause)) old.kit new.kit
-AnswerIs j l caller number old new at host source note tried answer.Memory = Went j l caller number old new at (Over (Failed Memory))
+    WentOn j l caller number old new at (after_broken j host cause source note tried) × HasEndCause (Failed (Broke host cause)) old.kit new.kit
+AnswerIs j l caller number old new at host source note tried answer.Memory = WentOn j l caller number old new at (Over (Failed Memory))
 
 -- Where a job stands that was compiled: an object of status 0 is to be put; another status of a host's is the job's.
 abbrev pub compiled_at : By → List ℕ → Outcome → At
@@ -91,9 +91,9 @@ compiled_at by note o = Finish by note o
 
 -- what the job does next
 abbrev pub StepIs : {h : ℕ} → Job → Limits h → ℕ → ℕ → World → World → At → List ℕ → List ℕ → Step → Type 0
-StepIs j l caller number old new at source note step.Here = Went j l caller number old new at (Locally source note)
+StepIs j l caller number old new at source note step.Here = WentOn j l caller number old new at (Locally source note)
 StepIs j l caller number old new at source note (step.Compiled by o) =
-    (object : List ℕ) × Went j l caller number old new at (compiled_at by note (with_object o object)) × HasObject by o (output_name j) object new.kit.keeper
+    (object : List ℕ) × WentOn j l caller number old new at (compiled_at by note (with_object o object)) × HasObject by o (output_name j) object new.kit.keeper
 StepIs j l caller number old new at source note (step.Failed why) = Ended j l caller number old new at (Failed why)
 
 -- no put is pending but that of a compile
@@ -103,9 +103,9 @@ StepIdle other keeper = IsIdle keeper
 
 -- the same of a source that stands to be sent, where a request past the limits is for here
 abbrev pub SentIs : {h : ℕ} → Job → Limits h → ℕ → ℕ → World → World → List ℕ → List ℕ → Step → Type 0
-SentIs j l caller number old new source note step.Here = (at : At) × IsForHere j source note at × Went j l caller number old new (Send source note []) at
+SentIs j l caller number old new source note step.Here = (at : At) × IsForHere j source note at × WentOn j l caller number old new (Send source note []) at
 SentIs j l caller number old new source note (step.Compiled by o) =
-    (object : List ℕ) × Went j l caller number old new (Send source note []) (compiled_at by note (with_object o object)) × HasObject by o (output_name j) object new.kit.keeper
+    (object : List ℕ) × WentOn j l caller number old new (Send source note []) (compiled_at by note (with_object o object)) × HasObject by o (output_name j) object new.kit.keeper
 SentIs j l caller number old new source note (step.Failed why) = Ended j l caller number old new (Send source note []) (Failed why)
 
 -- what follows from a host's outcome
@@ -124,10 +124,10 @@ HasUntried l mask tried = (i : ℕ) → in_mask mask i ≡ (nat_lt i l.count && 
 -- what came of one try: all hosts that are left are down; the job goes on; or the exchange broke
 abbrev pub AskedIs : {h : ℕ} → Job → Limits h → ℕ → ℕ → World → World → List ℕ → List ℕ → List Tried → Asked → Type 0
 AskedIs j l caller number old new source note tried asked.Down =
-    Went j l caller number old new (Send source note tried) (or_here j source note (Failed (no_host tried)))
+    WentOn j l caller number old new (Send source note tried) (or_here j source note (Failed (no_host tried)))
 AskedIs j l caller number old new source note tried (asked.Over next) = StepIs j l caller number old new (Send source note tried) source note next
 AskedIs j l caller number old new source note tried (asked.Broke host cause) =
-    (host < l.count) × Went j l caller number old new (Send source note tried) (after_broken j host cause source note tried)
+    (host < l.count) × WentOn j l caller number old new (Send source note tried) (after_broken j host cause source note tried)
     × HasEndCause (Failed (Broke host cause)) old.kit new.kit
 
 abbrev pub AskedIdle : Asked → KeeperView → Type 0
@@ -137,5 +137,5 @@ AskedIdle other keeper = IsIdle keeper
 -- an outcome that is the job's, or the job has failed
 abbrev pub CompiledIs : {h : ℕ} → Job → Limits h → ℕ → ℕ → World → World → At → List ℕ → Result (By × Outcome) Why5 → Type 0
 CompiledIs j l caller number old new at note (Ok made) =
-    (object : List ℕ) × Went j l caller number old new at (compiled_at made.0 note (with_object made.1 object)) × HasObject made.0 made.1 (output_name j) object new.kit.keeper
+    (object : List ℕ) × WentOn j l caller number old new at (compiled_at made.0 note (with_object made.1 object)) × HasObject made.0 made.1 (output_name j) object new.kit.keeper
 CompiledIs j l caller number old new at note (Err why) = Ended j l caller number old new at (Failed why)

@@ -3,13 +3,14 @@ use Rattle.std.specs.Prelude.{◌≡◌, ℕ, ◌+◌, ◌≤◌, Bool, true, fa
 use Rattle.slot_table.specs.declared.limits.Limits.{Limits}
 use Rattle.slot_table.specs.declared.calls.CallEntry.{CallEntry}
 use Rattle.edge_traits.specs.Kits.{KitView}
+use Rattle.edge_traits.specs.Stations.{NoneRose}
 use Rattle.edge_traits.specs.Told.{SameRelation, SameRelation3}
 use Rattle.edge_traits.specs.Deeds.{exchanges_in, moments_in, DidIn, MayAll}
 use Rattle.farm_machine.specs.declared.reports.Event.{Event}
 use Rattle.farm_machine.specs.declared.reports.End.{End}
 use Rattle.farm_machine.specs.declared.reports.Places.{Places}
 use Rattle.farm_machine.specs.Acts.{SlotEvent, took, Act, slots_of, deeds_of}
-use Rattle.farm_machine.specs.Causes.{HasEndCause, KitLater}
+use Rattle.farm_machine.specs.Causes.{HasEndCause, StationStands, KitLater}
 use Rattle.farm_machine.specs.Course.{is_tried, At, Start, Send, Lent, Sent, Reach, Ends}
 use Rattle.farm_machine.specs.Farm.{wanted}
 use Rattle.farm_machine.specs.Honest.{Peers, Programs, AllRan}
@@ -55,12 +56,18 @@ pub record Went {h : ℕ} (j : Job) (l : Limits h) (caller number : ℕ) (old ne
   pub same_peers : SameRelation old.peers new.peers
   pub same_programs : SameRelation3 old.programs new.programs
 
+-- the job came from one place to another and goes on there: no count of the station rose
+pub record WentOn {h : ℕ} (j : Job) (l : Limits h) (caller number : ℕ) (old new : World) (at to : At) : Type 0 where
+  pub went : Went j l caller number old new at to
+  pub station : NoneRose old.kit.station new.kit.station
+
 -- the job came from a place to a last one, where it may end so
 pub record Ended {h : ℕ} (j : Job) (l : Limits h) (caller number : ℕ) (old new : World) (at : At) (end : End) : Type 0 where
   pub to : At
   pub went : Went j l caller number old new at to
   pub ends : Ends j to end
   pub cause : HasEndCause end old.kit new.kit
+  pub station : StationStands end old.kit.station new.kit.station
 
 -- the next places, with room for so many more entries
 pub record HasPlaces (at : Places) (left : ℕ) : Type 0 where

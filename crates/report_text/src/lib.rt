@@ -6,4 +6,7 @@ mod numbers;
 mod pieces;
 
 pub use numbers::status;
-pub use pieces::{Printed, lines, total};
+pub use pieces::{Printed, command_lines, lines, total};
+
+#[cfg(test)]
+mod tests;

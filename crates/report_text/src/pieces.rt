@@ -1,7 +1,7 @@
 //! The printed text of a build's reports.
 
-ghost use Rattle.std.specs.Prelude.{◌≡◌, ◌++◌, IfOk};
-ghost use Rattle.report_text.specs.Pieces.{err_messages, out_messages, line_text, is_done_well, total_text};
+ghost use Rattle.std.specs.Prelude.{◌≡◌, ◌++◌, IfOk, OnOk};
+ghost use Rattle.report_text.specs.Pieces.{err_messages, failure_text, out_messages, line_text, is_done_well, total_text};
 
 use crate::ends::{add_end, add_number};
 use farm_machine::{End, Report, ReportList};
@@ -51,6 +51,32 @@ pub fn lines(alloc: Global, hosts: &Hosts, report: &Report) -> Result<Printed, A
     out.try_extend(b" ")?;
     add_end(alloc, &mut out, hosts, &report.end)?;
     out.try_extend(b"\n")?;
+    Ok(Printed { out, err })
+}
+
+// Adds the line of a command that was run alone and failed.
+fn add_failure(alloc: Global, text: &mut Bytes, hosts: &Hosts, end: &End) -> Result<(), AllocError>
+    ensures { OnOk result (text.new ≡ text.old ++ failure_text hosts.now.list end.now) }
+{
+    match end {
+        End::Done { .. } => Ok(()),
+        End::Failed(_) => {
+            text.try_extend(b"farm: ")?;
+            add_end(alloc, text, hosts, end)?;
+            text.try_extend(b"\n")
+        }
+    }
+}
+
+/// The printed text of one command that was run alone: its messages, and where it failed `farm:` and why, on the sink of errors.
+/// There is no other line.
+pub fn command_lines(alloc: Global, hosts: &Hosts, end: &End) -> Result<Printed, AllocError>
+    ensures err { IfOk result (λ printed. printed.err ≡ err_messages end.now ++ failure_text hosts.now.list end.now) }
+    ensures out { IfOk result (λ printed. printed.out ≡ out_messages end.now) }
+{
+    let mut err = err_of(alloc, end)?;
+    add_failure(alloc, &mut err, hosts, end)?;
+    let out = out_of(alloc, end)?;
     Ok(Printed { out, err })
 }
 

@@ -10,3 +10,4 @@ pub mod Frees
 pub mod Keeping
 pub mod Rounds
 pub mod Takes
+pub mod Later

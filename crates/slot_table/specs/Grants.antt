@@ -1,11 +1,12 @@
 -- What contracts see of a grant, and of the answers that carry one.
-use Rattle.std.specs.Prelude.{◌≡◌, ℕ, ◌<◌, Bool, true, List, Option, Some, None, if◌then◌else◌}
+use Rattle.std.specs.Prelude.{◌≡◌, ℕ, ◌<◌, Bool, true, List, All, Option, Some, None, if◌then◌else◌}
 use Rattle.slot_table.specs.declared.limits.Limits.{Limits}
 use Rattle.slot_table.specs.declared.mask.Mask.{Mask}
 use Rattle.slot_table.specs.declared.state.SlotState.{SlotState}
 use Rattle.slot_table.specs.Mask.{in_mask}
 use Rattle.slot_table.specs.Step.{IsHeld}
-use Rattle.slot_table.specs.History.{Holding, holding, has}
+use Rattle.slot_table.specs.declared.calls.CallEntry.{CallEntry}
+use Rattle.slot_table.specs.History.{Holding, holding, has, jobs_drawn}
 use Rattle.slot_table.specs.declared.grant.Grant.{Grant}
 use Rattle.slot_table.specs.declared.grant.LocalGrant.{LocalGrant}
 use Rattle.slot_table.specs.declared.grant.Take.{Take}
@@ -71,3 +72,7 @@ IsLocalOutstanding caller held None = Unit {0}
 -- how many of the calls that there is room for one call spends: one where a caller is alone, and none otherwise
 abbrev pub cost : Bool → ℕ
 cost alone = if alone then 1 else 0
+
+-- the job comes after all that these calls drew
+abbrev pub IsLater : List CallEntry → ℕ → Type 0
+IsLater calls job = All (λ earlier. earlier < job) (jobs_drawn calls)

@@ -6,7 +6,7 @@ ghost use Rattle.slot_table.specs.declared.calls.SlotCall.TheVariants.{Draw, Tak
 ghost use Rattle.slot_table.specs.declared.calls.SlotReply.TheVariants.{Drawn, Full, Local, Given};
 ghost use Rattle.slot_table.specs.Limits.{is_local};
 ghost use Rattle.slot_table.specs.History.{entry, holding, has, outstanding};
-ghost use Rattle.slot_table.specs.Grants.{host_of, job_of, local_job_of, reply_of, IsGrantFor, IsEntryOf, IsOutstanding, IsLocalGrantFor, IsLocalOutstanding, cost};
+ghost use Rattle.slot_table.specs.Grants.{host_of, job_of, local_job_of, reply_of, IsGrantFor, IsEntryOf, IsOutstanding, IsLocalGrantFor, IsLocalOutstanding, IsLater, cost};
 
 use crate::grant::{Grant, LocalGrant, Take};
 use crate::mask::Mask;
@@ -59,7 +59,8 @@ pub trait Grants {
         ensures number { number self.new ≡ number self.old }
         ensures spare { spare self.new + cost alone ≡ spare self.old }
         ensures mine { mine self.new ≡ mine self.old ++ entry (number self.old) Draw (Drawn result) ∷ [] }
-        ensures job { IfSome result (λ job. job < (limits self.old).jobs) };
+        ensures job { IfSome result (λ job. job < (limits self.old).jobs) }
+        ensures later { IfSome result (IsLater (mine self.old)) };
 
     /// A slot of the first entry, in the order of the job's search, that is in the mask, has a free slot and
     /// isn't left alone at the moment `now`.

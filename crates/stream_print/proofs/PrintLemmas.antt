@@ -11,7 +11,7 @@ use Rattle.stream_print.specs.declared.one.PrintStop.{PrintStop}
 use Rattle.stream_print.specs.declared.pieces.SinkKind.{SinkKind}
 use Rattle.stream_print.specs.declared.pieces.SinkKind.TheVariants.{Out, Err as ErrSink}
 use Rattle.stream_print.specs.declared.pieces.Piece.{Piece}
-use Rattle.stream_print.specs.Prints.{SinksView, Printed, PrintedPart, IsPart, Later, GoesOn, BothGoOn, DidStop, DidStopOn, out_bytes, err_bytes, for_out, for_err, cut}
+use Rattle.stream_print.specs.Prints.{SinksView, Printed, PrintedPart, IsPart, Later, GoesOn, BothGoOn, DidStop, DidStopOn, OtherGoesOn, out_bytes, err_bytes, for_out, for_err, cut}
 
 pub out_bytes-append : (a b : List Piece) → out_bytes a ++ out_bytes b ≡ out_bytes (a ++ b)
 out_bytes-append [] b = refl
@@ -78,11 +78,11 @@ Later-refl a = record { out = omega arith; err = omega arith }
 pub Later-join : {a b c : SinksView} → Later a b → Later b c → Later a c
 Later-join first second = record { out = omega arith; err = omega arith }
 
+pub GoesOn-join : {a b c : SinkView} → GoesOn a b → GoesOn b c → GoesOn a c
+GoesOn-join first second = record { faults = second.faults ∙ first.faults; stopped = second.stopped ∙ first.stopped }
+
 pub goes-join : {a b c : SinksView} → BothGoOn a b → BothGoOn b c → BothGoOn a c
-goes-join first second = record {
-  out = record { faults = second.out.faults ∙ first.out.faults; stopped = second.out.stopped ∙ first.out.stopped };
-  err = record { faults = second.err.faults ∙ first.err.faults; stopped = second.err.stopped ∙ first.err.stopped };
-}
+goes-join first second = record { out = GoesOn-join first.out second.out; err = GoesOn-join first.err second.err }
 
 pub goes-same : (a : SinkView) → GoesOn a a
 goes-same a = record { faults = refl; stopped = refl }
@@ -90,15 +90,20 @@ goes-same a = record { faults = refl; stopped = refl }
 pub goes-later : {a b : SinksView} → BothGoOn a b → Later a b
 goes-later both = record { out = omega (arith, both.out.faults); err = omega (arith, both.err.faults) }
 
+pub OtherGoesOn-after : (on : SinkKind) (a b c : SinksView) → BothGoOn a b → OtherGoesOn on b c → OtherGoesOn on a c
+OtherGoesOn-after Out a b c goes other = GoesOn-join goes.err other
+OtherGoesOn-after ErrSink a b c goes other = GoesOn-join goes.out other
+
 -- a part, after some whole pieces
-pub PrintedPart-after : {stop : PrintStop} {pieces : List Piece} {a b c : SinksView} (before after all : List Piece) → before ++ (pieces ++ after) ≡ all → Printed a b before → Later a b → (stop ≡ Memory → BothGoOn a b) → PrintedPart pieces stop b c → PrintedPart all stop a c
-PrintedPart-after {a = a} {b = b} {c = c} before after all are printed later goes part = record {
+pub PrintedPart-after : {stop : PrintStop} {pieces : List Piece} {a b c : SinksView} (before after all : List Piece) → before ++ (pieces ++ after) ≡ all → Printed a b before → BothGoOn a b → PrintedPart pieces stop b c → PrintedPart all stop a c
+PrintedPart-after {a = a} {b = b} {c = c} before after all are printed goes part = record {
   done = before ++ part.done;
   next = part.next;
   part = subst (λ ps. IsPart ps (before ++ part.done) part.next) are (IsPart-after before after part.part);
   printed = Printed-join printed part.printed;
-  stopped = λ stop. DidStopOn-after part.next.sink a b c later (part.stopped stop);
-  memory = λ is. goes-join (goes is) (part.memory is);
+  stopped = λ stop. DidStopOn-after part.next.sink a b c (goes-later goes) (part.stopped stop);
+  other = λ stop. OtherGoesOn-after part.next.sink a b c goes (part.other stop);
+  memory = λ is. goes-join goes (part.memory is);
 }
 
 -- one more
@@ -120,6 +125,7 @@ module _ {T : Type 0} (result : Result T PrintStop) (piece : Piece) (bytes : Lis
       part = part_of_one piece p.0 (subst (λ b. p.0 < length b) same p.1);
       printed = subst (λ o. Printed (record { out = old; err = err }) (record { out = new; err = err }) (record { sink = o; bytes = take p.0 piece.bytes } ∷ [])) (sym on) (Printed-out (subst (λ b. Grew old.written new.written (take p.0 b)) same p.2) refl);
       stopped = λ stop. subst (λ o. DidStopOn o (record { out = old; err = err }) (record { out = new; err = err })) (sym on) (s (ap (λ e. Err e) stop));
+      other = λ _. subst (λ o. OtherGoesOn o (record { out = old; err = err }) (record { out = new; err = err })) (sym on) (goes-same err);
       memory = λ is. record { out = m (ap (λ e. Err e) is); err = goes-same err };
     }
   ] part stop memory
@@ -133,6 +139,7 @@ module _ {T : Type 0} (result : Result T PrintStop) (piece : Piece) (bytes : Lis
       part = part_of_one piece p.0 (subst (λ b. p.0 < length b) same p.1);
       printed = subst (λ o. Printed (record { out = out; err = old }) (record { out = out; err = new }) (record { sink = o; bytes = take p.0 piece.bytes } ∷ [])) (sym on) (Printed-err (subst (λ b. Grew old.written new.written (take p.0 b)) same p.2) refl);
       stopped = λ stop. subst (λ o. DidStopOn o (record { out = out; err = old }) (record { out = out; err = new })) (sym on) (s (ap (λ e. Err e) stop));
+      other = λ _. subst (λ o. OtherGoesOn o (record { out = out; err = old }) (record { out = out; err = new })) (sym on) (goes-same out);
       memory = λ is. record { out = goes-same out; err = m (ap (λ e. Err e) is) };
     }
   ] part stop memory

@@ -61,6 +61,11 @@ abbrev pub DidStopOn : SinkKind → SinksView → SinksView → Type 0
 DidStopOn Out old new = DidStop old.out new.out
 DidStopOn ErrSink old new = DidStop old.err new.err
 
+-- the sink that is not this one goes on
+abbrev pub OtherGoesOn : SinkKind → SinksView → SinksView → Type 0
+OtherGoesOn Out old new = GoesOn old.err new.err
+OtherGoesOn ErrSink old new = GoesOn old.out new.out
+
 -- the first bytes of a piece
 abbrev pub cut : ℕ → Piece → Piece
 cut count piece = record { sink = piece.sink; bytes = take count piece.bytes }
@@ -74,11 +79,12 @@ pub record IsPart (pieces done : List Piece) (next : Piece) : Type 0 where
   pub within : count < length next.bytes
   pub cut_short : done ≡ first ++ cut count next ∷ []
 
--- The sinks got a part of the pieces. Where the printing stopped, it was because the next piece's sink did; where memory was wanting, neither had.
+-- The sinks got a part of the pieces. Where the printing stopped, it was because the next piece's sink did, and the other had not; where memory was wanting, neither had.
 pub record PrintedPart (pieces : List Piece) (stop : PrintStop) (old new : SinksView) : Type 0 where
   pub done : List Piece
   pub next : Piece
   pub part : IsPart pieces done next
   pub printed : Printed old new done
   pub stopped : stop ≡ Stopped → DidStopOn next.sink old new
+  pub other : stop ≡ Stopped → OtherGoesOn next.sink old new
   pub memory : stop ≡ Memory → BothGoOn old new

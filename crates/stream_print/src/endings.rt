@@ -7,14 +7,14 @@ ghost use Rattle.stream_print.specs.Ends.{Ends, WantOf, complaint};
 use crate::{Piece, PrintStop, print, print_all};
 use edge_traits::Sink;
 
-/// The exit status where a sink failed or took 0 bytes.
+/// The exit status where a sink failed or took 0 bytes, `stopped_status` of the specs.
 pub const STOPPED: u8 = 100;
 
-/// The exit status for want of memory.
+/// The exit status for want of memory, `memory_status` of the specs.
 pub const NO_MEMORY: u8 = 105;
 
-/// Prints the notice that memory is wanting on the sink of errors, and answers the exit status: 105, or 100
-/// where that sink stopped.
+/// Prints the notice that memory is wanting on the sink of errors, and answers the exit status: `NO_MEMORY`, or
+/// `STOPPED` where that sink stopped.
 pub fn no_memory<O: Sink, E: Sink>(notice: &[u8], out: &mut O, err: &mut E) -> u8
     ensures { WantOf notice.now [] (sinks_view O.shows E.shows out.old err.old)
         (sinks_view O.shows E.shows out.new err.new) result }
@@ -26,8 +26,8 @@ pub fn no_memory<O: Sink, E: Sink>(notice: &[u8], out: &mut O, err: &mut E) -> u
     }
 }
 
-/// Prints these texts, and answers this exit status. Where a sink stopped, the answer is 100; where one wanted
-/// memory, the notice follows, and the answer is that of `no_memory`.
+/// Prints these texts, and answers this exit status. Where a sink stopped, nothing more is printed,
+/// and the answer is `STOPPED`; where one wanted memory, the notice follows, and the answer is that of `no_memory`.
 pub fn finish<O: Sink, E: Sink>(
     pieces: &[Piece],
     status: u8,

@@ -1,4 +1,4 @@
-use Rattle.std.proofs.Common.{◌≡◌, [], ◌∷◌, ◌++◌, ◌∙◌, ap, codes}
+use Rattle.std.proofs.Common.{◌≡◌, [], ◌++◌, ◌∙◌, ap, codes}
 use Rattle.std.specs.Fmt.{decimal}
 use Rattle.stream_print.specs.Ends.{complaint}
 use Rattle.stream_print.proofs.EndLemmas.{want_first}
@@ -15,4 +15,4 @@ returns-in-Ok g c =
     complaint_by text c.complain.ensures
 
 pub returns-in-Err : goal.returns-in-Err
-returns-in-Err g c = want_first (complaint (host_fault_text c.args.at c.args.fault) ∷ []) 106 _ _ _ c.want_memory.ensures
+returns-in-Err g c = want_first (complaint (host_fault_text c.args.at c.args.fault)) [] 106 _ _ _ c.want_memory.ensures

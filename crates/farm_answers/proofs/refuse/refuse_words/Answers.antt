@@ -1,4 +1,4 @@
-use Rattle.std.proofs.Common.{◌≡◌, [], ◌∷◌, ◌∙◌}
+use Rattle.std.proofs.Common.{◌≡◌, [], ◌∙◌}
 use Rattle.stream_print.specs.Ends.{complaint}
 use Rattle.stream_print.proofs.EndLemmas.{want_first}
 use Rattle.farm_answers.specs.Texts.{bad_words_text}
@@ -11,4 +11,4 @@ returns-in-Ok g c =
     complaint_by text c.complain.ensures
 
 pub returns-in-Err : goal.returns-in-Err
-returns-in-Err g c = want_first (complaint (bad_words_text c.args.place) ∷ []) 101 _ _ _ c.want_memory.ensures
+returns-in-Err g c = want_first (complaint (bad_words_text c.args.place)) [] 101 _ _ _ c.want_memory.ensures

@@ -1,5 +1,8 @@
+use Rattle.std.proofs.Common.{refl}
+use Rattle.stream_print.specs.declared.one.PrintStop.TheVariants.{Memory}
+use Rattle.stream_print.specs.Ends.{PrintedFront}
 use Rattle.stream_print.proofs.EndLemmas.{want_front}
 use Rattle.farm_program.proofs.report.finish_build.Goals as goal
 
 pub returns-in-Err-Memory : goal.returns-in-Err-Memory
-returns-in-Err-Memory g c = want_front _ _ _ _ _ _ c.in-Err-Memory.ensures.front c.in-Err-Memory.ensures.later c.want_memory.ensures
+returns-in-Err-Memory g c = want_front _ _ _ _ _ _ c.in-Err-Memory.ensures.front c.in-Err-Memory.field-0-is c.want_memory.ensures

@@ -8,4 +8,4 @@ pub returns-in-Ok-print_total-clause-all : goal.returns-in-Ok-print_total-clause
 returns-in-Ok-print_total-clause-all g c = total_printed c.args.hosts.now.list _ c.args.reports.now c.as_slice.ensures _ _ c.in-Ok.ensures.all _ c.in-Ok-print_total.ensures.all
 
 pub returns-in-Err-print_total-clause-front : goal.returns-in-Err-print_total-clause-front
-returns-in-Err-print_total-clause-front g c = total_cut c.args.hosts.now.list _ c.args.reports.now c.as_slice.ensures _ _ c.in-Ok.ensures.all _ c.in-Ok.ensures.later c.in-Err-print_total.ensures.front
+returns-in-Err-print_total-clause-front g c = total_cut c.args.hosts.now.list _ c.args.reports.now c.as_slice.ensures _ _ c.in-Ok.ensures.all _ c.in-Ok.ensures.goes_on c.in-Err-print_total.ensures.front

@@ -1,5 +1,6 @@
 use Rattle.std.proofs.Common.{◌≡◌, ◌+◌, drop, map, string_bytes, Global}
-use Rattle.farm_words.specs.Options.{options_from, options_of, state}
+use Rattle.farm_words.specs.Steps.{state}
+use Rattle.farm_words.proofs.Walk.{options_from, options_of}
 use Rattle.farm_words.proofs.options.parse_options.Given as goal
 
 abbrev pub invariant-each : goal.invariant-each

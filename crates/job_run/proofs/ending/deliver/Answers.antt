@@ -3,8 +3,10 @@ use Rattle.reply_stream.specs.Objects.{with_object}
 use Rattle.edge_traits.specs.declared.entries.Put.{Put}
 use Rattle.std.proofs.lemmas.List.{append-nil}
 use Rattle.edge_traits.proofs.ToldLemmas.{Grew-refl}
+use Rattle.farm_machine.specs.declared.reports.End.TheVariants.{Failed}
 use Rattle.farm_machine.specs.Course.{Over}
 use Rattle.job_run.specs.Stages.{compiled_at, HasObject}
+use Rattle.job_run.proofs.Composing.{none-rose, stands-by}
 use Rattle.job_run.proofs.Ends.{ends-failed, ends-not-put, next-put}
 use Rattle.job_run.proofs.Failing.{not-put, not-put-cause, done-cause}
 use Rattle.job_run.proofs.Keeping.{none-pending}
@@ -20,6 +22,7 @@ returns-then-outcome-ne0-clause-ended g c = λ h l caller number mine j object n
           (sym (append-nil _), refl) refl;
       ends = ends-failed j c.args.by c.args.note (with_object c.args.outcome object) _ c.if-outcome-ne0.true c.done.ensures;
       cause = done-cause _ _ _ _ _ _ _ _ c.done.ensures;
+      station = stands-by _ _ _ (none-rose _);
     }
 
 pub returns-in-Ok-clause-ended : goal.returns-in-Ok-clause-ended
@@ -36,6 +39,7 @@ returns-in-Ok-clause-ended g c = λ h l caller number mine j object named held.
           (next-put j c.args.by c.args.note (with_object c.args.outcome object) x _ c.if-outcome-ne0.false (sym named) refl c.done-in-Ok.ensures);
       ends = refl;
       cause = done-cause _ _ _ _ _ _ _ _ c.done-in-Ok.ensures;
+      station = stands-by _ _ _ (none-rose _);
     }
 
 pub returns-in-Err-clause-ended : goal.returns-in-Err-clause-ended
@@ -50,6 +54,7 @@ returns-in-Err-clause-ended g c = λ h l caller number mine j object named held.
           (sym (append-nil _), refl) refl;
       ends = ends-not-put j c.args.by c.args.note (with_object c.args.outcome object) _ c.if-outcome-ne0.false (not-put c.in-Err.fault _ c.why_not_put.ensures);
       cause = not-put-cause c.in-Err.fault _ _ _ c.why_not_put.ensures (λ e. kept.cause.failed (ap (λ f. Err f) e));
+      station = stands-by (Failed c.why_not_put.result) (g.S.Station.shows c.args.kit.now.station) _ (none-rose _);
     }
 
 pub returns-then-outcome-ne0-clause-idle : goal.returns-then-outcome-ne0-clause-idle

@@ -1,5 +1,4 @@
-use Rattle.std.proofs.Common.{sym, subst}
-use Rattle.job_run.proofs.Keeping.{can-commit, has-pending}
+use Rattle.job_run.proofs.Keeping.{can-commit}
 use Rattle.job_run.proofs.ending.put_object.Goals as goal
 
 pub commit-requires : goal.commit-requires

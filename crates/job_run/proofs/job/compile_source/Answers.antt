@@ -3,7 +3,7 @@ use Rattle.std.proofs.lemmas.List.{append-nil}
 use Rattle.edge_traits.proofs.DeedLemmas.{DidIn-nothing}
 use Rattle.farm_machine.specs.Course.{Send}
 use Rattle.farm_machine.specs.Jobs.{job_of}
-use Rattle.job_run.proofs.Composing.{went-then, went-ended}
+use Rattle.job_run.proofs.Composing.{none-rose, on-then, on-ended}
 use Rattle.job_run.proofs.Leaves.{no-act, same_peers, same_programs}
 use Rattle.job_run.proofs.job.compile_source.Goals as goal
 
@@ -13,13 +13,14 @@ returns-in_default-clause-compiled g c = λ note. record {
   went = no-act _ (job_of c.args.words.now c.args.config.now) _ _ _ _ _ (DidIn-nothing _) (record { station = omega arith; station_overruns = omega arith; keeper = omega arith; keeper_overruns = omega arith; dialer = omega arith }) (same_peers _) (same_programs _) (sym (append-nil _), refl) refl;
   ends = refl;
   cause = tt;
+  station = none-rose _;
 }
 
 pub returns-in-Ok-compile_here-clause-compiled : goal.returns-in-Ok-compile_here-clause-compiled
 returns-in-Ok-compile_here-clause-compiled g c = λ note.
     let sent = c.in-Here.ensures.asked note in (
       c.in-Ok-compile_here.outcome.object,
-      went-then (job_of c.args.words.now c.args.config.now) _ _ _ _ _ _ _ _ (Send c.args.source note []) sent.0 _ c.ask_if_fits.ensures.limits c.ask_if_fits.ensures.number
+      on-then (job_of c.args.words.now c.args.config.now) _ _ _ _ _ _ _ _ (Send c.args.source note []) sent.0 _ c.ask_if_fits.ensures.limits c.ask_if_fits.ensures.number
           sent.2 (c.in-Ok-compile_here.ensures.compiled c.args.config.now note sent.0 sent.1),
       (refl, c.in-Ok-compile_here.ensures.idle),
     )
@@ -27,5 +28,5 @@ returns-in-Ok-compile_here-clause-compiled g c = λ note.
 pub returns-clause-compiled : goal.returns-clause-compiled
 returns-clause-compiled g c = λ note.
     let sent = c.in-Here.ensures.asked note in
-    went-ended (job_of c.args.words.now c.args.config.now) _ _ _ _ _ _ _ _ (Send c.args.source note []) sent.0 _ c.ask_if_fits.ensures.limits c.ask_if_fits.ensures.number
+    on-ended (job_of c.args.words.now c.args.config.now) _ _ _ _ _ _ _ _ (Send c.args.source note []) sent.0 _ c.ask_if_fits.ensures.limits c.ask_if_fits.ensures.number
     sent.2 (c.in-Err.ensures.compiled c.args.config.now note sent.0 sent.1)

@@ -3,6 +3,7 @@ use Rattle.std.proofs.lemmas.List.{append-nil}
 use Rattle.edge_traits.proofs.DeedLemmas.{DidIn-nothing}
 use Rattle.farm_machine.specs.Course.{Start}
 use Rattle.farm_machine.specs.Jobs.{job_of}
+use Rattle.job_run.proofs.Composing.{none-rose}
 use Rattle.job_run.proofs.Leaves.{no-act, same_peers, same_programs}
 use Rattle.job_run.proofs.Names.{is_sent, class_input, class_stays}
 use Rattle.job_run.proofs.job.run_class.Goals as goal
@@ -22,6 +23,7 @@ returns-in-Memory-clause-ended g c = record {
   went = no-act _ (job_of c.args.words.now c.args.config.now) _ _ _ _ _ (DidIn-nothing _) (record { station = omega arith; station_overruns = omega arith; keeper = omega arith; keeper_overruns = omega arith; dialer = omega arith }) (same_peers _) (same_programs _) (sym (append-nil _), refl) refl;
   ends = inl refl;
   cause = tt;
+  station = none-rose _;
 }
 
 pub returns-in-Empty-clause-ended : goal.returns-in-Empty-clause-ended

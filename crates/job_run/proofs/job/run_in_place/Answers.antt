@@ -7,7 +7,8 @@ use Rattle.farm_machine.specs.Course.{LentInPlace, RanInPlace, Over}
 use Rattle.edge_traits.specs.declared.entries.Run.{Run}
 use Rattle.child_runner.specs.Runs.{texts}
 use Rattle.farm_machine.specs.Jobs.{job_of}
-use Rattle.job_run.proofs.Failing.{over-not-run, not-run-cause, done-cause, local-given, borrowed-given}
+use Rattle.job_run.proofs.Composing.{stands-by}
+use Rattle.job_run.proofs.Failing.{over-not-run, not-run-cause, not-run-stands, done-cause, local-given, borrowed-given}
 use Rattle.job_run.proofs.Leaves.{noted-then, did-run, did-nothing, local-ran, local-not-run, same_peers}
 use Rattle.job_run.proofs.Outstanding.{gave-local}
 use Rattle.job_run.proofs.job.run_in_place.Goals as goal
@@ -37,6 +38,7 @@ returns-in-Ok-clause-ended g c = λ config stays.
           (stays, refl) ((refl, refl), refl) (inl (ap (λ e. Over e) c.done_in_place.ensures));
       ends = refl;
       cause = done-cause _ _ _ _ _ _ _ _ c.done_in_place.ensures;
+      station = stands-by _ _ _ run.done;
     }
 
 pub returns-in-Err-clause-ended : goal.returns-in-Err-clause-ended
@@ -52,4 +54,5 @@ returns-in-Err-clause-ended g c = λ config stays.
           (stays, refl) (over-not-run c.in-Err.fault _ c.why_not_run.ensures);
       ends = refl;
       cause = not-run-cause _ c.in-Err.fault _ _ _ c.why_not_run.ensures run.cause;
+      station = not-run-stands _ c.in-Err.fault _ _ _ c.why_not_run.ensures run.cause;
     }

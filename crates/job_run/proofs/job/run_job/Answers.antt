@@ -22,6 +22,7 @@ returns-clause-ran g c =
       serves = went.serves [] (λ host. refl);
       moments = went.moments;
       cause = ended.cause;
+      station = ended.station;
       later = went.later;
       may = went.may;
       ran = went.ran;

@@ -2,7 +2,7 @@ use Rattle.std.proofs.Common.{List, ℕ, refl, sym, subst}
 use Rattle.edge_traits.specs.FileMaps.{IsStaged}
 use Rattle.farm_machine.specs.Course.{Start}
 use Rattle.farm_machine.specs.Jobs.{job_of}
-use Rattle.job_run.proofs.Composing.{went-then, went-ended}
+use Rattle.job_run.proofs.Composing.{on-then, on-ended}
 use Rattle.job_run.proofs.Keeping.{can-deliver}
 use Rattle.job_run.proofs.Names.{output_not_staged}
 use Rattle.job_run.proofs.job.run_remote.Goals as goal
@@ -15,15 +15,15 @@ returns-in-Over-clause-ended g c = c.in-Over.ensures.prepared _ (g.G.Grants.limi
 
 pub returns-in-Err-clause-ended : goal.returns-in-Err-clause-ended
 returns-in-Err-clause-ended g c =
-    went-ended (job_of c.args.words.now c.args.config.now) _ _ _ _ _ _ _ _ Start _ _ refl refl
+    on-ended (job_of c.args.words.now c.args.config.now) _ _ _ _ _ _ _ _ Start _ _ refl refl
     (c.in-Ready.ensures.prepared _ (g.G.Grants.limits c.args.grants.now) (g.G.Grants.number c.args.grants.now) c.args.number (g.G.Grants.mine c.args.grants.now) c.args.config.now)
     (c.in-Err.ensures.compiled c.in-Ready.note)
 
 pub returns-in-Ok-clause-ended : goal.returns-in-Ok-clause-ended
 returns-in-Ok-clause-ended g c =
     let made = c.in-Ok.ensures.compiled c.in-Ready.note in
-    went-ended (job_of c.args.words.now c.args.config.now) _ _ _ _ _ _ _ _ Start _ _ refl refl
-    (went-then (job_of c.args.words.now c.args.config.now) _ _ _ _ _ _ _ _ Start _ _ refl refl
+    on-ended (job_of c.args.words.now c.args.config.now) _ _ _ _ _ _ _ _ Start _ _ refl refl
+    (on-then (job_of c.args.words.now c.args.config.now) _ _ _ _ _ _ _ _ Start _ _ refl refl
     (c.in-Ready.ensures.prepared _ (g.G.Grants.limits c.args.grants.now) (g.G.Grants.number c.args.grants.now) c.args.number (g.G.Grants.mine c.args.grants.now) c.args.config.now)
     made.1)
     (c.deliver.ensures.ended _ (g.G.Grants.limits c.args.grants.now) (g.G.Grants.number c.args.grants.now) c.args.number (g.G.Grants.mine c.compile_source.new.grants) (job_of c.args.words.now c.args.config.now) made.0 (sym c.requires.output) made.2)

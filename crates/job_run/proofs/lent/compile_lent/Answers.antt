@@ -8,7 +8,7 @@ use Rattle.edge_traits.specs.declared.entries.Run.{Run}
 use Rattle.arg_strip.specs.Words.{placed_words}
 use Rattle.slot_table.specs.Grants.{host_of}
 use Rattle.farm_machine.specs.Jobs.{job_of}
-use Rattle.job_run.proofs.Failing.{over-not-run, not-run-cause, over-lent, gave-as}
+use Rattle.job_run.proofs.Failing.{over-not-run, not-run-cause, not-run-stands, over-lent, gave-as}
 use Rattle.job_run.proofs.Leaves.{noted-then, did-run, did-nothing, lent-ran, given-back, same_peers}
 use Rattle.job_run.proofs.Outstanding.{gave-host}
 use Rattle.edge_traits.proofs.ToldLemmas.{Grew-refl}
@@ -24,11 +24,14 @@ pub returns-in-Ok-clause-compiled : goal.returns-in-Ok-clause-compiled
 returns-in-Ok-clause-compiled g c = λ config note tried here.
     let run = c.in-Ok.ensures in
     let x : Run = record { words = placed_words c.args.words.now; input = c.args.source.now; ran = c.in-Ok.ran } in
-    lent-ran _ (job_of c.args.words.now config) _ _ _ _ _ _ (RanThere (host_of c.args.grant) note c.in-Ok.ran) _ x
-    (did-run _ _ x run.runs refl refl (Grew-refl _)) (record { station = run.faults; station_overruns = run.overruns; keeper = omega arith; keeper_overruns = omega arith; dialer = omega arith }) run.ran (same_peers _) run.same
-    (noted-then (Did (ran x) ∷ []) (Met (Gives (host_of c.args.grant)) ∷ []) _ _ _ _ _ _ (c.ran.ensures.events, c.ran.ensures.places) (gave-as _ _ _ _ c.host-at.ensures c.note.ensures.events, c.note.ensures.places))
-    c.give.ensures.mine
-    (here, (refl, refl), refl) (refl, inl (ap (λ o. Finish Here note o) c.outcome_of.ensures))
+    record {
+      went = lent-ran _ (job_of c.args.words.now config) _ _ _ _ _ _ (RanThere (host_of c.args.grant) note c.in-Ok.ran) _ x
+          (did-run _ _ x run.runs refl refl (Grew-refl _)) (record { station = run.faults; station_overruns = run.overruns; keeper = omega arith; keeper_overruns = omega arith; dialer = omega arith }) run.ran (same_peers _) run.same
+          (noted-then (Did (ran x) ∷ []) (Met (Gives (host_of c.args.grant)) ∷ []) _ _ _ _ _ _ (c.ran.ensures.events, c.ran.ensures.places) (gave-as _ _ _ _ c.host-at.ensures c.note.ensures.events, c.note.ensures.places))
+          c.give.ensures.mine
+          (here, (refl, refl), refl) (refl, inl (ap (λ o. Finish Here note o) c.outcome_of.ensures));
+      station = run.done;
+    }
 
 pub returns-in-Err-clause-compiled : goal.returns-in-Err-clause-compiled
 returns-in-Err-clause-compiled g c = λ config note tried here.
@@ -41,4 +44,5 @@ returns-in-Err-clause-compiled g c = λ config note tried here.
           (refl, over-lent _ _ here (over-not-run c.in-Err.fault _ c.why_not_run.ensures));
       ends = refl;
       cause = not-run-cause _ c.in-Err.fault _ _ _ c.why_not_run.ensures run.cause;
+      station = not-run-stands _ c.in-Err.fault _ _ _ c.why_not_run.ensures run.cause;
     }

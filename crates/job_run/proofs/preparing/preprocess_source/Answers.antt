@@ -6,8 +6,9 @@ use Rattle.arg_strip.specs.Words.{preprocessing_words}
 use Rattle.child_runner.specs.Runs.{texts}
 use Rattle.farm_machine.specs.Course.{Start, Send, Over}
 use Rattle.farm_machine.specs.Jobs.{job_of}
+use Rattle.job_run.proofs.Composing.{stands-by}
 use Rattle.job_run.proofs.Ends.{preprocessor-failed, preprocessor-well, ends-unpreprocessed}
-use Rattle.job_run.proofs.Failing.{not-run, not-run-cause, done-cause}
+use Rattle.job_run.proofs.Failing.{not-run, not-run-cause, not-run-stands, done-cause}
 use Rattle.job_run.proofs.Leaves.{only-run, no-act, did-run, did-nothing, same_peers}
 use Rattle.job_run.proofs.Names.{class_unready}
 use Rattle.job_run.proofs.preparing.preprocess_source.Goals as goal
@@ -27,16 +28,20 @@ returns-then-ran-ne0-clause-prepared g c = λ h l caller number mine config.
           (c.requires.remote, c.requires.source, (refl, refl), preprocessor-failed c.in-Ok.ran _ c.done_by_preprocessor.ensures c.if-ran-ne0.true);
       ends = refl;
       cause = done-cause _ _ _ _ _ _ _ _ c.done_by_preprocessor.ensures;
+      station = stands-by _ _ _ run.done;
     }
 
 pub returns-else-ran-ne0-clause-prepared : goal.returns-else-ran-ne0-clause-prepared
 returns-else-ran-ne0-clause-prepared g c = λ h l caller number mine config.
     let run = c.in-Ok.ensures in
     let x : Run = record { words = texts (preprocessing_words c.args.words.now); input = []; ran = c.in-Ok.ran } in
-    only-run l (job_of c.args.words.now config) caller number _ _ Start (Send c.in-Ok.ran.out c.in-Ok.ran.err []) x
-    (did-run _ _ x run.runs refl refl (Grew-refl _)) (record { station = run.faults; station_overruns = run.overruns; keeper = omega arith; keeper_overruns = omega arith; dialer = omega arith }) run.ran (same_peers _) run.same
-    (c.ran.ensures.events, c.ran.ensures.places) refl
-    (c.requires.remote, c.requires.source, (refl, refl), preprocessor-well c.in-Ok.ran c.if-ran-ne0.false)
+    record {
+      went = only-run l (job_of c.args.words.now config) caller number _ _ Start (Send c.in-Ok.ran.out c.in-Ok.ran.err []) x
+          (did-run _ _ x run.runs refl refl (Grew-refl _)) (record { station = run.faults; station_overruns = run.overruns; keeper = omega arith; keeper_overruns = omega arith; dialer = omega arith }) run.ran (same_peers _) run.same
+          (c.ran.ensures.events, c.ran.ensures.places) refl
+          (c.requires.remote, c.requires.source, (refl, refl), preprocessor-well c.in-Ok.ran c.if-ran-ne0.false);
+      station = run.done;
+    }
 
 pub returns-in-Err-clause-prepared : goal.returns-in-Err-clause-prepared
 returns-in-Err-clause-prepared g c = λ h l caller number mine config.
@@ -48,4 +53,5 @@ returns-in-Err-clause-prepared g c = λ h l caller number mine config.
           (sym (append-nil _), refl) refl;
       ends = ends-unpreprocessed (job_of c.args.words.now config) _ c.requires.remote c.requires.source (not-run c.in-Err.fault _ c.why_not_run.ensures);
       cause = not-run-cause _ c.in-Err.fault _ _ _ c.why_not_run.ensures run.cause;
+      station = not-run-stands _ c.in-Err.fault _ _ _ c.why_not_run.ensures run.cause;
     }

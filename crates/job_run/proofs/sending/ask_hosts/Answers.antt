@@ -8,7 +8,7 @@ use Rattle.farm_machine.specs.Course.{no_host, tried_too}
 use Rattle.farm_machine.specs.Jobs.{job_of}
 use Rattle.job_run.specs.Stages.{HasUntried}
 use Rattle.job_run.proofs.Asking.{stage-next, stage-last, stage-broken, tried-more, step-then, arrive, here-as, untried-all, untried-more}
-use Rattle.job_run.proofs.Composing.{went-then, cause-later, cause-before}
+use Rattle.job_run.proofs.Composing.{none-rose, on-then, cause-later, cause-before}
 use Rattle.job_run.proofs.Keeping.{idle-step}
 use Rattle.job_run.proofs.Leaves.{no-act, same_peers, same_programs}
 use Rattle.job_run.proofs.Outstanding.{spent-none, spent-then}
@@ -26,8 +26,8 @@ returns-in-Down-clause-asked g c = λ note.
     let inv = c.loop-made.invariant in
     let down = c.in-Down.ensures.asked note inv.9.0 (subst (λ l. HasUntried l c.loop-made.mask inv.9.0) (sym inv.3) inv.9.2) in
     here-as (job_of c.args.words.now c.args.config.now) _ _ _ _ _ _ c.args.request.now.source note _ c.loop-made.last (no_host inv.9.0) c.here_or.ensures inv.9.3
-    (went-then (job_of c.args.words.now c.args.config.now) _ _ _ _ _ _ _ _ _ _ _ inv.3 inv.4 (arrive (job_of c.args.words.now c.args.config.now) _ _ _ _ _ _ _ _ (stage-next (job_of c.args.words.now c.args.config.now) c.args.request.now.source note inv.9.0 (subst (λ (n : ℕ). n < c.args.config.now.tries) (sym inv.9.1) c.loop-made-test.true)) (inv.9.5 note)) down)
-    (cause-later _ _ _ (Failed c.loop-made.last) inv.9.4 down.later)
+    (on-then (job_of c.args.words.now c.args.config.now) _ _ _ _ _ _ _ _ _ _ _ inv.3 inv.4 (arrive (job_of c.args.words.now c.args.config.now) _ _ _ _ _ _ _ _ (stage-next (job_of c.args.words.now c.args.config.now) c.args.request.now.source note inv.9.0 (subst (λ (n : ℕ). n < c.args.config.now.tries) (sym inv.9.1) c.loop-made-test.true)) (inv.9.5 note)) down)
+    (cause-later _ _ _ (Failed c.loop-made.last) inv.9.4 down.went.later)
 
 pub returns-in-Over-clause-asked : goal.returns-in-Over-clause-asked
 returns-in-Over-clause-asked g c = λ note.
@@ -59,7 +59,10 @@ loop-made-init g c = (
     refl,
     tt,
     λ note. arrive (job_of c.args.words.now c.args.config.now) _ _ _ _ _ _ _ _ (sym (stage-next (job_of c.args.words.now c.args.config.now) c.args.request.now.source note [] c.requires.some))
-        (no-act _ (job_of c.args.words.now c.args.config.now) _ _ _ _ _ (DidIn-nothing _) (record { station = omega arith; station_overruns = omega arith; keeper = omega arith; keeper_overruns = omega arith; dialer = omega arith }) (same_peers _) (same_programs _) (sym (append-nil _), refl) refl),
+        (record {
+          went = no-act _ (job_of c.args.words.now c.args.config.now) _ _ _ _ _ (DidIn-nothing _) (record { station = omega arith; station_overruns = omega arith; keeper = omega arith; keeper_overruns = omega arith; dialer = omega arith }) (same_peers _) (same_programs _) (sym (append-nil _), refl) refl;
+          station = none-rose _;
+        }),
   ),
 )
 
@@ -82,8 +85,8 @@ loop-made-preserved g c =
         tried-more c.in-Broke.host c.in-Broke.cause inv.9.0 _ inv.9.1,
         (λ i. untried-more _ _ _ _ i c.in-Broke.host (inv.9.2 i) (c.without-mask.ensures i)),
         refl,
-        cause-before _ _ (kit_view g.D.Dialer.shows g.S.Station.shows g.K.Keeper.shows g.C.Clock.shows c.ask_one.new.kit) (Failed (Broke c.in-Broke.host c.in-Broke.cause)) (inv.9.5 []).later broke.2,
-        λ note. arrive (job_of c.args.words.now c.args.config.now) _ _ _ _ _ _ _ _ (stage-broken (job_of c.args.words.now c.args.config.now) c.in-Broke.host c.in-Broke.cause c.args.request.now.source note inv.9.0) (went-then (job_of c.args.words.now c.args.config.now) _ _ _ _ _ _ _ _ _ _ _ inv.3 inv.4 (arrive (job_of c.args.words.now c.args.config.now) _ _ _ _ _ _ _ _ (stage-next (job_of c.args.words.now c.args.config.now) c.args.request.now.source note inv.9.0 (subst (λ (n : ℕ). n < c.args.config.now.tries) (sym inv.9.1) c.loop-made-test.true)) (inv.9.5 note)) (e.asked note inv.9.0 (subst (λ l. HasUntried l c.loop-made.mask inv.9.0) (sym inv.3) inv.9.2)).1),
+        cause-before _ _ (kit_view g.D.Dialer.shows g.S.Station.shows g.K.Keeper.shows g.C.Clock.shows c.ask_one.new.kit) (Failed (Broke c.in-Broke.host c.in-Broke.cause)) (inv.9.5 []).went.later broke.2,
+        λ note. arrive (job_of c.args.words.now c.args.config.now) _ _ _ _ _ _ _ _ (stage-broken (job_of c.args.words.now c.args.config.now) c.in-Broke.host c.in-Broke.cause c.args.request.now.source note inv.9.0) (on-then (job_of c.args.words.now c.args.config.now) _ _ _ _ _ _ _ _ _ _ _ inv.3 inv.4 (arrive (job_of c.args.words.now c.args.config.now) _ _ _ _ _ _ _ _ (stage-next (job_of c.args.words.now c.args.config.now) c.args.request.now.source note inv.9.0 (subst (λ (n : ℕ). n < c.args.config.now.tries) (sym inv.9.1) c.loop-made-test.true)) (inv.9.5 note)) (e.asked note inv.9.0 (subst (λ l. HasUntried l c.loop-made.mask inv.9.0) (sym inv.3) inv.9.2)).1),
       ),
     )
 

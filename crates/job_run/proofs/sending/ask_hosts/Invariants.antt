@@ -7,7 +7,7 @@ use Rattle.farm_machine.specs.Causes.{HasEndCause}
 use Rattle.farm_machine.specs.Course.{Tried, Send, no_host}
 use Rattle.farm_machine.specs.Jobs.{job_of}
 use Rattle.job_run.specs.Stages.{HasUntried}
-use Rattle.job_run.specs.Worlds.{world, Went, Spent}
+use Rattle.job_run.specs.Worlds.{world, WentOn, Spent}
 use Rattle.job_run.proofs.Asking.{stage}
 use Rattle.job_run.proofs.sending.ask_hosts.Given as goal
 
@@ -24,7 +24,7 @@ invariant-loop-made g l =
     × (l.fn.journal.left ≤ l.journal.left + 3 * l.made)
     × ((tried : List Tried) × (length tried ≡ l.made) × HasUntried (g.G.Grants.limits l.fn.grants) l.mask tried × (l.last ≡ no_host tried)
     × HasEndCause (Failed l.last) (kit_view g.D.Dialer.shows g.S.Station.shows g.K.Keeper.shows g.C.Clock.shows l.fn.kit) (kit_view g.D.Dialer.shows g.S.Station.shows g.K.Keeper.shows g.C.Clock.shows l.kit)
-    × ((note : List ℕ) → Went (job_of l.words l.config) (g.G.Grants.limits l.fn.grants) (g.G.Grants.number l.fn.grants) l.number
+    × ((note : List ℕ) → WentOn (job_of l.words l.config) (g.G.Grants.limits l.fn.grants) (g.G.Grants.number l.fn.grants) l.number
     (world (kit_view g.D.Dialer.shows g.S.Station.shows g.K.Keeper.shows g.C.Clock.shows l.fn.kit) (g.D.Dialer.may_give l.fn.kit.dialer) (g.S.Station.ran l.fn.kit.station) (g.G.Grants.mine l.fn.grants) l.fn.journal.events.items l.fn.journal.places)
     (world (kit_view g.D.Dialer.shows g.S.Station.shows g.K.Keeper.shows g.C.Clock.shows l.kit) (g.D.Dialer.may_give l.kit.dialer) (g.S.Station.ran l.kit.station) (g.G.Grants.mine l.grants) l.journal.events.items l.journal.places)
     (Send l.request.source note []) (stage (job_of l.words l.config) l.request.source note tried)))

@@ -6,6 +6,7 @@ use Rattle.farm_types.specs.Fits.{RequestFits}
 use Rattle.farm_machine.specs.Course.{Send}
 use Rattle.farm_machine.specs.Jobs.{job_of}
 use Rattle.job_run.proofs.Asking.{sent-step}
+use Rattle.job_run.proofs.Composing.{none-rose}
 use Rattle.job_run.proofs.Leaves.{no-act, same_peers, same_programs}
 use Rattle.job_run.proofs.sending.ask_if_fits.Goals as goal
 
@@ -13,7 +14,10 @@ pub returns-then-not-fits-clause-asked : goal.returns-then-not-fits-clause-asked
 returns-then-not-fits-clause-asked g c = λ note. (
   Send c.args.request.now.source note [],
   inr ((λ fits. false≢true (sym c.if-not-fits.true ∙ c.fits.ensures.1 (subst (λ (words : List (List ℕ)). RequestFits words c.args.request.now.source) (sym c.requires.words) fits))), refl),
-  no-act _ (job_of c.args.words.now c.args.config.now) _ _ _ _ _ (DidIn-nothing _) (record { station = omega arith; station_overruns = omega arith; keeper = omega arith; keeper_overruns = omega arith; dialer = omega arith }) (same_peers _) (same_programs _) (sym (append-nil _), refl) refl,
+  record {
+    went = no-act _ (job_of c.args.words.now c.args.config.now) _ _ _ _ _ (DidIn-nothing _) (record { station = omega arith; station_overruns = omega arith; keeper = omega arith; keeper_overruns = omega arith; dialer = omega arith }) (same_peers _) (same_programs _) (sym (append-nil _), refl) refl;
+    station = none-rose _;
+  },
 )
 
 pub returns-clause-asked : goal.returns-clause-asked

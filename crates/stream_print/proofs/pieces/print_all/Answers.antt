@@ -1,6 +1,6 @@
 use Rattle.std.proofs.Common.{take, drop, suc, subst}
 use Rattle.stream_print.specs.Prints.{sinks_view, Printed}
-use Rattle.stream_print.proofs.PrintLemmas.{Printed-join, PrintedPart-after, goes-later, goes-join, around, take_more}
+use Rattle.stream_print.proofs.PrintLemmas.{Printed-join, PrintedPart-after, goes-join, around, take_more}
 use Rattle.stream_print.proofs.pieces.print_all.Goals as goal
 
 pub returns-in-Err-clause-part : goal.returns-in-Err-clause-part
@@ -8,7 +8,7 @@ returns-in-Err-clause-part g c =
     let i = c.loop-piece.piece-index in
     PrintedPart-after (take i c.args.pieces.now) (drop (suc i) c.args.pieces.now) c.args.pieces.now
     (around c.args.pieces.now i c.piece-item.result c.loop-piece-test.true c.piece-item.is)
-    c.loop-piece.invariant.printed (goes-later c.loop-piece.invariant.goes_on) (λ is. c.loop-piece.invariant.goes_on) c.in-Err.ensures.part
+    c.loop-piece.invariant.printed c.loop-piece.invariant.goes_on c.in-Err.ensures.part
 
 pub loop-piece-preserved : goal.loop-piece-preserved
 loop-piece-preserved g c =

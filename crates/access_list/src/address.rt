@@ -1,0 +1,88 @@
+//! Numbers and addresses in text.
+
+ghost use Rattle.std.specs.Prelude.{◌≡◌, ◌==◌, ◌≤◌, ℕ, List, length, IfSome, IfNone};
+ghost use Rattle.std.specs.List.{position_or_len};
+ghost use Rattle.access_list.specs.Addresses.{IsNumber, IsAddress, CutsNumber};
+ghost use Rattle.access_list.specs.Addresses as addresses;
+
+/// The place of the first such byte, or the text's length where there is none. It takes no memory.
+pub fn place_of(byte: u8, text: &[u8]) -> usize
+    ensures place { result ≡ position_or_len (λ c. c == byte) text.now }
+    ensures within { result ≤ length text.now }
+{
+    let mut at = 0;
+    let mut rest = text;
+    'seeking: while let [first, after @ ..] = rest {
+        if *first == byte {
+            return at;
+        }
+        at += 1;
+        rest = after;
+    }
+    at
+}
+
+// Whether a zero stands in front of other bytes.
+fn leads_by_zero(text: &[u8]) -> bool
+    ensures { result ≡ addresses.leads_by_zero text.now }
+{
+    match text {
+        [first, _, ..] => *first == b'0',
+        _ => false,
+    }
+}
+
+/// The number that the text spells in 1 to `most` decimal digits without a leading zero, up to the greatest. It takes no memory.
+pub fn read_number(digits: &[u8], most: usize, greatest: u32) -> Option<u32>
+    requires { most ≤ 9 }
+    ensures found { IfSome result (λ n. IsNumber most greatest digits.now n) }
+    ensures none { IfNone result ((n : ℕ) → IsNumber most greatest digits.now n → ⊥) }
+{
+    if digits.is_empty() || most < digits.len() || leads_by_zero(digits) {
+        return None;
+    }
+    let mut n = 0;
+    for digit in digits {
+        if !digit.is_ascii_digit() {
+            return None;
+        }
+        n = n * 10 + u32::from(*digit - b'0');
+    }
+    if n <= greatest { Some(n) } else { None }
+}
+
+// The number up to the first point, and what stands behind the point.
+fn cut_number(text: &[u8]) -> Option<(u32, &[u8])>
+    ensures found { IfSome result (λ cut. CutsNumber text.now cut.0 cut.1.now) }
+    ensures none { IfNone result ((n : ℕ) (rest : List ℕ) → CutsNumber text.now n rest → ⊥) }
+{
+    let at = place_of(b'.', text);
+    if at == text.len() {
+        return None;
+    }
+    match read_number(&text[..at], 3, 255) {
+        Some(number) => Some((number, &text[at + 1..])),
+        None => None,
+    }
+}
+
+/// The IPv4 address that a text spells, as a number: four numbers of 1 to 3 decimal digits without a leading zero, each at
+/// most 255, with points between. It takes no memory.
+pub fn read_address(text: &[u8]) -> Option<u32>
+    ensures found { IfSome result (IsAddress text.now) }
+    ensures none { IfNone result ((addr : ℕ) → IsAddress text.now addr → ⊥) }
+{
+    let Some((a, behind_a)) = cut_number(text) else {
+        return None;
+    };
+    let Some((b, behind_b)) = cut_number(behind_a) else {
+        return None;
+    };
+    let Some((c, behind_c)) = cut_number(behind_b) else {
+        return None;
+    };
+    match read_number(behind_c, 3, 255) {
+        Some(d) => Some(((a * 256 + b) * 256 + c) * 256 + d),
+        None => None,
+    }
+}

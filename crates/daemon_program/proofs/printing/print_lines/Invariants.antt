@@ -1,0 +1,9 @@
+use Rattle.std.proofs.Common.{length}
+use Rattle.daemon_program.proofs.Telling.{SoFar}
+use Rattle.daemon_program.proofs.printing.print_lines.Given as goal
+
+abbrev pub invariant-printing : goal.invariant-printing
+invariant-printing g l = SoFar l.fn.log l.rest (g.O.Sink.shows l.fn.out) (g.O.Sink.shows l.out)
+
+abbrev pub decreases-printing : goal.decreases-printing
+decreases-printing g l = length l.rest

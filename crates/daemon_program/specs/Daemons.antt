@@ -1,0 +1,57 @@
+-- What `farmd` does by its words.
+use Rattle.std.specs.Prelude.{◌≡◌, ℕ, min, Bool, true, false, List, [], length, take, drop, unwrap_or, Result, Ok, Err, if◌then◌else◌}
+use Rattle.std.specs.List.{list_any}
+use Rattle.farm_types.specs.declared.placed.Word.{Word}
+use Rattle.farm_types.specs.declared.ran.Ran.{Ran}
+use Rattle.edge_traits.specs.Doors.{DoorView}
+use Rattle.edge_traits.specs.Stations.{StationView}
+use Rattle.edge_traits.specs.Sinks.{SinkView}
+use Rattle.daemon_worker.specs.declared.log.DaemonConfig.{DaemonConfig}
+use Rattle.daemon_worker.specs.declared.log.DoorKit.{DoorKit}
+use Rattle.daemon_worker.specs.declared.log.Entry.{Entry}
+use Rattle.daemon_worker.specs.declared.log.Met.{Met}
+use Rattle.daemon_worker.specs.declared.log.Met.TheVariants as met
+use Rattle.daemon_worker.specs.Logs.{DoorsServed, is_door_fault}
+use Rattle.daemon_words.specs.declared.options.Options.{Options}
+use Rattle.daemon_words.specs.declared.command.Command.{Command}
+use Rattle.daemon_words.specs.declared.command.Command.TheVariants.{Help, Version, Serve}
+use Rattle.daemon_words.specs.declared.help.TheConstants.{HELP, VERSION}
+use Rattle.daemon_words.specs.Tables.{compilers_of, AreRules}
+use Rattle.daemon_program.specs.Texts.{log_text, bad_words_text}
+use Rattle.daemon_program.specs.Endings.{Ends, WantsAfter}
+
+abbrev pub is_door_memory : Met → Bool
+is_door_memory met.DoorMemory = true
+is_door_memory other = false
+
+-- 107 where a door failed, else 105 where memory was wanting at one, else 0
+abbrev pub log_status : List Entry → ℕ
+log_status entries =
+    if list_any (λ entry. is_door_fault entry.what) entries then 107
+    else (if list_any (λ entry. is_door_memory entry.what) entries then 105 else 0)
+
+-- what is served by, as the words say
+pub record IsConfig (words : List (List ℕ)) (options : Options) (config : DaemonConfig) : Type 0 where
+  pub table : config.table.rows ≡ compilers_of words
+  pub rules : AreRules words config.access.rules
+  pub serve : config.serve ≡ unwrap_or options.serve 100000
+
+-- the doors that are used: the first ones, as many as the words say
+abbrev pub doors_used : {K : Type 0} → Options → List K → ℕ
+doors_used options doors = min (unwrap_or options.jobs 4) (length doors)
+
+module _ {A S : Type 0} (door : A → DoorView) (station : S → StationView) (ran : S → List Word → List ℕ → Ran → Type 0) where
+  -- Memory was wanting before anything was served. Or the doors were served, the others are as before, and the log was printed.
+  pub data Serves (words : List (List ℕ)) (options : Options) (olds news : List (DoorKit A S)) (old new : SinkView) (answer : ℕ) : Type 0 where
+    unserved : news ≡ olds → WantsAfter [] old new answer → Serves words options olds news old new answer
+    served : (config : DaemonConfig) (log : List Entry) → IsConfig words options config
+        → DoorsServed config.table.rows config.access.rules config.serve door station ran 1 (take (doors_used options olds) olds) (take (doors_used options olds) news) log
+        → drop (doors_used options olds) news ≡ drop (doors_used options olds) olds
+        → Ends (log_text log) (log_status log) old new answer → Serves words options olds news old new answer
+
+  -- what is done by these words: bad ones are told with their place, and nothing is served
+  abbrev pub Does : List (List ℕ) → List (DoorKit A S) → List (DoorKit A S) → SinkView → SinkView → ℕ → Result Command ℕ → Type 0
+  Does words olds news old new answer (Err place) = (news ≡ olds) × Ends (bad_words_text place) 101 old new answer
+  Does words olds news old new answer (Ok Help) = (news ≡ olds) × Ends HELP.now 0 old new answer
+  Does words olds news old new answer (Ok Version) = (news ≡ olds) × Ends VERSION.now 0 old new answer
+  Does words olds news old new answer (Ok (Serve options)) = Serves words options olds news old new answer

@@ -1,0 +1,44 @@
+-- What `farmd` prints (docs/daemon.md).
+use Rattle.std.specs.Prelude.{ℕ, List, ◌++◌, codes, Option, Some, None}
+use Rattle.std.specs.Fmt.{decimal}
+use Rattle.std.specs.List.{flat_map}
+use Rattle.wire_tokens.specs.Token.{lower_digits}
+use Rattle.daemon_service.specs.declared.served.Served.{Served}
+use Rattle.daemon_service.specs.declared.served.Served.TheVariants as served
+use Rattle.daemon_service.specs.Services.{number_of}
+use Rattle.daemon_worker.specs.declared.log.Met.{Met}
+use Rattle.daemon_worker.specs.declared.log.Met.TheVariants as met
+use Rattle.daemon_worker.specs.declared.log.Entry.{Entry}
+
+-- the status is a wait status, as eight lower-case hexadecimal digits
+abbrev pub served_text : Served → List ℕ
+served_text (served.Answered status) = codes "answered " ++ lower_digits 8 status
+served_text (served.Refused at fault) = codes "refused " ++ decimal (number_of fault) ++ codes " at " ++ decimal at
+served_text (served.Cut have) = codes "cut " ++ decimal have
+served_text served.LinkFault = codes "link fault"
+served_text served.Stopped = codes "stopped"
+served_text served.StationFault = codes "child fault"
+served_text served.Memory = codes "no memory"
+
+abbrev pub rule_text : Option ℕ → List ℕ
+rule_text None = codes "no rule"
+rule_text (Some number) = codes "rule " ++ decimal number
+
+abbrev pub what_text : Met → List ℕ
+what_text (met.Served what) = served_text what
+what_text (met.Denied addr rule) = codes "denied by " ++ rule_text rule
+what_text met.DoorFault = codes "door fault"
+what_text met.DoorMemory = codes "no memory"
+
+-- one line for an entry of the log
+abbrev pub line_text : Entry → List ℕ
+line_text entry = codes "door " ++ decimal entry.door ++ codes " conn " ++ decimal entry.number ++ codes " " ++ what_text entry.what ++ codes "\n"
+
+abbrev pub log_text : List Entry → List ℕ
+log_text entries = flat_map line_text entries
+
+abbrev pub bad_words_text : ℕ → List ℕ
+bad_words_text place = codes "farmd: bad words at word " ++ decimal place ++ codes "\n"
+
+abbrev pub no_memory_text : List ℕ
+no_memory_text = codes "farmd: no memory\n"

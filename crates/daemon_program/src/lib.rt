@@ -1,0 +1,14 @@
+//! The program `farmd`: what its `main` calls.
+#![tactic(auto)]
+
+mod lines;
+mod output;
+mod printing;
+mod status;
+mod top;
+
+pub use daemon_words::{DoorPlace, door_place};
+pub use top::farmd;
+
+#[cfg(test)]
+mod tests;

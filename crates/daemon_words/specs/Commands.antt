@@ -1,0 +1,39 @@
+-- What the words of `farmd` ask for.
+use Rattle.std.specs.Prelude.{◌≡◌, ℕ, ◌==◌, List, [], ◌∷◌, length, codes, bytes_eq, Option, Some, None, unwrap_or, Result, Ok, Err, if◌then◌else◌}
+use Rattle.daemon_words.specs.declared.options.Options.{Options}
+use Rattle.daemon_words.specs.declared.command.Command.{Command}
+use Rattle.daemon_words.specs.declared.command.Command.TheVariants.{Help, Version, Serve}
+use Rattle.daemon_words.specs.declared.command.DoorPlace.{DoorPlace}
+use Rattle.daemon_words.specs.Options.{Reads, nothing_given}
+
+abbrev pub asked_by : List ℕ → Option Command
+asked_by word = if bytes_eq word (codes "--help") then Some Help else (if bytes_eq word (codes "--version") then Some Version else None)
+
+-- what the first word asks for, where it isn't an option with a value
+abbrev pub asked : List (List ℕ) → Option Command
+asked [] = None
+asked (word ∷ words) = asked_by word
+
+abbrev pub served : Result Options ℕ → Result Command ℕ
+served (Ok options) = Ok (Serve options)
+served (Err place) = Err place
+
+-- such a word stands alone; all other words are options and their values
+abbrev pub ByFirst : List (List ℕ) → Result Command ℕ → Option Command → Type 0
+ByFirst words read (Some command) = read ≡ (if length words == 1 then Ok command else Err 1)
+ByFirst words read None = (options : Result Options ℕ) × Reads [] nothing_given words options × (read ≡ served options)
+
+-- what the words ask for, or the place of the first that isn't right; that of a missing word is their number
+abbrev pub ReadWords : List (List ℕ) → Result Command ℕ → Type 0
+ReadWords words read = ByFirst words read (asked words)
+
+abbrev pub IsCommand : List (List ℕ) → Command → Type 0
+IsCommand words command = ReadWords words (Ok command)
+
+abbrev pub BadAt : List (List ℕ) → ℕ → Type 0
+BadAt words place = ReadWords words (Err place)
+
+-- where the doors are; where `farmd` isn't to serve, there are none
+abbrev pub place_of : Command → DoorPlace
+place_of (Serve options) = record { addr = unwrap_or options.listen 0; port = unwrap_or options.port 3632; doors = unwrap_or options.jobs 4 }
+place_of _ = record { addr = 0; port = 3632; doors = 0 }

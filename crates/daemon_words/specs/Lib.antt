@@ -1,0 +1,4 @@
+pub mod Names
+pub mod Options
+pub mod Commands
+pub mod Tables

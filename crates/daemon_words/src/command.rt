@@ -1,0 +1,99 @@
+//! What the words of `farmd` ask for.
+
+ghost use Rattle.std.specs.Prelude.{◌≡◌, ℕ, map, string_bytes, IfSome, IfNone};
+ghost use Rattle.daemon_words.specs.declared.command.Command.{Command as Asked};
+ghost use Rattle.daemon_words.specs.Commands as commands;
+ghost use Rattle.daemon_words.specs.Commands.{BadAt, IsCommand, ReadWords};
+
+use crate::options::Options;
+use crate::reading::read_options;
+
+/// What `farmd` is to do.
+#[derive(Clone, Copy, Debug, PartialEq, Eq)]
+pub enum Command {
+    /// `--help`, alone.
+    Help,
+    /// `--version`, alone.
+    Version,
+    /// To serve, as these options say.
+    Serve(Options),
+}
+
+/// Where the doors are: at this IPv4 address, as a number, and at this port, and so many. Where `farmd` isn't to serve, there
+/// are none.
+#[derive(Clone, Copy, Debug, PartialEq, Eq)]
+pub struct DoorPlace {
+    pub addr: u32,
+    pub port: u16,
+    pub doors: u32,
+}
+
+fn asked_by(word: &str) -> Option<Command>
+    ensures { result ≡ commands.asked_by word.now }
+{
+    match word {
+        "--help" => Some(Command::Help),
+        "--version" => Some(Command::Version),
+        _ => None,
+    }
+}
+
+// What the first word asks for, where it isn't an option with a value.
+fn asked(words: &[String]) -> Option<Command>
+    ensures { result ≡ commands.asked (map string_bytes words.now) }
+{
+    match words {
+        [first, ..] => asked_by(first.as_str()),
+        [] => None,
+    }
+}
+
+/// What the words ask for, without the program's name. Err is the place, from 0, of the first word that isn't right; that of a
+/// missing word is the number of words. It takes no memory.
+pub fn parse_words(words: &[String]) -> Result<Command, usize>
+    ensures { ReadWords (map string_bytes words.now) result }
+{
+    match asked(words) {
+        Some(command) => {
+            if words.len() == 1 {
+                Ok(command)
+            } else {
+                Err(1)
+            }
+        }
+        None => match read_options(words) {
+            Ok(options) => Ok(Command::Serve(options)),
+            Err(place) => Err(place),
+        },
+    }
+}
+
+impl Command {
+    fn place(&self) -> DoorPlace
+        ensures { result ≡ commands.place_of self.now }
+    {
+        match self {
+            Command::Help | Command::Version => DoorPlace {
+                addr: 0,
+                port: 3632,
+                doors: 0,
+            },
+            Command::Serve(options) => DoorPlace {
+                addr: options.listen(),
+                port: options.port(),
+                doors: u32::from(options.jobs()),
+            },
+        }
+    }
+}
+
+/// Where the words place the doors. None where they are bad words. It takes no memory.
+pub fn door_place(words: &[String]) -> Option<DoorPlace>
+    ensures some { IfSome result (λ place. (command : Asked) × IsCommand (map string_bytes words.now) command × (place ≡ commands.place_of command)) }
+    ensures none { IfNone result ((at : ℕ) × BadAt (map string_bytes words.now) at) }
+{
+    match parse_words(words) {
+        Ok(command) => Some(command.place()),
+        Err(_) => None,
+    }
+}

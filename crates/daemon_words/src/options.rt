@@ -1,0 +1,100 @@
+//! What the options say.
+
+ghost use Rattle.std.specs.Prelude.{◌≡◌, unwrap_or};
+ghost use Rattle.daemon_words.specs.Options as says;
+ghost use Rattle.daemon_words.specs.Options.{nothing_given, is_given};
+
+use crate::name::{OptionName, parse_option};
+
+/// The port where none is given.
+const PORT: u16 = 3632;
+/// The number of doors where none is given.
+const JOBS: u8 = 4;
+/// The number of connections of a door where none is given.
+const SERVE: u32 = 100_000;
+
+/// What the options say; of the compilers and the rules, how many there are.
+#[derive(Clone, Copy, Debug, PartialEq, Eq)]
+pub struct Options {
+    /// 1 to 65,535.
+    pub port: Option<u16>,
+    /// An IPv4 address as a number.
+    pub listen: Option<u32>,
+    /// 1 to 16.
+    pub jobs: Option<u8>,
+    /// 1 to 100,000.
+    pub serve: Option<u32>,
+    pub compilers: u32,
+    pub rules: u32,
+}
+
+impl Options {
+    // No option stood yet.
+    pub(crate) fn nothing() -> Options
+        ensures { result ≡ nothing_given }
+    {
+        Options {
+            port: None,
+            listen: None,
+            jobs: None,
+            serve: None,
+            compilers: 0,
+            rules: 0,
+        }
+    }
+
+    /// The port: 3632 where none is given.
+    pub fn port(&self) -> u16
+        ensures { result ≡ unwrap_or self.now.port 3632 }
+    {
+        self.port.unwrap_or(PORT)
+    }
+
+    /// The address: 0.0.0.0 where none is given.
+    pub fn listen(&self) -> u32
+        ensures { result ≡ unwrap_or self.now.listen 0 }
+    {
+        self.listen.unwrap_or(0)
+    }
+
+    /// The number of doors: 4 where none is given.
+    pub fn jobs(&self) -> u8
+        ensures { result ≡ unwrap_or self.now.jobs 4 }
+    {
+        self.jobs.unwrap_or(JOBS)
+    }
+
+    /// The number of connections of each door: 100,000 where none is given.
+    pub fn serve(&self) -> u32
+        ensures { result ≡ unwrap_or self.now.serve 100000 }
+    {
+        self.serve.unwrap_or(SERVE)
+    }
+
+    // Whether an option stood already that may stand once.
+    fn is_given(&self, option: OptionName) -> bool
+        ensures { result ≡ is_given self.now option }
+    {
+        match option {
+            OptionName::Port => self.port.is_some(),
+            OptionName::Listen => self.listen.is_some(),
+            OptionName::Jobs => self.jobs.is_some(),
+            OptionName::Serve => self.serve.is_some(),
+            OptionName::Compiler | OptionName::Allow | OptionName::Deny => false,
+        }
+    }
+
+    // The option that a word names, where it may stand here.
+    pub(crate) fn option_here(&self, word: &str) -> Option<OptionName>
+        ensures { result ≡ says.option_here self.now word.now }
+    {
+        let Some(option) = parse_option(word) else {
+            return None;
+        };
+        if self.is_given(option) {
+            None
+        } else {
+            Some(option)
+        }
+    }
+}

@@ -1,0 +1,5 @@
+mod Connecting
+pub mod Logging
+mod KitMoves
+mod Working
+pub mod Answering

@@ -1,0 +1,5 @@
+pub mod Connections
+pub mod Meetings
+pub mod Logs
+pub mod Workers
+pub mod Rightness

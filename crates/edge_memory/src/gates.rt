@@ -1,0 +1,7 @@
+//! Devices for two threads side by side: a call of one is held until the other was called, so it shows whether they ran
+//! at the same time.
+mod count;
+pub(crate) mod dialer;
+pub(crate) mod station;
+#[cfg(test)]
+mod tests;

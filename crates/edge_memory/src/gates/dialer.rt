@@ -1,0 +1,161 @@
+ghost use Rattle.std.specs.Prelude.{◌≤◌, length};
+ghost use Rattle.edge_memory.specs.GateReply.{gate_reply};
+
+use super::count::SharedCount;
+use crate::moving::put_front;
+use edge_traits::{Dialer, EdgeFault, Link, raised};
+use farm_types::HostName;
+use std::alloc::{AllocError, Global};
+use std::sync::Wait;
+
+/// A whole reply of status 0, without messages. Its object is a module with one definition.
+const REPLY: &[u8] = b"DONE00000001STAT00000000SERR00000000SOUT00000000DOTO0000000dSCO1\ndef a 1\n";
+
+/// A link of a `GateDialer`.
+#[derive(Drop)]
+pub struct GateLink<'a, R> {
+    host: HostName,
+    port: u16,
+    asked: SharedCount<'a, R>,
+    /// Which of the gate's links it was, from 1, by their first receives. None before its first one.
+    place: Option<u32>,
+    at: usize,
+    ended: bool,
+    faults: u64,
+    ghost within: { at ≤ length gate_reply },
+}
+
+/// Whether a link's reply may be given, by its place among the gate's links. That of the first one may once a second one
+/// has asked for its own.
+fn is_let_through<R: Wait>(asked: &SharedCount<'_, R>, place: &mut Option<u32>) -> bool {
+    let number = match *place {
+        Some(number) => number,
+        None => asked.add_one(),
+    };
+    *place = Some(number);
+    number != 1 || asked.wait_for(2)
+}
+
+#[tactic(auto, using(edge_traits::proofs::Counting::causes))]
+impl<'a, R: Wait> Link for GateLink<'a, R> {
+    ghost use Rattle.std.specs.Prelude.{◌≡◌, ◌<◌, ◌||◌, ⊤, false, [], length, refl, IfOk, OnErr, IsErrOf};
+    ghost use Rattle.std.proofs.Common.{◌∙◌, sym};
+    ghost use Rattle.edge_traits.specs.declared.faults.EdgeFault.TheVariants.{Memory};
+    ghost use Rattle.edge_traits.specs.Told.{Grew};
+    ghost use Rattle.edge_traits.specs.Causes.{HasCause};
+    ghost use Rattle.edge_traits.specs.Links.{moved, moved_none};
+    ghost use Rattle.edge_memory.specs.Gates.{gate_link_view, next_given};
+
+    ghost shows = { gate_link_view };
+
+    ghost follows = { λ a b. (gate_link_view a).origin ≡ (gate_link_view b).origin };
+
+    ghost may_give = { λ l sent given. ⊤ };
+
+    ghost follows_itself = { λ l. refl };
+
+    ghost follows_on = { λ a b c first second. first ∙ second };
+
+    ghost origin_stays = { λ a b f. sym f };
+
+    ghost may_give_stays = { λ a b f. record { kept = λ sent given may. may; back = λ sent given may. may } };
+
+    /// Takes the whole piece.
+    fn send(&mut self, piece: &[u8]) -> Result<usize, EdgeFault>
+        requires { 0 < length piece.now }
+        ensures bound { IfOk result (λ n. n ≤ length piece.now) }
+        ensures all { IfOk result (λ n. n ≡ length piece.now) }
+        ensures sent { Grew (gate_link_view self.old).sent (gate_link_view self.new).sent (moved result piece.now) }
+        ensures given { Grew (gate_link_view self.old).given (gate_link_view self.new).given [] }
+        ensures stopped { moved_none result ≡ false }
+        ensures same { gate_link_view self.new ≡ gate_link_view self.old }
+        ensures never { OnErr result ⊥ }
+        ensures cause { HasCause (gate_link_view self.old).faults (gate_link_view self.new).faults result }
+    {
+        Ok(piece.len())
+    }
+
+    fn recv(&mut self, room: &mut [u8]) -> Result<usize, EdgeFault>
+        requires { 0 < length room.old }
+        ensures bound { IfOk result (λ n. n ≤ length room.old) }
+        ensures count { IfOk result (λ n. n ≡ next_given self.old (length room.old)) }
+        ensures given { Grew (gate_link_view self.old).given (gate_link_view self.new).given (moved result room.new) }
+        ensures sent { Grew (gate_link_view self.old).sent (gate_link_view self.new).sent [] }
+        ensures origin { (gate_link_view self.new).origin ≡ (gate_link_view self.old).origin }
+        ensures ended { (gate_link_view self.new).ended ≡ ((gate_link_view self.old).ended || moved_none result) }
+        ensures never { ¬ (IsErrOf result Memory) }
+        ensures cause { HasCause (gate_link_view self.old).faults (gate_link_view self.new).faults result }
+    {
+        if !is_let_through(&self.asked, &mut self.place) {
+            self.faults = raised(self.faults);
+            return Err(EdgeFault::Failed);
+        }
+        let count = room.len().min(REPLY.len() - self.at);
+        put_front(room, &REPLY[self.at..self.at + count]);
+        self.at += count;
+        if count == 0 {
+            self.ended = true;
+        }
+        Ok(count)
+    }
+}
+
+/// Dials peers that all give one reply, of status 0. Two dialers share a gate, which holds the reply of the first of
+/// their exchanges until a second one's request is whole. So both are given their replies only where they run at the
+/// same time.
+///
+/// A request counts as whole at the first receive on its link, before which the whole of it has to be sent. The first
+/// exchange is the one whose request was whole first. A receive that is held lets other threads run, 1,000,000 times at
+/// most, and then fails. No dial fails.
+#[derive(Drop)]
+pub struct GateDialer<'a, R> {
+    asked: SharedCount<'a, R>,
+}
+
+impl<'a, R: Wait> GateDialer<'a, R> {
+    /// Two dialers with one gate. It alone takes memory beside `dial`.
+    pub fn pair(
+        rt: &'a R,
+        alloc: Global,
+    ) -> Result<(GateDialer<'a, R>, GateDialer<'a, R>), AllocError> {
+        let (first, second) = SharedCount::pair(rt, alloc)?;
+        Ok((GateDialer { asked: first }, GateDialer { asked: second }))
+    }
+}
+
+#[tactic(auto, using(edge_traits::proofs::Counting::causes))]
+impl<'a, R: Wait> Dialer for GateDialer<'a, R> {
+    type Link = GateLink<'a, R>;
+
+    ghost use Rattle.std.specs.Prelude.{⊤};
+    ghost use Rattle.edge_memory.specs.Gates.{gate_dialer_view};
+
+    ghost shows = { λ d. gate_dialer_view };
+
+    ghost came = { λ d link. ⊤ };
+
+    ghost may_give = { λ d sent given. ⊤ };
+
+    ghost came_stays = { λ d a b came f. came };
+
+    fn dial(
+        &mut self,
+        _alloc: Global,
+        host: &HostName,
+        port: u16,
+    ) -> Result<GateLink<'a, R>, EdgeFault> {
+        Ok(GateLink {
+            host: host.copy()?,
+            port,
+            asked: self.asked.share()?,
+            place: None,
+            at: 0,
+            ended: false,
+            faults: 0,
+        })
+    }
+
+    fn hang_up(&mut self, link: GateLink<'a, R>) {
+        drop(link);
+    }
+}

@@ -1,0 +1,5 @@
+pub mod Prefixes
+pub mod Outs
+pub mod Reading
+pub mod Steps
+pub mod Answering

@@ -1,0 +1,91 @@
+-- What the words of a command say is within its limits.
+use Rattle.std.proofs.Common.{◌≡◌, ◌<◌, ◌≤◌, ℕ, Bool, true, false, cond, ◌&&◌, List, [], ◌∷◌, length, map, Option, Some, None, Result, Ok, Err, nat_le, refl, sym, ap, subst, arith}
+use Rattle.std.specs.Prelude.{unwrap_or, ◌==◌, if◌then◌else◌, MatchBool}
+use Rattle.std.specs.Option.{option_and_then}
+use Rattle.std.specs.Str.Parse.{digits_value}
+use Rattle.std.proofs.lemmas.Bool.{leb-true}
+use Rattle.farm_words.specs.declared.name.CommandName.{CommandName}
+use Rattle.farm_words.specs.declared.name.CommandName.TheVariants as name
+use Rattle.farm_words.specs.declared.name.FirstWord.{FirstWord}
+use Rattle.farm_words.specs.declared.name.FirstWord.TheVariants as first
+use Rattle.farm_words.specs.declared.name.OptionName.TheVariants as option
+use Rattle.farm_words.specs.Limits.{count_digits, workers_max, tries_digits, tries_max}
+use Rattle.farm_words.specs.Names.{first_word}
+use Rattle.farm_words.specs.Numbers.{is_short_number, number_of, workers_of, tries_of, jobs_of}
+use Rattle.farm_words.specs.Commands.{Meaning, Build, Cc, Hosts, Scan, Rehearse, Help, Version, IsCommand, WordsRead, ByFirstWord, NamedCommand, asks_help, at_most, at_least_one, counted, rehearse_words, with_options}
+use Rattle.farm_words.specs.Options.{Given, Item, value_in, given_by, OptionsRead, AreOptions, worker_count, try_count}
+use Rattle.farm_words.specs.Within.{AreWithin, IsWithin}
+
+-- a number that is read is within its limits
+numbered : (short low high : Bool) (least greatest n : ℕ) → low ≡ nat_le least n → high ≡ nat_le n greatest → (m : ℕ) → (if short && low && high then Some n else None) ≡ Some m → (least ≤ m) × (m ≤ greatest)
+numbered true true true least greatest n low high m is = let e : n ≡ m = grind (arith, is) in (let l = leb-true least n (sym low) in omega (arith, l, e), let h = leb-true n greatest (sym high) in omega (arith, h, e))
+numbered true true false least greatest n low high m is = absurd (grind (arith, is))
+numbered true false high' least greatest n low high m is = absurd (grind (arith, is))
+numbered false low' high' least greatest n low high m is = absurd (grind (arith, is))
+
+number-within : (digits least greatest : ℕ) (word : List ℕ) (m : ℕ) → number_of digits least greatest word ≡ Some m → (least ≤ m) × (m ≤ greatest)
+number-within digits least greatest word m is = numbered (is_short_number digits word) (nat_le least (digits_value 10 word)) (nat_le (digits_value 10 word) greatest) least greatest (digits_value 10 word) refl refl m is
+
+-- a value that isn't there stands for its default
+within-or : (digits greatest default : ℕ) (o : Option (List ℕ)) → (1 ≤ default) × (default ≤ greatest) → (1 ≤ unwrap_or (option_and_then (number_of digits 1 greatest) o) default) × (unwrap_or (option_and_then (number_of digits 1 greatest) o) default ≤ greatest)
+within-or digits greatest default None known = known
+within-or digits greatest default (Some word) known = go (number_of digits 1 greatest word) refl
+  where
+    go : (o : Option ℕ) → number_of digits 1 greatest word ≡ o → (1 ≤ unwrap_or o default) × (unwrap_or o default ≤ greatest)
+    go None is = known
+    go (Some m) is = number-within digits 1 greatest word m is
+
+options-within : (command : CommandName) (words : List (List ℕ)) (says : Given) → AreOptions command words says → AreWithin says
+options-within command words says are = subst AreWithin (sym are.said) (record {
+  some_workers = (within-or count_digits workers_max 4 (value_in option.Workers are.items) (omega arith, omega arith)).0;
+  some_tries = (within-or tries_digits tries_max 1 (value_in option.Tries are.items) (omega arith, omega arith)).0;
+  most_tries = (within-or tries_digits tries_max 1 (value_in option.Tries are.items) (omega arith, omega arith)).1;
+})
+
+abbrev ResultWithin : Result Meaning ℕ → Type 0
+ResultWithin (Ok meant) = IsWithin meant
+ResultWithin (Err place) = Unit {0}
+
+either : (b : Bool) (meant : Meaning) (place : ℕ) → IsWithin meant → ResultWithin (if b then Ok meant else Err place)
+either true meant place within = within
+either false meant place within = tt
+
+some-words : (words : List (List ℕ)) (b : Bool) → (length words == 0) ≡ b → ResultWithin (if b then Err 1 else Ok (Cc words))
+some-words words true is = tt
+some-words [] false is = absurd (grind (arith, is))
+some-words (word ∷ words) false is = omega arith
+
+any-words : (meant : Meaning) (b : Bool) → IsWithin meant → ResultWithin (if b then Err 1 else Ok meant)
+any-words meant true within = tt
+any-words meant false within = within
+
+rehearsed : (words : List (List ℕ)) → ResultWithin (rehearse_words words)
+rehearsed [] = tt
+rehearsed (word ∷ words) = go (jobs_of word)
+  where
+    go : (o : Option ℕ) → ResultWithin (counted o (word ∷ words))
+    go None = tt
+    go (Some jobs) = either (nat_le (length (word ∷ words)) 1) (Rehearse jobs) 2 tt
+
+named : (command : CommandName) (words : List (List ℕ)) (answer : Result Meaning ℕ) → NamedCommand command words answer → ResultWithin answer
+named name.Build words answer (Ok says, read, is) = subst ResultWithin (sym is) (options-within name.Build words says read)
+named name.Build words answer (Err place, read, is) = subst ResultWithin (sym is) tt
+named name.Cc words answer is = subst ResultWithin (sym is) (some-words words (length words == 0) refl)
+named name.Hosts words answer (Ok says, read, is) = subst ResultWithin (sym is) tt
+named name.Hosts words answer (Err place, read, is) = subst ResultWithin (sym is) tt
+named name.Scan words answer is = subst ResultWithin (sym is) (any-words (Scan words) (length words == 0) tt)
+named name.Rehearse words answer is = subst ResultWithin (sym is) (rehearsed words)
+
+by-first : (o : Option FirstWord) (words : List (List ℕ)) (answer : Result Meaning ℕ) → ByFirstWord o words answer → ResultWithin answer
+by-first None words answer is = subst ResultWithin (sym is) tt
+by-first (Some first.Help) words answer is = subst ResultWithin (sym is) (either (nat_le (length words) 0) (Help None) 1 tt)
+by-first (Some first.Version) words answer is = subst ResultWithin (sym is) (either (nat_le (length words) 0) Version 1 tt)
+by-first (Some (first.Name command)) words answer read = go (asks_help command words) read
+  where
+    go : (b : Bool) → MatchBool b (answer ≡ at_most 1 (Help (Some command)) words) (NamedCommand command words answer) → ResultWithin answer
+    go true is = subst ResultWithin (sym is) (either (nat_le (length words) 1) (Help (Some command)) 2 tt)
+    go false is = named command words answer is
+
+pub command-within : (words : List (List ℕ)) (meant : Meaning) → IsCommand words meant → IsWithin meant
+command-within [] meant is = absurd (grind (arith, is))
+command-within (word ∷ words) meant read = by-first (first_word word) words (Ok meant) read

@@ -1,0 +1,10 @@
+pub mod Working
+pub mod Drawing
+pub mod Stepping
+pub mod Crewing
+pub mod Sorting
+pub mod Joining
+pub mod Rising
+pub mod ReportReading
+pub mod Driving
+pub mod Building

@@ -1,0 +1,29 @@
+use Rattle.std.proofs.Common.{◌≡◌, ◌+◌, ◌*◌, ◌≤◌, true, [], length, vec_capacity}
+use Rattle.edge_traits.specs.Keepers.{IsIdle}
+use Rattle.edge_traits.specs.Kits.{kit_view}
+use Rattle.edge_traits.specs.Told.{SameRelation, SameRelation3}
+use Rattle.slot_table.specs.History.{outstanding}
+use Rattle.job_driver.specs.Jobs.{job_at}
+use Rattle.job_driver.proofs.Working.{WorksTo, AreFew, AreWithin, AreCounted}
+use Rattle.job_driver.proofs.worker.work.Given as goal
+
+abbrev pub invariant-working : goal.invariant-working
+invariant-working g l = record {
+  works : WorksTo (g.D.Dialer.may_give l.fn.kit.dialer) (g.S.Station.ran l.fn.kit.station) (job_at l.jobs l.config) l.config.period (g.G.Grants.limits l.fn.grants) (g.G.Grants.number l.fn.grants) l.reports.items (g.G.Grants.mine l.grants)
+      (kit_view g.D.Dialer.shows g.S.Station.shows g.K.Keeper.shows g.C.Clock.shows l.fn.kit) (kit_view g.D.Dialer.shows g.S.Station.shows g.K.Keeper.shows g.C.Clock.shows l.kit) l.places;
+  few : AreFew l.reports.items;
+  within : AreWithin (length l.jobs) l.reports.items;
+  counted : AreCounted l.places l.reports.items;
+  rooms : length l.jobs ≤ length l.rooms.items + length l.reports.items;
+  room : length l.jobs ≤ vec_capacity l.reports;
+  spare : g.G.Grants.alone ≡ true → 65 * length l.jobs + 1 ≤ g.G.Grants.spare l.grants + 65 * length l.reports.items;
+  pending : IsIdle (g.K.Keeper.shows l.kit.keeper);
+  back : outstanding (g.G.Grants.mine l.grants) ≡ [];
+  ready : g.G.Grants.ready l.grants;
+  home : g.G.Grants.home l.grants ≡ g.G.Grants.home l.fn.grants;
+  place : g.G.Grants.place l.grants ≡ g.G.Grants.place l.fn.grants;
+  limits : g.G.Grants.limits l.grants ≡ g.G.Grants.limits l.fn.grants;
+  caller : g.G.Grants.number l.grants ≡ g.G.Grants.number l.fn.grants;
+  peers : SameRelation (g.D.Dialer.may_give l.fn.kit.dialer) (g.D.Dialer.may_give l.kit.dialer);
+  programs : SameRelation3 (g.S.Station.ran l.fn.kit.station) (g.S.Station.ran l.kit.station);
+}

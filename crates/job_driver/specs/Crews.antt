@@ -1,0 +1,50 @@
+-- The workers of a build.
+use Rattle.std.specs.Prelude.{◌≡◌, ℕ, ◌≤◌, List, [], length, vec_capacity}
+use Rattle.slot_table.specs.History.{outstanding}
+use Rattle.edge_traits.specs.declared.kit.Kit.{Kit}
+use Rattle.edge_traits.specs.Keepers.{IsIdle}
+use Rattle.edge_traits.specs.Told.{SameRelation, SameRelation3}
+use Rattle.farm_machine.specs.declared.reports.Report.{Report}
+use Rattle.farm_machine.specs.Jobs.{Job}
+use Rattle.farm_cell.specs.declared.cell.Cell.{Cell}
+use Rattle.farm_cell.specs.declared.cell.Pass.{Pass}
+use Rattle.farm_cell.specs.Passes.{limits_of, number_of, mine_of, IsPassOf}
+use Rattle.job_driver.specs.declared.crew.Worker.{Worker}
+use Rattle.job_driver.specs.declared.crew.Desk.{Desk}
+use Rattle.job_driver.specs.Driven.{Devices}
+use Rattle.job_driver.specs.Works.{WorkedOff}
+
+abbrev pub kit_of : {D S K C : Type 0} → Worker D S K C → Kit D S K C
+kit_of worker = worker.kit
+
+abbrev pub pass_of : {D S K C : Type 0} → Worker D S K C → Pass
+pass_of worker = worker.pass
+
+abbrev pub desk_of : {D S K C : Type 0} → Worker D S K C → Desk
+desk_of worker = worker.desk
+
+abbrev pub reports_on : Desk → List Report
+reports_on desk = desk.reports.items
+
+-- room for the events and reports of so many jobs, with no report yet
+pub record HasRoom (jobs : ℕ) (desk : Desk) : Type 0 where
+  pub rooms : jobs ≤ length desk.rooms.items
+  pub none : desk.reports.items ≡ []
+  pub room : jobs ≤ vec_capacity desk.reports
+
+-- a worker of the cell that has done nothing yet
+pub record IsReady {D S K C : Type 0} (d : Devices (Kit D S K C)) (c : Cell 16 34) (jobs : ℕ) (worker : Worker D S K C) : Type 0 where
+  pub pass : IsPassOf c worker.pass
+  pub blank : mine_of worker.pass ≡ []
+  pub desk : HasRoom jobs worker.desk
+  pub idle : IsIdle (d.shows worker.kit).keeper
+
+-- a worker did jobs until a draw answered none
+pub record HasWorked {D S K C : Type 0} (d : Devices (Kit D S K C)) (c : Cell 16 34) (jobs : ℕ → Job) (period : ℕ) (old new : Worker D S K C) : Type 0 where
+  pub pass : IsPassOf c new.pass
+  pub number : number_of new.pass ≡ number_of old.pass
+  pub worked : WorkedOff (d.peers old.kit) (d.programs old.kit) jobs period (limits_of c) (number_of old.pass) (reports_on new.desk) (mine_of new.pass) (d.shows old.kit) (d.shows new.kit)
+  pub back : outstanding (mine_of new.pass) ≡ []
+  pub idle : IsIdle (d.shows new.kit).keeper
+  pub peers : SameRelation (d.peers old.kit) (d.peers new.kit)
+  pub programs : SameRelation3 (d.programs old.kit) (d.programs new.kit)

@@ -1,0 +1,89 @@
+-- What all workers did: reports that, with the history of the slots, are a run of the farm.
+use Rattle.std.specs.Prelude.{◌≡◌, ℕ, ◌<◌, ◌≤◌, IsTrue, List, [], length, filter, nat_eq, slice_index, slice_index_or}
+use Rattle.std.specs.List.{flat_map}
+use Rattle.slot_table.specs.declared.limits.Limits.{Limits}
+use Rattle.slot_table.specs.declared.state.SlotState.{SlotState}
+use Rattle.slot_table.specs.declared.calls.CallEntry.{CallEntry}
+use Rattle.slot_table.specs.History.{outstanding, state_after, calls_by}
+use Rattle.edge_traits.specs.declared.kit.Kit.{Kit}
+use Rattle.edge_traits.specs.Clocks.{ClockView}
+use Rattle.edge_traits.specs.Dialers.{DialerView}
+use Rattle.edge_traits.specs.Keepers.{KeeperView, IsIdle}
+use Rattle.edge_traits.specs.Stations.{StationView}
+use Rattle.edge_traits.specs.Deeds.{exchanges_in, moments_in, DidIn, MayAll}
+use Rattle.edge_traits.specs.Kits.{KitView, kit_view}
+use Rattle.edge_traits.specs.Told.{SameRelation, SameRelation3}
+use Rattle.farm_machine.specs.declared.reports.Event.{Event}
+use Rattle.farm_machine.specs.declared.reports.Report.{Report}
+use Rattle.farm_machine.specs.Acts.{Act, Entries, deeds_of}
+use Rattle.farm_machine.specs.Causes.{KitLater}
+use Rattle.farm_machine.specs.Course.{Course}
+use Rattle.farm_machine.specs.Farm.{wanted, farm_of}
+use Rattle.farm_machine.specs.Honest.{Peers, Programs, AllRan}
+use Rattle.farm_machine.specs.Jobs.{Job}
+use Rattle.farm_machine.specs.Machine.{FarmRun}
+use Rattle.farm_machine.specs.Moments.{AreMoments}
+use Rattle.farm_machine.specs.Numbered.{numbered, no_places, added}
+use Rattle.farm_machine.specs.Reading.{AreRead}
+use Rattle.farm_machine.specs.Weave.{Reports, Agrees, weave}
+use Rattle.job_driver.specs.Works.{AreCaused}
+
+-- what is seen of kits: what they tell, what their peers may give, and what their programs may leave
+pub record Devices (K : Type 0) : Type 1 where
+  pub shows : K → KitView
+  pub peers : K → Peers
+  pub programs : K → Programs
+
+abbrev pub devices : {D S K C : Type 0} → (D → DialerView) → (S → StationView) → (K → KeeperView) → (C → ClockView) → (D → Peers) → (S → Programs) → Devices (Kit D S K C)
+devices dialer station keeper clock peers programs =
+    record { shows = kit_view dialer station keeper clock; peers = λ kit. peers kit.dialer; programs = λ kit. programs kit.station }
+
+-- the reports of one worker, in the order of the jobs
+abbrev pub reports_by : ℕ → List Report → List Report
+reports_by worker reports = filter (λ report. nat_eq report.worker worker) reports
+
+abbrev pub events_of : List Report → List Event
+events_of reports = flat_map (λ report. report.events) reports
+
+-- before a worker's first job
+abbrev pub no_entries : Entries
+no_entries = record { runs = []; fetches = []; exchanges = []; puts = [] }
+
+-- A worker did jobs with this kit. All that it did is one list of acts. Its deeds are the new entries of the kit's lists, in order, and no
+-- file changed but by its puts. The events of the worker's reports, report after report, name each of these entries once, and nothing else
+-- but its calls on the slots. The moments that these calls name are those that the clock gave. Peers gave what peers may give, programs left
+-- what programs may leave, and no more jobs failed by a device than its counts rose. No put is pending.
+pub record KitDid {K : Type 0} (d : Devices K) (period worker : ℕ) (reports : List Report) (entries : Entries) (calls : List CallEntry) (old new : K) : Type 0 where
+  pub acts : List Act
+  pub did : DidIn (d.shows old) (d.shows new) (deeds_of acts)
+  pub named : events_of (reports_by worker reports) ≡ numbered no_places acts
+  pub entries_are : entries ≡ added no_entries acts
+  pub moments : AreMoments period calls (moments_in (deeds_of acts))
+  pub may : IsTrue (d.shows new).dialer.exchanges.known → MayAll (d.peers old) (exchanges_in (deeds_of acts))
+  pub ran : AllRan (d.programs old) acts
+  pub caused : AreCaused (reports_by worker reports) (d.shows old) (d.shows new)
+  pub later : KitLater (d.shows old) (d.shows new)
+  pub idle : IsIdle (d.shows new).keeper
+  pub peers : SameRelation (d.peers old) (d.peers new)
+  pub programs : SameRelation3 (d.programs old) (d.programs new)
+
+-- All jobs were done by this many workers, one for each of the first kits. There is one report for each job, in the order of the jobs. Read
+-- by the workers' entries the reports are courses of their jobs, the calls of the one history of the slots agree with them, and what is woven
+-- of both is a run of the farm. At its end each job was drawn, each slot is back, and none is held.
+pub record JobsRan {K : Type 0} (d : Devices K) (l : Limits 16) (jobs : ℕ → Job) (period workers : ℕ) (reports : List Report) (history : List CallEntry) (last : SlotState 16) (old new : List K) : Type 0 where
+  pub entries : ℕ → Entries
+  pub read : Reports
+  pub are_read : AreRead l entries reports read
+  pub by_workers : (j : ℕ) → j < l.jobs → read.worker j < workers
+  pub courses : (j : ℕ) → j < l.jobs → Course (jobs j) (read.acts j) (read.ends j)
+  pub agrees : Agrees l read (wanted l) history
+  pub run : FarmRun (farm_of l jobs) l (weave history read)
+  pub back : outstanding history ≡ []
+  pub last_is : last ≡ state_after l history
+  pub all_drawn : last.next ≡ l.jobs
+  pub none_held : (host : ℕ) → host < l.count → slice_index last.held host ≡ 0
+  pub none_local : last.local_held ≡ 0
+  pub kits : (worker : ℕ) (other : K) → worker < workers
+      → KitDid d period worker reports (entries worker) (calls_by worker history) (slice_index_or old worker other) (slice_index_or new worker other)
+  pub same : length new ≡ length old
+  pub unused : (place : ℕ) (other : K) → workers ≤ place → place < length old → slice_index_or new place other ≡ slice_index_or old place other

@@ -1,0 +1,4 @@
+pub mod Jobs
+pub mod Works
+pub mod Driven
+pub mod Crews

@@ -1,0 +1,100 @@
+-- What one worker did with its kit: jobs, one after another.
+use Rattle.std.specs.Prelude.{◌≡◌, ℕ, ◌+◌, ◌≤◌, Bool, true, false, IsTrue, List, [], ◌∷◌, ◌++◌, map, count_by, None}
+use Rattle.slot_table.specs.declared.limits.Limits.{Limits}
+use Rattle.slot_table.specs.declared.calls.CallEntry.{CallEntry}
+use Rattle.slot_table.specs.declared.calls.SlotCall.TheVariants.{Draw}
+use Rattle.slot_table.specs.declared.calls.SlotReply.TheVariants.{Drawn}
+use Rattle.slot_table.specs.History.{entry}
+use Rattle.edge_traits.specs.declared.cause.Cause.TheVariants.{Dial}
+use Rattle.edge_traits.specs.Causes.{RoseBy}
+use Rattle.edge_traits.specs.Deeds.{exchanges_in, moments_in, DidIn, MayAll}
+use Rattle.edge_traits.specs.Kits.{KitView}
+use Rattle.farm_machine.specs.declared.reports.Why5.TheVariants.{Station, Put, Broke, Fetch}
+use Rattle.farm_machine.specs.declared.reports.End.{End}
+use Rattle.farm_machine.specs.declared.reports.End.TheVariants.{Failed}
+use Rattle.farm_machine.specs.declared.reports.Places.{Places}
+use Rattle.farm_machine.specs.declared.reports.Report.{Report}
+use Rattle.farm_machine.specs.Acts.{Act, deeds_of}
+use Rattle.farm_machine.specs.Causes.{KitLater}
+use Rattle.farm_machine.specs.Course.{Course}
+use Rattle.farm_machine.specs.Farm.{wanted}
+use Rattle.farm_machine.specs.Honest.{Peers, Programs, AllRan}
+use Rattle.farm_machine.specs.Jobs.{Job}
+use Rattle.farm_machine.specs.Moments.{AreMoments}
+use Rattle.farm_machine.specs.Numbered.{numbered, advanced, no_places, untimed}
+use Rattle.farm_machine.specs.Own.{DoneJob, Each, DoesJobs}
+
+-- a job without its looks at the clock, which are no acts of a course
+abbrev pub untimed_job : DoneJob → DoneJob
+untimed_job job = record { number = job.number; acts = untimed job.acts; end = job.end }
+
+-- the acts of all jobs, one job after another
+abbrev pub all_acts : List DoneJob → List Act
+all_acts [] = []
+all_acts (job ∷ jobs) = job.acts ++ all_acts jobs
+
+-- the report tells of the job, its deeds numbered on from these places
+pub record IsReportOf (by_worker : ℕ) (at : Places) (job : DoneJob) (report : Report) : Type 0 where
+  pub number : report.number ≡ job.number
+  pub worker : report.worker ≡ by_worker
+  pub events : report.events ≡ numbered at job.acts
+  pub end : report.end ≡ job.end
+
+-- the reports tell of the jobs, the deeds of each numbered on from where those before it ended
+abbrev pub AreReportsOf : ℕ → Places → List DoneJob → List Report → Type 0
+AreReportsOf worker at [] [] = Unit {0}
+AreReportsOf worker at [] (report ∷ reports) = ⊥
+AreReportsOf worker at (job ∷ jobs) [] = ⊥
+AreReportsOf worker at (job ∷ jobs) (report ∷ reports) = IsReportOf worker at job report × AreReportsOf worker (advanced at job.acts) jobs reports
+
+abbrev pub is_station_failure : End → Bool
+is_station_failure (Failed Station) = true
+is_station_failure end = false
+
+abbrev pub is_keeper_failure : End → Bool
+is_keeper_failure (Failed Put) = true
+is_keeper_failure (Failed Fetch) = true
+is_keeper_failure end = false
+
+abbrev pub is_dial_failure : End → Bool
+is_dial_failure (Failed (Broke host Dial)) = true
+is_dial_failure end = false
+
+-- how many of the reports end so
+abbrev pub ends_so : (End → Bool) → List Report → ℕ
+ends_so is reports = count_by (λ report. is report.end) reports
+
+-- two counts together rose by at least this number
+pub record RoseTogether (number a a' b b' : ℕ) : Type 0 where
+  pub first : ℕ
+  pub second : ℕ
+  pub enough : number ≤ first + second
+  pub rose : RoseBy first a a'
+  pub rose_too : RoseBy second b b'
+
+-- No more jobs failed by a device than its counts rose together.
+pub record AreCaused (reports : List Report) (old new : KitView) : Type 0 where
+  pub station : RoseTogether (ends_so is_station_failure reports) old.station.faults new.station.faults old.station.overruns new.station.overruns
+  pub keeper : RoseTogether (ends_so is_keeper_failure reports) old.keeper.faults new.keeper.faults old.keeper.overruns new.keeper.overruns
+  pub dialer : RoseBy (ends_so is_dial_failure reports) old.dialer.faults new.dialer.faults
+
+-- A worker did jobs, one after another: each is a course of its command. All that it did is one list of acts. Its deeds are the new entries
+-- of the kit's lists, and the reports' events name them, counted from 0 on. The calls are those of its jobs, and their moments are those that
+-- the clock gave. Peers gave what peers may give, programs left what programs may leave, and counts rose with the jobs that failed.
+pub record Works {h : ℕ} (peers : Peers) (programs : Programs) (jobs : ℕ → Job) (period : ℕ) (l : Limits h) (worker : ℕ) (reports : List Report) (calls : List CallEntry) (old new : KitView) : Type 0 where
+  pub done : List DoneJob
+  pub reported : AreReportsOf worker no_places done reports
+  pub courses : Each (λ job. Course (jobs job.number) (untimed job.acts) job.end) done
+  pub does : DoesJobs (wanted l) worker (map untimed_job done) calls
+  pub did : DidIn old new (deeds_of (all_acts done))
+  pub moments : AreMoments period calls (moments_in (deeds_of (all_acts done)))
+  pub may : IsTrue new.dialer.exchanges.known → MayAll peers (exchanges_in (deeds_of (all_acts done)))
+  pub ran : AllRan programs (all_acts done)
+  pub caused : AreCaused reports old new
+  pub later : KitLater old new
+
+-- the worker did jobs until a draw answered none
+pub record WorkedOff {h : ℕ} (peers : Peers) (programs : Programs) (jobs : ℕ → Job) (period : ℕ) (l : Limits h) (worker : ℕ) (reports : List Report) (mine : List CallEntry) (old new : KitView) : Type 0 where
+  pub calls : List CallEntry
+  pub works : Works peers programs jobs period l worker reports calls old new
+  pub last : mine ≡ calls ++ entry worker Draw (Drawn None) ∷ []

@@ -1,0 +1,199 @@
+//! Workers side by side, over the slots that they share.
+ghost use Rattle.std.specs.Prelude.{◌≡◌, ℕ, ◌+◌, ◌<◌, ◌≤◌, [], ◌++◌, All, IfOk, length, map, reverse, slice_index_or, vec_len, vec_capacity};
+ghost use Rattle.std.specs.List.{flat_map};
+ghost use Rattle.farm_machine.specs.Jobs.{AreLimitsOf};
+ghost use Rattle.farm_cell.specs.Passes.{limits_of};
+ghost use Rattle.job_driver.specs.Crews.{kit_of, pass_of, desk_of, reports_on, HasRoom, IsReady, HasWorked};
+ghost use Rattle.job_driver.specs.Driven.{devices};
+ghost use Rattle.job_driver.specs.Jobs.{job_at, AreDoable};
+
+use crate::worker::work;
+use edge_traits::{Clock, Dialer, Keeper, Kit, Station};
+use farm_cell::{Cell, Held, Pass};
+use farm_machine::Report;
+use farm_types::{JobConfig, Jobs};
+use job_run::EventRoom;
+use std::alloc::{AllocError, Global};
+use std::sync::Wait;
+use std::thread;
+use std::thread::Threads;
+
+/// Room for the events of each job that a worker may do, and for their reports.
+#[derive(Drop)]
+pub struct Desk {
+    pub rooms: Vec<EventRoom>,
+    pub reports: Vec<Report>,
+}
+
+impl Desk {
+    /// Takes the room for so many jobs.
+    pub fn new(alloc: Global, jobs: usize) -> Result<Desk, AllocError>
+        ensures { IfOk result (λ desk. HasRoom jobs desk) }
+    {
+        let mut rooms = Vec::with_capacity(alloc, jobs)?;
+        'taking: while rooms.len() < jobs {
+            rooms.push(EventRoom::new(alloc)?)?;
+        }
+        let reports = Vec::with_capacity(alloc, jobs)?;
+        Ok(Desk { rooms, reports })
+    }
+}
+
+/// One worker: its kit, its pass of the shared slots, and its desk.
+#[derive(Drop)]
+pub struct Worker<D, S, K, C> {
+    pub kit: Kit<D, S, K, C>,
+    pub pass: Pass,
+    pub desk: Desk,
+}
+
+/// One worker does jobs until there are none.
+fn work_over<R: Wait, D: Dialer, S: Station, K: Keeper, C: Clock>(
+    rt: &R,
+    alloc: Global,
+    jobs: &Jobs,
+    config: &JobConfig,
+    cell: &Cell<16, 34>,
+    worker: &mut Worker<D, S, K, C>,
+)
+    requires jobs { AreDoable jobs.now }
+    requires number { (limits_of cell.now).jobs ≡ length jobs.now }
+    requires hosts { AreLimitsOf (limits_of cell.now) config.now.hosts }
+    requires entries { length config.now.hosts.list ≤ 16 }
+    requires some { 1 ≤ config.now.tries }
+    requires tries { config.now.tries ≤ 16 }
+    requires ready { IsReady (devices D.shows S.shows K.shows C.shows D.may_give S.ran) cell.now (length jobs.now) worker.old }
+    ensures { HasWorked (devices D.shows S.shows K.shows C.shows D.may_give S.ran) cell.now
+        (job_at jobs.now config.now) config.now.period worker.old worker.new }
+{
+    let mut held = Held::new(rt, cell, &mut worker.pass);
+    work(
+        rt,
+        alloc,
+        jobs,
+        config,
+        &mut held,
+        &mut worker.kit,
+        &mut worker.desk.rooms,
+        &mut worker.desk.reports,
+    );
+}
+
+/// Each worker does jobs until there are none, in a thread of its own where one can be made.
+pub fn work_all<
+    R: Threads + Wait + Sync,
+    D: Dialer + Send,
+    S: Station + Send,
+    K: Keeper + Send,
+    C: Clock + Send,
+>(
+    rt: &R,
+    alloc: Global,
+    jobs: &Jobs,
+    config: &JobConfig,
+    cell: &Cell<16, 34>,
+    workers: &mut Vec<Worker<D, S, K, C>>,
+)
+where
+    D::Link: Send,
+    requires some_workers { 0 < length workers.old.items }
+    requires jobs { AreDoable jobs.now }
+    requires number { (limits_of cell.now).jobs ≡ length jobs.now }
+    requires hosts { AreLimitsOf (limits_of cell.now) config.now.hosts }
+    requires entries { length config.now.hosts.list ≤ 16 }
+    requires some { 1 ≤ config.now.tries }
+    requires tries { config.now.tries ≤ 16 }
+    requires ready { All (λ worker. IsReady (devices D.shows S.shows K.shows C.shows D.may_give S.ran) cell.now (length jobs.now) worker) workers.old.items }
+    ensures len { (vec_len workers.new ≡ vec_len workers.old) × (length workers.new.items ≡ length workers.old.items) }
+    ensures each { (number : ℕ) (d : _) → number < length workers.old.items →
+        HasWorked (devices D.shows S.shows K.shows C.shows D.may_give S.ran) cell.now (job_at jobs.now config.now) config.now.period
+        (slice_index_or workers.old.items number d) (slice_index_or workers.new.items number d) }
+{
+    let threads = workers.len();
+    thread::for_each_mut(
+        rt,
+        workers.as_mut_slice(),
+        threads,
+        &|_, worker| { work_over(rt, alloc, jobs, config, cell, worker) },
+    );
+}
+
+/// Each kit gets a pass and a desk. The room for the workers was taken before.
+pub fn hire<D: Drop, S: Drop, K: Drop, C: Drop>(
+    kits: &mut Vec<Kit<D, S, K, C>>,
+    passes: &mut Vec<Pass>,
+    desks: &mut Vec<Desk>,
+    workers: &mut Vec<Worker<D, S, K, C>>,
+)
+    requires passes { length passes.old.items ≡ length kits.old.items }
+    requires desks { length desks.old.items ≡ length kits.old.items }
+    requires none { workers.old.items ≡ [] }
+    requires room { length kits.old.items ≤ vec_capacity workers.old }
+    ensures kits { (kits.new.items ≡ []) × (map kit_of workers.new.items ≡ kits.old.items) }
+    ensures passes { (passes.new.items ≡ []) × (map pass_of workers.new.items ≡ passes.old.items) }
+    ensures desks { map desk_of workers.new.items ≡ desks.old.items }
+    ensures room { (length workers.new.items ≤ vec_capacity kits.new) × (length workers.new.items ≤ vec_capacity passes.new) × (length workers.new.items ≤ vec_capacity desks.new) }
+    ensures empty { desks.new.items ≡ [] }
+    ensures kept { vec_capacity kits.new ≡ vec_capacity kits.old }
+{
+    while let Some(kit) = kits.pop() {
+        let Some(pass) = passes.pop() else {
+            unreachable!()
+        };
+        let Some(desk) = desks.pop() else {
+            unreachable!()
+        };
+        let Ok(()) = workers.push(Worker { kit, pass, desk }) else {
+            unreachable!()
+        };
+    }
+    workers.reverse();
+}
+
+/// The kits, the passes and the desks go back to their places.
+pub fn dismiss<D: Drop, S: Drop, K: Drop, C: Drop>(
+    mut workers: Vec<Worker<D, S, K, C>>,
+    kits: &mut Vec<Kit<D, S, K, C>>,
+    passes: &mut Vec<Pass>,
+    desks: &mut Vec<Desk>,
+)
+    requires empty { (kits.old.items ≡ []) × (passes.old.items ≡ []) × (desks.old.items ≡ []) }
+    requires room { (length workers.items ≤ vec_capacity kits.old) × (length workers.items ≤ vec_capacity passes.old) × (length workers.items ≤ vec_capacity desks.old) }
+    ensures kits { kits.new.items ≡ map kit_of workers.items }
+    ensures passes { passes.new.items ≡ map pass_of workers.items }
+    ensures desks { desks.new.items ≡ map desk_of workers.items }
+    ensures kept { vec_capacity kits.old ≤ vec_capacity kits.new }
+{
+    while let Some(worker) = workers.pop() {
+        let Worker { kit, pass, desk } = worker;
+        let Ok(()) = kits.push(kit) else {
+            unreachable!()
+        };
+        let Ok(()) = passes.push(pass) else {
+            unreachable!()
+        };
+        let Ok(()) = desks.push(desk) else {
+            unreachable!()
+        };
+    }
+    kits.reverse();
+    passes.reverse();
+    desks.reverse();
+}
+
+/// Puts the reports of all desks together.
+pub fn gather(mut desks: Vec<Desk>, reports: &mut Vec<Report>)
+    requires empty { reports.old.items ≡ [] }
+    requires room { length (flat_map reports_on desks.items) ≤ vec_capacity reports.old }
+    ensures { reports.new.items ≡ flat_map reports_on (reverse desks.items) }
+{
+    while let Some(desk) = desks.pop() {
+        let Desk {
+            rooms: _,
+            reports: mut own,
+        } = desk;
+        let Ok(()) = reports.append(&mut own) else {
+            unreachable!()
+        };
+    }
+}

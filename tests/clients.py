@@ -1,0 +1,90 @@
+"""Clients of farmd that a test wants: they die, half-close, say too much or nothing, or come all at once."""
+import socket
+import struct
+import sys
+import threading
+
+PORT = int(sys.argv[1])
+
+
+def token(name, number):
+    return name + b"%08x" % number
+
+
+def request(compiler, source):
+    words = [compiler, b"-c", b"a.i", b"-o", b"a.o"]
+    text = token(b"DIST", 1) + token(b"ARGC", len(words))
+    for word in words:
+        text += token(b"ARGV", len(word)) + word
+    return text + token(b"DOTI", len(source)) + source
+
+
+GOOD = request(b"gcc", b"int a = 1;\n")
+
+
+def dial(source="127.0.0.1"):
+    return socket.create_connection(("127.0.0.1", PORT), timeout=20, source_address=(source, 0))
+
+
+def read_all(link):
+    text = b""
+    while True:
+        piece = link.recv(65536)
+        if not piece:
+            return text
+        text += piece
+
+
+def exchange(text, half_close=False, source="127.0.0.1"):
+    with dial(source) as link:
+        link.sendall(text)
+        if half_close:
+            link.shutdown(socket.SHUT_WR)
+        return read_all(link)
+
+
+def is_answered(reply):
+    return reply.startswith(b"DONE00000001STAT00000000SERR00000000SOUT00000000DOTO") and b"\x7fELF" in reply
+
+
+def four():
+    assert is_answered(exchange(GOOD))
+    assert b"unknown compiler cc\n" in exchange(request(b"cc", b""))
+    assert exchange(b"", source="127.0.0.2") == b""
+    assert exchange(b"DIST", half_close=True) == b""
+
+
+def all_kinds():
+    # one that dies in the middle, by a reset
+    link = dial()
+    link.sendall(GOOD[:60])
+    link.setsockopt(socket.SOL_SOCKET, socket.SO_LINGER, struct.pack("ii", 1, 0))
+    link.close()
+    # one that dies as soon as its request is sent
+    link = dial()
+    link.sendall(GOOD)
+    link.setsockopt(socket.SOL_SOCKET, socket.SO_LINGER, struct.pack("ii", 1, 0))
+    link.close()
+    assert is_answered(exchange(GOOD + b"x" * 1000)), "surplus bytes"
+    assert is_answered(exchange(GOOD, half_close=True)), "a client that half-closes"
+    assert exchange(b"GET / HTTP/1.0\r\n\r\n") == b"", "another protocol"
+    # one that says nothing holds one door and no other
+    idle = dial()
+    for _ in range(12):
+        assert is_answered(exchange(GOOD)), "beside an idle client"
+    # more at once than there are doors
+    answers = []
+    threads = [threading.Thread(target=lambda: answers.append(exchange(GOOD))) for _ in range(64)]
+    for thread in threads:
+        thread.start()
+    for thread in threads:
+        thread.join()
+    assert len(answers) == 64 and all(map(is_answered, answers)), "64 at once"
+    idle.close()
+
+
+try:
+    four() if sys.argv[2:] else all_kinds()
+except (AssertionError, OSError) as error:
+    print("FAIL clients.py:", error)
+    sys.exit(1)

@@ -1,0 +1,148 @@
+"""Mutated requests for farmd."""
+import os
+import random
+import socket
+import sys
+import threading
+import time
+
+PORT, PROCESS, RUNS, COUNT, SECONDS = int(sys.argv[1]), int(sys.argv[2]), sys.argv[3], int(sys.argv[4]), float(sys.argv[5])
+THREADS = 8
+
+
+def token(name, number):
+    return name + b"%08x" % number
+
+
+def request(words, source):
+    text = token(b"DIST", 1) + token(b"ARGC", len(words))
+    for word in words:
+        text += token(b"ARGV", len(word)) + word
+    return text + token(b"DOTI", len(source)) + source
+
+
+SEEDS = [
+    request([b"probe", b"-c", b"a.i", b"-o", b"a.o"], b"int a = 1;\n"),
+    request([b"probe", b"-O2", b"-g", b"-c", b"b.c", b"-o", b"b.o"], b"int b;\n" * 40),
+    request([b"sh", b"-c", b"touch x", b"-o", b"a.o"], b""),
+    request([b"probe", b"-E", b"a.c"], b"int a;\n"),
+    request([b"/bin/sh"], b""),
+]
+
+
+def mutate(rng, text):
+    text = bytearray(text)
+    for _ in range(rng.choice([0, 1, 1, 1, 2, 4, 16])):
+        kind = rng.randrange(6)
+        at = rng.randrange(len(text) + 1)
+        if kind == 0 and at < len(text):
+            text[at] = rng.randrange(256)
+        elif kind == 1 and at < len(text):
+            text[at] ^= 1 << rng.randrange(8)
+        elif kind == 2:
+            del text[at:at + rng.randrange(1, 20)]
+        elif kind == 3:
+            text[at:at] = bytes(rng.randrange(256) for _ in range(rng.randrange(1, 20)))
+        elif kind == 4:
+            text = text[:at]
+        else:
+            other = rng.choice(SEEDS)
+            text[at:] = other[rng.randrange(len(other)):]
+        if not text:
+            break
+    return bytes(text)
+
+
+def exchange(text):
+    with socket.create_connection(("127.0.0.1", PORT), timeout=30) as link:
+        try:
+            link.sendall(text)
+            link.shutdown(socket.SHUT_WR)
+        except OSError:
+            pass
+        reply = b""
+        try:
+            while True:
+                piece = link.recv(65536)
+                if not piece:
+                    return reply
+                reply += piece
+        except ConnectionResetError:
+            return reply
+
+
+def memory(field):
+    with open(f"/proc/{PROCESS}/status") as status:
+        return next(int(line.split()[1]) for line in status if line.startswith(field)) // 1024
+
+
+class Worker(threading.Thread):
+    def __init__(self, seed, count, end):
+        super().__init__()
+        self.rng, self.count, self.end = random.Random(seed), count, end
+        self.sent = self.ran = self.refused = 0
+        self.error = None
+
+    def run(self):
+        try:
+            for _ in range(self.count):
+                if self.end < time.monotonic():
+                    return
+                self.one()
+        except Exception as error:
+            self.error = error
+
+    def one(self):
+        text = mutate(self.rng, self.rng.choice(SEEDS))
+        reply = exchange(text)
+        self.sent += 1
+        if not reply:
+            return
+        status = reply[12:24]
+        if not reply.startswith(b"DONE00000001STAT"):
+            raise ValueError(f"no reply: {reply[:40]!r} to {text!r}")
+        if status in (b"STAT00006e00", b"STAT00006f00"):
+            self.refused += 1
+        else:
+            self.ran += 1
+            # the first word of a request that is run can only be the table's
+            if b"probe" not in text:
+                raise ValueError(f"it ran: {text!r}")
+
+
+def main():
+    begin = memory("VmRSS")
+    # peers that announce 32 MiB and send nothing of it
+    big = SEEDS[0][:SEEDS[0].index(b"DOTI")] + token(b"DOTI", 33554432)
+    idle = []
+    for _ in range(7):
+        link = socket.create_connection(("127.0.0.1", PORT))
+        link.sendall(big)
+        idle.append(link)
+    time.sleep(0.5)
+    announced = memory("VmRSS")
+    for link in idle:
+        link.close()
+    if 16 < announced - begin:
+        sys.exit(f"tests/hostile: 7 announced sources took {announced - begin} MiB")
+    end = time.monotonic() + SECONDS
+    workers = [Worker(seed, COUNT // THREADS, end) for seed in range(THREADS)]
+    for worker in workers:
+        worker.start()
+    for worker in workers:
+        worker.join()
+    for worker in workers:
+        if worker.error:
+            sys.exit(f"tests/hostile: {worker.error!r}")
+    ran, runs = sum(w.ran for w in workers), os.path.getsize(RUNS)
+    if ran != runs:
+        sys.exit(f"tests/hostile: {runs} runs, and {ran} replies of runs")
+    if not exchange(SEEDS[0]).startswith(b"DONE00000001STAT00000000"):
+        sys.exit("tests/hostile: a right request isn't answered any more")
+    if 256 < memory("VmHWM"):
+        sys.exit(f"tests/hostile: {memory('VmHWM')} MiB")
+    sent = sum(w.sent for w in workers)
+    print(f"tests/hostile: passed, {sent} requests, {ran} runs, {sum(w.refused for w in workers)} refused, at most {memory('VmHWM')} MiB")
+
+
+main()
