@@ -10,8 +10,3 @@ mod top;
 
 pub use jobs::{BuiltList, Ended};
 pub use top::farm;
-
-#[cfg(test)]
-mod tests;
-#[cfg(test)]
-mod word_tests;

@@ -14,9 +14,13 @@ program_help =
     codes "Usage: farm COMMAND [WORD]...\n"
     ++ codes "Compiles on other machines, by distcc's protocol.\n"
     ++ codes "\n"
+    ++ codes "  farm build --hosts 'red/4 blue/4' <jobs\n"
+    ++ codes "                         compiles each line of the file jobs on red and blue\n"
+    ++ codes "  farm cc gcc -c x.c     does one compile, on the hosts of DISTCC_HOSTS\n"
+    ++ codes "\n"
     ++ codes "Commands:\n"
-    ++ codes "  build     do the job on standard input\n"
-    ++ codes "  cc        do one compile command (not built yet)\n"
+    ++ codes "  build     do the jobs on standard input, one compile command a line\n"
+    ++ codes "  cc        do one compile command\n"
     ++ codes "  hosts     print the host list\n"
     ++ codes "  scan      say whether a compile command may be sent\n"
     ++ codes "  rehearse  do made-up jobs in memory (not built yet)\n"
@@ -33,7 +37,10 @@ program_help =
 abbrev pub build_help : List ℕ
 build_help =
     codes "Usage: farm build [OPTION]...\n"
-    ++ codes "Does the compile command on standard input: one line, words apart by one space.\n"
+    ++ codes "Does the jobs on standard input: one compile command a line, with a shell's\n"
+    ++ codes "quotes and backslashes, 512 at most. A job that may be sent is preprocessed here\n"
+    ++ codes "and compiled on a host that has a slot; every other one is done here. Then it\n"
+    ++ codes "prints a line for each job, in their order.\n"
     ++ codes "\n"
     ++ codes "Options, in any order, each at most once:\n"
     ++ codes "  --hosts LIST   the host list, in place of DISTCC_HOSTS\n"
@@ -42,14 +49,16 @@ build_help =
     ++ codes "  --no-fallback  don't compile here what no host compiled\n"
     ++ codes "  --no-retry     don't compile here what failed on a host\n"
     ++ codes "\n"
-    ++ codes "So far a build does one job, and --workers and --tries change nothing.\n"
+    ++ codes "The host list: NAME, NAME:PORT or NAME/LIMIT, apart by blanks; localhost is this\n"
+    ++ codes "machine. LIMIT is how many jobs the host gets at once: 4 where it isn't given,\n"
+    ++ codes "and 2 for localhost.\n"
 
 abbrev pub cc_help : List ℕ
 cc_help =
     codes "Usage: farm cc WORD...\n"
-    ++ codes "Does the compile command that the words are, with the hosts of DISTCC_HOSTS.\n"
-    ++ codes "\n"
-    ++ codes "Not built yet.\n"
+    ++ codes "Does the compile command that the words are, on the hosts of DISTCC_HOSTS, and\n"
+    ++ codes "ends with the compiler's status. A command that may not be sent is run here as\n"
+    ++ codes "it stands.\n"
 
 abbrev pub hosts_help : List ℕ
 hosts_help =

@@ -12,9 +12,13 @@ pub const VERSION: &[u8] = b"farm 0.1, distcc protocol 1\n";
 pub const PROGRAM_HELP: &[u8] = b"Usage: farm COMMAND [WORD]...
 Compiles on other machines, by distcc's protocol.
 
+  farm build --hosts 'red/4 blue/4' <jobs
+                         compiles each line of the file jobs on red and blue
+  farm cc gcc -c x.c     does one compile, on the hosts of DISTCC_HOSTS
+
 Commands:
-  build     do the job on standard input
-  cc        do one compile command (not built yet)
+  build     do the jobs on standard input, one compile command a line
+  cc        do one compile command
   hosts     print the host list
   scan      say whether a compile command may be sent
   rehearse  do made-up jobs in memory (not built yet)
@@ -30,7 +34,10 @@ Environment:
 
 /// What `farm build --help` prints.
 pub const BUILD_HELP: &[u8] = b"Usage: farm build [OPTION]...
-Does the compile command on standard input: one line, words apart by one space.
+Does the jobs on standard input: one compile command a line, with a shell's
+quotes and backslashes, 512 at most. A job that may be sent is preprocessed here
+and compiled on a host that has a slot; every other one is done here. Then it
+prints a line for each job, in their order.
 
 Options, in any order, each at most once:
   --hosts LIST   the host list, in place of DISTCC_HOSTS
@@ -39,14 +46,16 @@ Options, in any order, each at most once:
   --no-fallback  don't compile here what no host compiled
   --no-retry     don't compile here what failed on a host
 
-So far a build does one job, and --workers and --tries change nothing.
+The host list: NAME, NAME:PORT or NAME/LIMIT, apart by blanks; localhost is this
+machine. LIMIT is how many jobs the host gets at once: 4 where it isn't given,
+and 2 for localhost.
 ";
 
 /// What `farm cc --help` prints.
 pub const CC_HELP: &[u8] = b"Usage: farm cc WORD...
-Does the compile command that the words are, with the hosts of DISTCC_HOSTS.
-
-Not built yet.
+Does the compile command that the words are, on the hosts of DISTCC_HOSTS, and
+ends with the compiler's status. A command that may not be sent is run here as
+it stands.
 ";
 
 /// What `farm hosts --help` prints.

@@ -20,12 +20,13 @@ use Rattle.slot_table.specs.Limits.{AreValid}
 use Rattle.slot_table.specs.History.{entry, IsLegal, state_after, outstanding, calls_by, jobs_drawn, count_at}
 use Rattle.slot_table.specs.Laws.{Agrees as SlotsAgree}
 use Rattle.slot_table.proofs.Keeps.{state-agrees}
-use Rattle.edge_traits.specs.Deeds.{exchanges_in, moments_in, DidIn, MayAll}
+use Rattle.edge_traits.specs.Deeds.{exchanges_in, moments_in, put, DidIn, MayAll}
 use Rattle.farm_machine.specs.Honest.{AllRan}
 use Rattle.edge_traits.specs.Keepers.{IsIdle}
 use Rattle.edge_traits.specs.Told.{SameRelation, SameRelation3}
 use Rattle.farm_machine.specs.declared.reports.Report.{Report}
-use Rattle.farm_machine.specs.Acts.{Act, Entries, deeds_of}
+use Rattle.edge_traits.specs.declared.entries.Put.{Put}
+use Rattle.farm_machine.specs.Acts.{Act, Did, Entries, deeds_of}
 use Rattle.farm_machine.specs.Course.{Course}
 use Rattle.farm_machine.specs.Driver.{AllWorked, WorkersRun}
 use Rattle.farm_machine.specs.Farm.{wanted, IsOf}
@@ -40,13 +41,16 @@ use Rattle.worker_laws.proofs.Reported.{workers-run}
 use Rattle.job_run.proofs.Lists.{moments-append}
 use Rattle.job_driver.specs.Jobs.{job_at}
 use Rattle.job_driver.specs.Works.{untimed_job, all_acts, AreReportsOf, WorkedOff, AreCaused}
-use Rattle.job_driver.specs.Driven.{Devices, reports_by, events_of, no_entries, KitDid, JobsRan}
+use Rattle.course_laws.specs.Answers.{AllGiven}
+use Rattle.course_laws.proofs.Compilers.{put-answer}
+use Rattle.job_driver.specs.Driven.{Devices, reports_by, events_of, no_entries, HasAnswers, KitDid, JobsRan}
 use Rattle.job_driver.proofs.Working.{numbers_of}
 use Rattle.job_driver.proofs.Drawing.{drawn-append}
 use Rattle.job_driver.proofs.Stepping.{numbers-drawn}
 use Rattle.job_driver.proofs.Sorting.{SameSums, up-same, up-range, up-from, sum-below}
 use Rattle.job_driver.proofs.Joining.{Joins, drawn-sums}
 use Rattle.job_driver.proofs.Rising.{Rise, rise-range, rise-drawn, Has, same-reports, rise-by, has-at, has-each, own-by, by-own}
+use Rattle.job_driver.proofs.Answering.{given-acts, given-each, given-front, ran-each, ran-front, reports-each, some-at}
 use Rattle.job_driver.proofs.ReportReading.{reads-each, events-numbered, by-worker}
 
 -- a worker with the jobs that it did
@@ -227,6 +231,52 @@ module _ {K : Type 0} (d : Devices K) (l : Limits 16) (words : List (List (List 
           programs = (stays i below).programs;
         }
 
+    -- what holds of the acts of each worker's jobs holds of the acts of each job
+    told-each : (Q : ℕ → List Act → Type 0) → ((i : ℕ) → i < n → Each (λ job. Q i (untimed job.acts)) (done i)) → (j : ℕ) → j < l.jobs → Q (run.reports.worker j) (run.reports.acts j)
+    told-each Q each j below =
+        let told : All (λ r. Q (run.reports.worker r.number) (run.reports.acts r.number)) sorted = All-permutation (λ r. Q (run.reports.worker r.number) (run.reports.acts r.number)) all sorted moved
+        (joins.each (λ r. Q (run.reports.worker r.number) (run.reports.acts r.number))
+        (λ i inside.
+        let f = facts i inside in
+        by-reports Q i (R i) (reports-each (Q i) i run.reports (done i) no_places (R i)
+        (subst (λ (ds : List DoneJob). AreReportsOf i no_places ds (R i)) f.1 f.0.works.reported) (run.reported i inside) (each i inside)))) in
+        let here = some-at sorted j (let one = are-read.one in omega (arith, one, below)) in
+        subst (λ (k : ℕ). Q (run.reports.worker k) (run.reports.acts k)) (number-at j here.0 here.1) (all-get (λ r. Q (run.reports.worker r.number) (run.reports.acts r.number)) sorted j here.0 told here.1)
+      where
+        by-reports : (Q : ℕ → List Act → Type 0) (i : ℕ) (rs : List Report) → All (λ r. (run.reports.worker r.number ≡ i) × Q i (run.reports.acts r.number)) rs → All (λ r. Q (run.reports.worker r.number) (run.reports.acts r.number)) rs
+        by-reports Q i rs own at x inside = let one = own at x inside in subst (λ (k : ℕ). Q k (run.reports.acts (get_or rs at x).number)) (sym one.0) one.1
+
+    gave-each : (j : ℕ) → j < l.jobs → IsTrue (d.shows (N (run.reports.worker j))).dialer.exchanges.known → AllGiven (d.peers (V (run.reports.worker j))) (run.reports.acts j)
+    gave-each j below = told-each (λ i acts. IsTrue (d.shows (N i)).dialer.exchanges.known → AllGiven (d.peers (V i)) acts) theirs j below
+      where
+        theirs : (i : ℕ) → i < n → Each (λ job. IsTrue (d.shows (N i)).dialer.exchanges.known → AllGiven (d.peers (V i)) (untimed job.acts)) (done i)
+        theirs i inside =
+            let f = facts i inside in
+            let w = f.0.works in
+            each-known (done i) (λ known. given-each (d.peers (V i)) (done i)
+            (subst (λ (ds : List DoneJob). AllGiven (d.peers (V i)) (all_acts ds)) f.1 (given-acts (d.peers (V i)) (all_acts w.done) (w.may known))))
+          where
+            each-known : (ds : List DoneJob) → (IsTrue (d.shows (N i)).dialer.exchanges.known → Each (λ job. AllGiven (d.peers (V i)) (untimed job.acts)) ds) → Each (λ job. IsTrue (d.shows (N i)).dialer.exchanges.known → AllGiven (d.peers (V i)) (untimed job.acts)) ds
+            each-known [] h = tt
+            each-known (job ∷ ds) h = (λ known. (h known).0, each-known ds (λ known. (h known).1))
+
+    left-each : (j : ℕ) → j < l.jobs → AllRan (d.programs (V (run.reports.worker j))) (run.reports.acts j)
+    left-each j below = told-each (λ i acts. AllRan (d.programs (V i)) acts) theirs j below
+      where
+        theirs : (i : ℕ) → i < n → Each (λ job. AllRan (d.programs (V i)) (untimed job.acts)) (done i)
+        theirs i inside =
+            let f = facts i inside in
+            ran-each (d.programs (V i)) (done i) (subst (λ (ds : List DoneJob). AllRan (d.programs (V i)) (all_acts ds)) f.1 f.0.works.ran)
+
+    answers-each : (j : ℕ) → j < l.jobs → HasAnswers (d.peers (V (run.reports.worker j))) (d.programs (V (run.reports.worker j))) (d.shows (N (run.reports.worker j))) (jobs j) (run.reports.acts j)
+    answers-each j below before rest x known honest is =
+        let peers = d.peers (V (run.reports.worker j)) in
+        let programs = d.programs (V (run.reports.worker j)) in
+        put-answer peers programs (jobs j) before x rest (run.reports.ends j) honest
+        (given-front peers before (Did (put x) ∷ rest) (subst (AllGiven peers) is (gave-each j below known)))
+        (ran-front programs before (Did (put x) ∷ rest) (subst (AllRan programs) is (left-each j below)))
+        (subst (λ (acts : List Act). Course (jobs j) acts (run.reports.ends j)) is (run.courses j below))
+
     pub ran-all : (last : SlotState 16) (old new : List K) → last ≡ state_after l H
         → ((i : ℕ) (other : K) → i < n → (get_or old i other ≡ V i) × (get_or new i other ≡ N i))
         → length new ≡ length old
@@ -247,6 +297,17 @@ module _ {K : Type 0} (d : Devices K) (l : Limits 16) (words : List (List (List 
           all_drawn = ap (λ (s : SlotState 16). s.next) last_is ∙ next-all l H legal run.agrees.drawn;
           none_held = λ host below. ap (λ (s : SlotState 16). slice_index s.held host) last_is ∙ agree.held host below ∙ ap (count_at (Some host)) run.back;
           none_local = ap (λ (s : SlotState 16). s.local_held) last_is ∙ agree.local_held ∙ ap (count_at None) run.back;
+          gave = λ j other below known.
+              let k = kits (run.reports.worker j) other (run.workers j below) in
+              subst (λ (x : K). AllGiven (d.peers x) (run.reports.acts j)) (sym k.0)
+              (gave-each j below (subst (λ (x : K). IsTrue (d.shows x).dialer.exchanges.known) k.1 known));
+          left = λ j other below.
+              let k = kits (run.reports.worker j) other (run.workers j below) in
+              subst (λ (x : K). AllRan (d.programs x) (run.reports.acts j)) (sym k.0) (left-each j below);
+          answers = λ j other below.
+              let k = kits (run.reports.worker j) other (run.workers j below) in
+              subst (λ (x : K). HasAnswers (d.peers x) (d.programs x) (d.shows (get_or new (run.reports.worker j) other)) (jobs j) (run.reports.acts j)) (sym k.0)
+              (subst (λ (x : K). HasAnswers (d.peers (V (run.reports.worker j))) (d.programs (V (run.reports.worker j))) (d.shows x) (jobs j) (run.reports.acts j)) (sym k.1) (answers-each j below));
           kits = λ i other below.
               let k = kits i other below in
               subst (λ (x : K). KitDid d config.period i sorted (entries i) (calls_by i H) x (get_or new i other)) (sym k.0)

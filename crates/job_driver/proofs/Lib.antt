@@ -6,5 +6,6 @@ pub mod Sorting
 pub mod Joining
 pub mod Rising
 pub mod ReportReading
+pub mod Answering
 pub mod Driving
 pub mod Building

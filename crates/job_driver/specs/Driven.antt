@@ -1,5 +1,5 @@
 -- What all workers did: reports that, with the history of the slots, are a run of the farm.
-use Rattle.std.specs.Prelude.{◌≡◌, ℕ, ◌<◌, ◌≤◌, IsTrue, List, [], length, filter, nat_eq, slice_index, slice_index_or}
+use Rattle.std.specs.Prelude.{◌≡◌, ℕ, ◌<◌, ◌≤◌, IsTrue, List, [], ◌∷◌, ◌++◌, length, filter, nat_eq, slice_index, slice_index_or}
 use Rattle.std.specs.List.{flat_map}
 use Rattle.slot_table.specs.declared.limits.Limits.{Limits}
 use Rattle.slot_table.specs.declared.state.SlotState.{SlotState}
@@ -10,22 +10,24 @@ use Rattle.edge_traits.specs.Clocks.{ClockView}
 use Rattle.edge_traits.specs.Dialers.{DialerView}
 use Rattle.edge_traits.specs.Keepers.{KeeperView, IsIdle}
 use Rattle.edge_traits.specs.Stations.{StationView}
-use Rattle.edge_traits.specs.Deeds.{exchanges_in, moments_in, DidIn, MayAll}
+use Rattle.edge_traits.specs.Deeds.{exchanges_in, moments_in, put, DidIn, MayAll}
 use Rattle.edge_traits.specs.Kits.{KitView, kit_view}
 use Rattle.edge_traits.specs.Told.{SameRelation, SameRelation3}
 use Rattle.farm_machine.specs.declared.reports.Event.{Event}
 use Rattle.farm_machine.specs.declared.reports.Report.{Report}
-use Rattle.farm_machine.specs.Acts.{Act, Entries, deeds_of}
+use Rattle.edge_traits.specs.declared.entries.Put.{Put}
+use Rattle.farm_machine.specs.Acts.{Act, Did, Entries, deeds_of}
 use Rattle.farm_machine.specs.Causes.{KitLater}
 use Rattle.farm_machine.specs.Course.{Course}
 use Rattle.farm_machine.specs.Farm.{wanted, farm_of}
-use Rattle.farm_machine.specs.Honest.{Peers, Programs, AllRan}
+use Rattle.farm_machine.specs.Honest.{Peers, Programs, AllRan, IsHonest}
 use Rattle.farm_machine.specs.Jobs.{Job}
 use Rattle.farm_machine.specs.Machine.{FarmRun}
 use Rattle.farm_machine.specs.Moments.{AreMoments}
 use Rattle.farm_machine.specs.Numbered.{numbered, no_places, added}
 use Rattle.farm_machine.specs.Reading.{AreRead}
 use Rattle.farm_machine.specs.Weave.{Reports, Agrees, weave}
+use Rattle.course_laws.specs.Answers.{AllGiven, IsAnswer}
 use Rattle.job_driver.specs.Works.{AreCaused}
 
 -- what is seen of kits: what they tell, what their peers may give, and what their programs may leave
@@ -67,9 +69,17 @@ pub record KitDid {K : Type 0} (d : Devices K) (period worker : ℕ) (reports : 
   pub peers : SameRelation (d.peers old) (d.peers new)
   pub programs : SameRelation3 (d.programs old) (d.programs new)
 
+-- Where the exchanges are told and the peers are honest, each object that the job put is one that a compiler may answer to the request of
+-- the job's own source.
+abbrev pub HasAnswers : Peers → Programs → KitView → Job → List Act → Type 0
+HasAnswers peers programs kit job acts = (before rest : List Act) (x : Put) → IsTrue kit.dialer.exchanges.known → IsHonest peers programs
+    → acts ≡ before ++ Did (put x) ∷ rest → IsAnswer programs job before x
+
 -- All jobs were done by this many workers, one for each of the first kits. There is one report for each job, in the order of the jobs. Read
 -- by the workers' entries the reports are courses of their jobs, the calls of the one history of the slots agree with them, and what is woven
--- of both is a run of the farm. At its end each job was drawn, each slot is back, and none is held.
+-- of both is a run of the farm. At its end each job was drawn, each slot is back, and none is held. What the job's exchanges were given and
+-- its runs left is what the peers and programs of its worker's kit may give and leave; so over honest peers its object is one that a compiler
+-- may answer.
 pub record JobsRan {K : Type 0} (d : Devices K) (l : Limits 16) (jobs : ℕ → Job) (period workers : ℕ) (reports : List Report) (history : List CallEntry) (last : SlotState 16) (old new : List K) : Type 0 where
   pub entries : ℕ → Entries
   pub read : Reports
@@ -83,6 +93,12 @@ pub record JobsRan {K : Type 0} (d : Devices K) (l : Limits 16) (jobs : ℕ → 
   pub all_drawn : last.next ≡ l.jobs
   pub none_held : (host : ℕ) → host < l.count → slice_index last.held host ≡ 0
   pub none_local : last.local_held ≡ 0
+  pub gave : (j : ℕ) (other : K) → j < l.jobs → IsTrue (d.shows (slice_index_or new (read.worker j) other)).dialer.exchanges.known
+      → AllGiven (d.peers (slice_index_or old (read.worker j) other)) (read.acts j)
+  pub left : (j : ℕ) (other : K) → j < l.jobs → AllRan (d.programs (slice_index_or old (read.worker j) other)) (read.acts j)
+  pub answers : (j : ℕ) (other : K) → j < l.jobs
+      → HasAnswers (d.peers (slice_index_or old (read.worker j) other)) (d.programs (slice_index_or old (read.worker j) other))
+      (d.shows (slice_index_or new (read.worker j) other)) (jobs j) (read.acts j)
   pub kits : (worker : ℕ) (other : K) → worker < workers
       → KitDid d period worker reports (entries worker) (calls_by worker history) (slice_index_or old worker other) (slice_index_or new worker other)
   pub same : length new ≡ length old

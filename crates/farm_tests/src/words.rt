@@ -1,6 +1,6 @@
 //! What `farm` answers to its words, to its environment and to an input that asks for no job.
 
-use crate::tests::{FIRST, Script, Seen, run};
+use crate::devices::{FIRST, Script, Seen, run};
 use std::alloc::Global;
 use std::process::Abort;
 use std::sync::Wait;

@@ -1,0 +1,13 @@
+//! Tests of the program `farm` over devices in memory: what it prints, answers and puts.
+#![tactic(auto)]
+
+#[cfg(test)]
+mod devices;
+#[cfg(test)]
+mod gates;
+#[cfg(test)]
+mod jobs;
+#[cfg(test)]
+mod words;
+#[cfg(test)]
+mod workers;
