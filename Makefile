@@ -16,9 +16,10 @@ test:
 	tests/clients
 	tests/hostile
 
-# What farm and distcc add to gcc -E and gcc -c, per job.
+# What farm and distcc add to gcc -E and gcc -c, per job; and whole builds at 2, 4 and 8 jobs at once.
 bench:
 	bench/run
+	bench/builds
 
 # How many times as long writing and reading 32 MiB takes as a plain copy of as many bytes.
 bench-wire:
