@@ -1,12 +1,12 @@
 -- What holds of every course.
-use Rattle.std.specs.Prelude.{◌≡◌, ◌⊎◌, ℕ, ◌+◌, ◌*◌, ◌<◌, ◌≤◌, false, List, [], ◌∷◌, ◌++◌, length, None}
+use Rattle.std.specs.Prelude.{◌≡◌, ◌⊎◌, ℕ, ◌+◌, ◌*◌, ◌<◌, ◌≤◌, Bool, true, false, List, [], ◌∷◌, ◌++◌, length, None}
 use Rattle.farm_types.specs.declared.ran.Outcome.{Outcome}
 use Rattle.edge_traits.specs.declared.entries.Run.{Run}
 use Rattle.edge_traits.specs.declared.entries.Exchange.{Exchange}
 use Rattle.edge_traits.specs.declared.entries.Put.{Put}
 use Rattle.edge_traits.specs.Deeds.{ran, exchanged, put}
 use Rattle.farm_machine.specs.declared.reports.By.{By}
-use Rattle.farm_machine.specs.declared.reports.Why5.TheVariants.{Memory}
+use Rattle.farm_machine.specs.declared.reports.Why5.TheVariants.{Broke, Memory, NoHost}
 use Rattle.farm_machine.specs.declared.reports.End.{End}
 use Rattle.farm_machine.specs.declared.reports.End.TheVariants.{Done, Failed}
 use Rattle.farm_machine.specs.Acts.{Takes, Gives, FindsDown, Act, Did, Met, slots_of, took, IsOrderly}
@@ -59,3 +59,13 @@ PutLaw = (j : Job) (before : List Act) (x : Put) (rest : List Act) (end : End) �
 -- a course is so long at most: three acts for each try, and five for all else
 abbrev pub LengthLaw : Type 0
 LengthLaw = (j : Job) (acts : List Act) (end : End) → 1 ≤ j.config.tries → Course j acts end → length acts ≤ 3 * j.config.tries + 5
+
+-- no host is the cause of this end
+abbrev pub is_own_end : End → Bool
+is_own_end (Failed (Broke host cause)) = false
+is_own_end (Failed NoHost) = false
+is_own_end end = true
+
+-- With fallback on no job fails for a host.
+abbrev pub FallbackLaw : Type 0
+FallbackLaw = (j : Job) (acts : List Act) (end : End) → Course j acts end → j.config.fallback ≡ true → is_own_end end ≡ true

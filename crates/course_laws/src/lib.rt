@@ -2,7 +2,7 @@
 #![tactic(auto)]
 
 ghost use Rattle.course_laws.specs.Answers.{PutAnswerLaw, WholeAnswerLaw};
-ghost use Rattle.course_laws.specs.Laws.{DownLaw, LengthLaw, OrderLaw, PutLaw, UntimedLaw};
+ghost use Rattle.course_laws.specs.Laws.{DownLaw, FallbackLaw, LengthLaw, OrderLaw, PutLaw, UntimedLaw};
 ghost use Rattle.farm_machine.specs.Numbered.{NumberedLaw};
 ghost use Rattle.farm_machine.specs.Table.{MemoryLaw, TableLaw};
 
@@ -47,6 +47,12 @@ pub fn put_law()
 /// A course has at most three acts for each host that it may try, and five more.
 pub fn length_law()
     ensures { LengthLaw }
+{}
+
+/// With fallback on no job fails for a host: whatever dialers, links and peers do, it is done, or memory was wanting, or a run,
+/// a fetch or a put of its own failed.
+pub fn fallback_law()
+    ensures { FallbackLaw }
 {}
 
 /// Over honest peers, what a host answers whole with status 0 is what a compiler of this station may answer to the

@@ -1,5 +1,5 @@
 -- What all workers did together.
-use Rattle.std.proofs.Common.{◌≡◌, inl, inr, ℕ, zero, suc, ◌+◌, ◌<◌, ◌≤◌, IsTrue, List, [], ◌∷◌, ◌++◌, Some, None, length, get_or, drop, map, refl, sym, ap, ◌∙◌, subst, arith}
+use Rattle.std.proofs.Common.{◌≡◌, inl, inr, ℕ, zero, suc, ◌+◌, ◌<◌, ◌≤◌, true, false, IsTrue, List, [], ◌∷◌, ◌++◌, Some, None, length, get_or, drop, map, refl, sym, ap, ◌∙◌, subst, arith}
 use Rattle.std.specs.Prelude.{All, slice_get, slice_index}
 use Rattle.std.specs.List.{sum_by, range_with_len}
 use Rattle.std.specs.List.Sorted.{IsPermutation, IsNonDecreasingBy}
@@ -24,6 +24,7 @@ use Rattle.edge_traits.specs.Deeds.{exchanges_in, moments_in, put, DidIn, MayAll
 use Rattle.farm_machine.specs.Honest.{AllRan}
 use Rattle.edge_traits.specs.Keepers.{IsIdle}
 use Rattle.edge_traits.specs.Told.{SameRelation, SameRelation3}
+use Rattle.farm_machine.specs.declared.reports.End.{End}
 use Rattle.farm_machine.specs.declared.reports.Report.{Report}
 use Rattle.edge_traits.specs.declared.entries.Put.{Put}
 use Rattle.farm_machine.specs.Acts.{Act, Did, Entries, deeds_of}
@@ -40,17 +41,18 @@ use Rattle.worker_laws.proofs.Drivers.{asc-legal, asc-by}
 use Rattle.worker_laws.proofs.Reported.{workers-run}
 use Rattle.job_run.proofs.Lists.{moments-append}
 use Rattle.job_driver.specs.Jobs.{job_at}
-use Rattle.job_driver.specs.Works.{untimed_job, all_acts, AreReportsOf, WorkedOff, AreCaused}
+use Rattle.job_driver.specs.Works.{untimed_job, all_acts, AreReportsOf, WorkedOff, AreCaused, ends_so, is_station_failure, is_keeper_failure}
 use Rattle.course_laws.specs.Answers.{AllGiven}
 use Rattle.course_laws.proofs.Compilers.{put-answer}
-use Rattle.job_driver.specs.Driven.{Devices, reports_by, events_of, no_entries, HasAnswers, KitDid, JobsRan}
+use Rattle.course_laws.proofs.Fallbacks.{own as never-by-host}
+use Rattle.job_driver.specs.Driven.{Devices, reports_by, events_of, no_entries, HasAnswers, IsCalm, is_done_or_wanted, KitDid, JobsRan}
 use Rattle.job_driver.proofs.Working.{numbers_of}
 use Rattle.job_driver.proofs.Drawing.{drawn-append}
 use Rattle.job_driver.proofs.Stepping.{numbers-drawn}
 use Rattle.job_driver.proofs.Sorting.{SameSums, up-same, up-range, up-from, sum-below}
 use Rattle.job_driver.proofs.Joining.{Joins, drawn-sums}
 use Rattle.job_driver.proofs.Rising.{Rise, rise-range, rise-drawn, Has, same-reports, rise-by, has-at, has-each, own-by, by-own}
-use Rattle.job_driver.proofs.Answering.{given-acts, given-each, given-front, ran-each, ran-front, reports-each, some-at}
+use Rattle.job_driver.proofs.Answering.{given-acts, given-each, given-front, ran-each, ran-front, reports-each, calm-each, none-together, returned-well, some-at}
 use Rattle.job_driver.proofs.ReportReading.{reads-each, events-numbered, by-worker}
 
 -- a worker with the jobs that it did
@@ -231,23 +233,23 @@ module _ {K : Type 0} (d : Devices K) (l : Limits 16) (words : List (List (List 
           programs = (stays i below).programs;
         }
 
-    -- what holds of the acts of each worker's jobs holds of the acts of each job
-    told-each : (Q : ℕ → List Act → Type 0) → ((i : ℕ) → i < n → Each (λ job. Q i (untimed job.acts)) (done i)) → (j : ℕ) → j < l.jobs → Q (run.reports.worker j) (run.reports.acts j)
+    -- what holds of the acts and ends of each worker's jobs holds of those of each job
+    told-each : (Q : ℕ → List Act → End → Type 0) → ((i : ℕ) → i < n → Each (λ job. Q i (untimed job.acts) job.end) (done i)) → (j : ℕ) → j < l.jobs → Q (run.reports.worker j) (run.reports.acts j) (run.reports.ends j)
     told-each Q each j below =
-        let told : All (λ r. Q (run.reports.worker r.number) (run.reports.acts r.number)) sorted = All-permutation (λ r. Q (run.reports.worker r.number) (run.reports.acts r.number)) all sorted moved
-        (joins.each (λ r. Q (run.reports.worker r.number) (run.reports.acts r.number))
+        let told : All (λ r. Q (run.reports.worker r.number) (run.reports.acts r.number) (run.reports.ends r.number)) sorted = All-permutation (λ r. Q (run.reports.worker r.number) (run.reports.acts r.number) (run.reports.ends r.number)) all sorted moved
+        (joins.each (λ r. Q (run.reports.worker r.number) (run.reports.acts r.number) (run.reports.ends r.number))
         (λ i inside.
         let f = facts i inside in
-        by-reports Q i (R i) (reports-each (Q i) i run.reports (done i) no_places (R i)
+        by-reports i (R i) (reports-each (Q i) i run.reports (done i) no_places (R i)
         (subst (λ (ds : List DoneJob). AreReportsOf i no_places ds (R i)) f.1 f.0.works.reported) (run.reported i inside) (each i inside)))) in
         let here = some-at sorted j (let one = are-read.one in omega (arith, one, below)) in
-        subst (λ (k : ℕ). Q (run.reports.worker k) (run.reports.acts k)) (number-at j here.0 here.1) (all-get (λ r. Q (run.reports.worker r.number) (run.reports.acts r.number)) sorted j here.0 told here.1)
+        subst (λ (k : ℕ). Q (run.reports.worker k) (run.reports.acts k) (run.reports.ends k)) (number-at j here.0 here.1) (all-get (λ r. Q (run.reports.worker r.number) (run.reports.acts r.number) (run.reports.ends r.number)) sorted j here.0 told here.1)
       where
-        by-reports : (Q : ℕ → List Act → Type 0) (i : ℕ) (rs : List Report) → All (λ r. (run.reports.worker r.number ≡ i) × Q i (run.reports.acts r.number)) rs → All (λ r. Q (run.reports.worker r.number) (run.reports.acts r.number)) rs
-        by-reports Q i rs own at x inside = let one = own at x inside in subst (λ (k : ℕ). Q k (run.reports.acts (get_or rs at x).number)) (sym one.0) one.1
+        by-reports : (i : ℕ) (rs : List Report) → All (λ r. (run.reports.worker r.number ≡ i) × Q i (run.reports.acts r.number) (run.reports.ends r.number)) rs → All (λ r. Q (run.reports.worker r.number) (run.reports.acts r.number) (run.reports.ends r.number)) rs
+        by-reports i rs own at x inside = let one = own at x inside in subst (λ (k : ℕ). Q k (run.reports.acts (get_or rs at x).number) (run.reports.ends (get_or rs at x).number)) (sym one.0) one.1
 
     gave-each : (j : ℕ) → j < l.jobs → IsTrue (d.shows (N (run.reports.worker j))).dialer.exchanges.known → AllGiven (d.peers (V (run.reports.worker j))) (run.reports.acts j)
-    gave-each j below = told-each (λ i acts. IsTrue (d.shows (N i)).dialer.exchanges.known → AllGiven (d.peers (V i)) acts) theirs j below
+    gave-each j below = told-each (λ i acts end. IsTrue (d.shows (N i)).dialer.exchanges.known → AllGiven (d.peers (V i)) acts) theirs j below
       where
         theirs : (i : ℕ) → i < n → Each (λ job. IsTrue (d.shows (N i)).dialer.exchanges.known → AllGiven (d.peers (V i)) (untimed job.acts)) (done i)
         theirs i inside =
@@ -261,12 +263,31 @@ module _ {K : Type 0} (d : Devices K) (l : Limits 16) (words : List (List (List 
             each-known (job ∷ ds) h = (λ known. (h known).0, each-known ds (λ known. (h known).1))
 
     left-each : (j : ℕ) → j < l.jobs → AllRan (d.programs (V (run.reports.worker j))) (run.reports.acts j)
-    left-each j below = told-each (λ i acts. AllRan (d.programs (V i)) acts) theirs j below
+    left-each j below = told-each (λ i acts end. AllRan (d.programs (V i)) acts) theirs j below
       where
         theirs : (i : ℕ) → i < n → Each (λ job. AllRan (d.programs (V i)) (untimed job.acts)) (done i)
         theirs i inside =
             let f = facts i inside in
             ran-each (d.programs (V i)) (done i) (subst (λ (ds : List DoneJob). AllRan (d.programs (V i)) (all_acts ds)) f.1 f.0.works.ran)
+
+    returns-each : (j : ℕ) → j < l.jobs → (jobs j).config.fallback ≡ true → IsCalm (d.shows (V (run.reports.worker j))) (d.shows (N (run.reports.worker j))) → is_done_or_wanted (run.reports.ends j) ≡ true
+    returns-each j below fallback calm =
+        let stands = told-each (λ i acts end. IsCalm (d.shows (V i)) (d.shows (N i)) → (is_station_failure end ≡ false) × (is_keeper_failure end ≡ false)) theirs j below calm in
+        returned-well (run.reports.ends j) (never-by-host (jobs j) (run.reports.acts j) (run.reports.ends j) (run.courses j below) fallback) stands.0 stands.1
+      where
+        theirs : (i : ℕ) → i < n → Each (λ job. IsCalm (d.shows (V i)) (d.shows (N i)) → (is_station_failure job.end ≡ false) × (is_keeper_failure job.end ≡ false)) (done i)
+        theirs i inside =
+            let f = facts i inside in
+            let w = f.0.works in
+            let reported = subst (λ (ds : List DoneJob). AreReportsOf i no_places ds (R i)) f.1 w.reported in
+            both (done i)
+            (λ calm. calm-each is_station_failure i (done i) no_places (R i) reported (none-together (ends_so is_station_failure (R i)) (d.shows (V i)).station.faults (d.shows (N i)).station.faults (d.shows (V i)).station.overruns (d.shows (N i)).station.overruns w.caused.station calm.station calm.station_overruns))
+            (λ calm. calm-each is_keeper_failure i (done i) no_places (R i) reported (none-together (ends_so is_keeper_failure (R i)) (d.shows (V i)).keeper.faults (d.shows (N i)).keeper.faults (d.shows (V i)).keeper.overruns (d.shows (N i)).keeper.overruns w.caused.keeper calm.keeper calm.keeper_overruns))
+          where
+            both : (ds : List DoneJob) → (IsCalm (d.shows (V i)) (d.shows (N i)) → Each (λ job. is_station_failure job.end ≡ false) ds) → (IsCalm (d.shows (V i)) (d.shows (N i)) → Each (λ job. is_keeper_failure job.end ≡ false) ds)
+                → Each (λ job. IsCalm (d.shows (V i)) (d.shows (N i)) → (is_station_failure job.end ≡ false) × (is_keeper_failure job.end ≡ false)) ds
+            both [] s k = tt
+            both (job ∷ ds) s k = (λ calm. ((s calm).0, (k calm).0), both ds (λ calm. (s calm).1) (λ calm. (k calm).1))
 
     answers-each : (j : ℕ) → j < l.jobs → HasAnswers (d.peers (V (run.reports.worker j))) (d.programs (V (run.reports.worker j))) (d.shows (N (run.reports.worker j))) (jobs j) (run.reports.acts j)
     answers-each j below before rest x known honest is =
@@ -308,6 +329,9 @@ module _ {K : Type 0} (d : Devices K) (l : Limits 16) (words : List (List (List 
               let k = kits (run.reports.worker j) other (run.workers j below) in
               subst (λ (x : K). HasAnswers (d.peers x) (d.programs x) (d.shows (get_or new (run.reports.worker j) other)) (jobs j) (run.reports.acts j)) (sym k.0)
               (subst (λ (x : K). HasAnswers (d.peers (V (run.reports.worker j))) (d.programs (V (run.reports.worker j))) (d.shows x) (jobs j) (run.reports.acts j)) (sym k.1) (answers-each j below));
+          returns = λ j other below fallback calm.
+              let k = kits (run.reports.worker j) other (run.workers j below) in
+              returns-each j below fallback (subst (λ (x : K). IsCalm (d.shows x) (d.shows (N (run.reports.worker j)))) k.0 (subst (λ (x : K). IsCalm (d.shows (get_or old (run.reports.worker j) other)) (d.shows x)) k.1 calm));
           kits = λ i other below.
               let k = kits i other below in
               subst (λ (x : K). KitDid d config.period i sorted (entries i) (calls_by i H) x (get_or new i other)) (sym k.0)
