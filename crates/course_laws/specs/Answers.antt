@@ -4,11 +4,14 @@ use Rattle.farm_types.specs.declared.ran.Outcome.{Outcome}
 use Rattle.edge_traits.specs.declared.entries.Exchange.{Exchange}
 use Rattle.edge_traits.specs.declared.entries.Put.{Put}
 use Rattle.edge_traits.specs.Deeds.{exchanged, put}
+use Rattle.farm_machine.specs.declared.reports.By.TheVariants.{Remote, Here}
 use Rattle.farm_machine.specs.declared.reports.End.{End}
+use Rattle.farm_machine.specs.declared.reports.End.TheVariants.{Done}
 use Rattle.farm_machine.specs.Acts.{Act, Did}
 use Rattle.farm_machine.specs.Jobs.{Job, CanRequest, request_for}
 use Rattle.farm_machine.specs.Course.{IsWholeWith, Course}
 use Rattle.farm_machine.specs.Table.{IsSource}
+use Rattle.course_laws.specs.Laws.{IsAmong}
 use Rattle.farm_machine.specs.Honest.{Programs, Peers, AllRan, Compiles, IsHonest, IsFullyHonest}
 
 -- the peers may have given what each dialed exchange was given
@@ -39,3 +42,30 @@ abbrev pub PutAnswerLaw : Peers → Programs → Type 0
 PutAnswerLaw peers programs = (j : Job) (before : List Act) (x : Put) (rest : List Act) (end : End)
     → IsHonest peers programs → AllGiven peers before → AllRan programs before
     → Course j (before ++ Did (put x) ∷ rest) end → IsAnswer programs j before x
+
+-- The status and the messages are those of an outcome that a compiler may answer to the request of the job's own source, and the object of
+-- status 0 was put.
+pub record HasOutcome (programs : Programs) (j : Job) (acts : List Act) (status : ℕ) (err out : List ℕ) : Type 0 where
+  pub source : List ℕ
+  pub source_is : IsSource acts source
+  pub outcome : Outcome
+  pub compiles : Compiles programs (request_for j source) outcome
+  pub status_is : outcome.status ≡ status
+  pub err_is : outcome.err ≡ err
+  pub out_is : outcome.out ≡ out
+  pub object : status ≡ 0 → (x : Put) × IsAmong (Did (put x)) acts × (x.bytes ≡ outcome.object)
+
+-- a job that a host or this machine compiled ends with an outcome that a compiler may answer
+abbrev pub IsAnswered : Programs → Job → List Act → End → Type 0
+IsAnswered programs j acts (Done status note err out (Remote host)) = HasOutcome programs j acts status err out
+IsAnswered programs j acts (Done status note err out Here) = HasOutcome programs j acts status err out
+IsAnswered programs j acts end = Unit {0}
+
+-- peers are honest where a host's failure is compiled here once more, or fully honest
+abbrev pub AreHonestFor : Peers → Programs → Job → Type 0
+AreHonestFor peers programs j = (IsHonest peers programs × (j.config.fallback ≡ true) × (j.config.retry ≡ true)) ⊎ IsFullyHonest peers programs
+
+-- over such peers each job that was compiled ends with an outcome that a compiler may answer
+abbrev pub EndAnswerLaw : Peers → Programs → Type 0
+EndAnswerLaw peers programs = (j : Job) (acts : List Act) (end : End)
+    → AreHonestFor peers programs j → AllGiven peers acts → AllRan programs acts → Course j acts end → IsAnswered programs j acts end

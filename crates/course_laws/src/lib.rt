@@ -1,7 +1,7 @@
 //! Laws of the course of one job.
 #![tactic(auto)]
 
-ghost use Rattle.course_laws.specs.Answers.{PutAnswerLaw, WholeAnswerLaw};
+ghost use Rattle.course_laws.specs.Answers.{EndAnswerLaw, PutAnswerLaw, WholeAnswerLaw};
 ghost use Rattle.course_laws.specs.Laws.{DownLaw, FallbackLaw, LengthLaw, OrderLaw, PutLaw, UntimedLaw};
 ghost use Rattle.farm_machine.specs.Numbered.{NumberedLaw};
 ghost use Rattle.farm_machine.specs.Table.{MemoryLaw, TableLaw};
@@ -57,8 +57,10 @@ pub fn fallback_law()
 
 /// Over honest peers, what a host answers whole with status 0 is what a compiler of this station may answer to the
 /// job's request, and over fully honest ones with any status. So over honest peers each object that a job puts is one
-/// that a compiler may answer, whether a host or this machine compiled it.
+/// that a compiler may answer, whether a host or this machine compiled it. Where a host's failure is compiled here once more,
+/// or over fully honest peers, the status and messages of each job that was compiled are such an outcome's too.
 pub fn answer_law<D: Dialer, S: Station>(_dialer: &D, _station: &S)
     ensures whole { WholeAnswerLaw (D.may_give _dialer.now) (S.ran _station.now) }
     ensures put { PutAnswerLaw (D.may_give _dialer.now) (S.ran _station.now) }
+    ensures end { EndAnswerLaw (D.may_give _dialer.now) (S.ran _station.now) }
 {}

@@ -103,6 +103,7 @@ calm-each p w (job ∷ done) at (r ∷ rs) all none =
     first : (b : Bool) → cond b 1 0 + ends_so p rs ≡ 0 → b ≡ false
     first true sums = absurd (omega (arith, sums))
     first false sums = refl
+
     rest : (b : Bool) → cond b 1 0 + ends_so p rs ≡ 0 → ends_so p rs ≡ 0
     rest true sums = absurd (omega (arith, sums))
     rest false sums = omega (arith, sums)

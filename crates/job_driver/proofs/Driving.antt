@@ -43,9 +43,9 @@ use Rattle.job_run.proofs.Lists.{moments-append}
 use Rattle.job_driver.specs.Jobs.{job_at}
 use Rattle.job_driver.specs.Works.{untimed_job, all_acts, AreReportsOf, WorkedOff, AreCaused, ends_so, is_station_failure, is_keeper_failure}
 use Rattle.course_laws.specs.Answers.{AllGiven}
-use Rattle.course_laws.proofs.Compilers.{put-answer}
+use Rattle.course_laws.proofs.Compilers.{put-answer, end-answer}
 use Rattle.course_laws.proofs.Fallbacks.{own as never-by-host}
-use Rattle.job_driver.specs.Driven.{Devices, reports_by, events_of, no_entries, HasAnswers, IsCalm, is_done_or_wanted, KitDid, JobsRan}
+use Rattle.job_driver.specs.Driven.{Devices, reports_by, events_of, no_entries, HasAnswers, AnswersBy, IsCalm, is_done_or_wanted, KitDid, JobsRan}
 use Rattle.job_driver.proofs.Working.{numbers_of}
 use Rattle.job_driver.proofs.Drawing.{drawn-append}
 use Rattle.job_driver.proofs.Stepping.{numbers-drawn}
@@ -298,6 +298,11 @@ module _ {K : Type 0} (d : Devices K) (l : Limits 16) (words : List (List (List 
         (ran-front programs before (Did (put x) ∷ rest) (subst (AllRan programs) is (left-each j below)))
         (subst (λ (acts : List Act). Course (jobs j) acts (run.reports.ends j)) is (run.courses j below))
 
+    answered-each : (j : ℕ) → j < l.jobs → AnswersBy (d.peers (V (run.reports.worker j))) (d.programs (V (run.reports.worker j))) (d.shows (N (run.reports.worker j))) (jobs j) (run.reports.acts j) (run.reports.ends j)
+    answered-each j below known honest =
+        end-answer (d.peers (V (run.reports.worker j))) (d.programs (V (run.reports.worker j))) (jobs j) (run.reports.acts j) (run.reports.ends j) honest
+        (gave-each j below known) (left-each j below) (run.courses j below)
+
     pub ran-all : (last : SlotState 16) (old new : List K) → last ≡ state_after l H
         → ((i : ℕ) (other : K) → i < n → (get_or old i other ≡ V i) × (get_or new i other ≡ N i))
         → length new ≡ length old
@@ -329,6 +334,10 @@ module _ {K : Type 0} (d : Devices K) (l : Limits 16) (words : List (List (List 
               let k = kits (run.reports.worker j) other (run.workers j below) in
               subst (λ (x : K). HasAnswers (d.peers x) (d.programs x) (d.shows (get_or new (run.reports.worker j) other)) (jobs j) (run.reports.acts j)) (sym k.0)
               (subst (λ (x : K). HasAnswers (d.peers (V (run.reports.worker j))) (d.programs (V (run.reports.worker j))) (d.shows x) (jobs j) (run.reports.acts j)) (sym k.1) (answers-each j below));
+          answered = λ j other below.
+              let k = kits (run.reports.worker j) other (run.workers j below) in
+              subst (λ (x : K). AnswersBy (d.peers x) (d.programs x) (d.shows (get_or new (run.reports.worker j) other)) (jobs j) (run.reports.acts j) (run.reports.ends j)) (sym k.0)
+              (subst (λ (x : K). AnswersBy (d.peers (V (run.reports.worker j))) (d.programs (V (run.reports.worker j))) (d.shows x) (jobs j) (run.reports.acts j) (run.reports.ends j)) (sym k.1) (answered-each j below));
           returns = λ j other below fallback calm.
               let k = kits (run.reports.worker j) other (run.workers j below) in
               returns-each j below fallback (subst (λ (x : K). IsCalm (d.shows x) (d.shows (N (run.reports.worker j)))) k.0 (subst (λ (x : K). IsCalm (d.shows (get_or old (run.reports.worker j) other)) (d.shows x)) k.1 calm));

@@ -31,7 +31,7 @@ use Rattle.farm_machine.specs.Moments.{AreMoments}
 use Rattle.farm_machine.specs.Numbered.{numbered, no_places, added}
 use Rattle.farm_machine.specs.Reading.{AreRead}
 use Rattle.farm_machine.specs.Weave.{Reports, Agrees, weave}
-use Rattle.course_laws.specs.Answers.{AllGiven, IsAnswer}
+use Rattle.course_laws.specs.Answers.{AllGiven, IsAnswer, IsAnswered, AreHonestFor}
 use Rattle.job_driver.specs.Works.{AreCaused}
 
 -- what is seen of kits: what they tell, what their peers may give, and what their programs may leave
@@ -79,6 +79,11 @@ abbrev pub HasAnswers : Peers → Programs → KitView → Job → List Act → 
 HasAnswers peers programs kit job acts = (before rest : List Act) (x : Put) → IsTrue kit.dialer.exchanges.known → IsHonest peers programs
     → acts ≡ before ++ Did (put x) ∷ rest → IsAnswer programs job before x
 
+-- Where the exchanges are told and a host's failure is compiled here once more over honest peers, or over fully honest ones: a job that was
+-- compiled ends with an outcome that a compiler may answer.
+abbrev pub AnswersBy : Peers → Programs → KitView → Job → List Act → End → Type 0
+AnswersBy peers programs kit job acts end = IsTrue kit.dialer.exchanges.known → AreHonestFor peers programs job → IsAnswered programs job acts end
+
 -- no run, fetch or put of the kit failed, and none was too large
 pub record IsCalm (old new : KitView) : Type 0 where
   pub station : ¬ (Rose old.station.faults new.station.faults)
@@ -117,6 +122,9 @@ pub record JobsRan {K : Type 0} (d : Devices K) (l : Limits 16) (jobs : ℕ → 
   pub answers : (j : ℕ) (other : K) → j < l.jobs
       → HasAnswers (d.peers (slice_index_or old (read.worker j) other)) (d.programs (slice_index_or old (read.worker j) other))
       (d.shows (slice_index_or new (read.worker j) other)) (jobs j) (read.acts j)
+  pub answered : (j : ℕ) (other : K) → j < l.jobs
+      → AnswersBy (d.peers (slice_index_or old (read.worker j) other)) (d.programs (slice_index_or old (read.worker j) other))
+      (d.shows (slice_index_or new (read.worker j) other)) (jobs j) (read.acts j) (read.ends j)
   pub returns : (j : ℕ) (other : K) → j < l.jobs → (jobs j).config.fallback ≡ true
       → IsCalm (d.shows (slice_index_or old (read.worker j) other)) (d.shows (slice_index_or new (read.worker j) other)) → is_done_or_wanted (read.ends j) ≡ true
   pub kits : (worker : ℕ) (other : K) → worker < workers

@@ -1,4 +1,4 @@
-use Rattle.course_laws.proofs.Compilers.{put-answer, whole-answer}
+use Rattle.course_laws.proofs.Compilers.{end-answer, put-answer, whole-answer}
 use Rattle.course_laws.proofs.answer_law.Goals as goal
 
 pub returns-clause-whole : goal.returns-clause-whole
@@ -6,3 +6,6 @@ returns-clause-whole g c = whole-answer _ _
 
 pub returns-clause-put : goal.returns-clause-put
 returns-clause-put g c = put-answer _ _
+
+pub returns-clause-end : goal.returns-clause-end
+returns-clause-end g c = end-answer _ _
