@@ -54,7 +54,7 @@ one_doable words some = record {
     one zero d below = some
     one (suc k) d below = absurd (omega (arith, below))
 
-module _ {K : Type 0} {d : Devices K} {config : JobConfig} {most : ℕ} {a b : SourceView} {old_kits new_kits : List K} {made : List Built} {old new : SinksView} {answer : ℕ} where
+module _ {K : Type 0} (d : Devices K) (config : JobConfig) (most : ℕ) (a b : SourceView) (old_kits new_kits : List K) (made : List Built) (old new : SinksView) (answer : ℕ) where
   abbrev Whole : Type 0
   Whole = Builds d config most (record { source = a; kits = old_kits; sinks = old; built = [] }) (record { source = b; kits = new_kits; sinks = new; built = made }) answer
 
@@ -64,7 +64,7 @@ module _ {K : Type 0} {d : Devices K} {config : JobConfig} {most : ℕ} {a b : S
   read_whole text read (text_faulty {line = line} {fault = fault} stands undone none ends) = faulty {line = line} {fault = fault} (whole_text read stands) (record { idle = record { undone = undone; none_built = none }; ends = ends })
   read_whole text read (text_wanted undone none want) = wanted (record { read = record { text = text; took = read.took }; idle = record { undone = undone; none_built = none }; want = want })
 
-module _ {K : Type 0} {d : Devices K} {config : JobConfig} {most : ℕ} {a b : SourceView} {kits : List K} {made : List Built} (none : made ≡ []) {old new : SinksView} {answer : ℕ} where
+module _ {K : Type 0} (d : Devices K) (config : JobConfig) (most : ℕ) (a b : SourceView) (kits : List K) (made : List Built) (none : made ≡ []) (old new : SinksView) (answer : ℕ) where
   abbrev Same : Type 0
   Same = Builds d config most (record { source = a; kits = kits; sinks = old; built = [] }) (record { source = b; kits = kits; sinks = new; built = made }) answer
 

@@ -27,17 +27,17 @@ by_hosts_as {text' = text'} {printed = printed} {status = status} {old = old} {n
     (subst (λ (t : List ℕ). ByHosts t (λ hosts. Ends no_memory_text (printed hosts) status old new answer) old new answer) same_text by)
 
 -- the same command by another name
-pub answers_at : {K : Type 0} {d : Devices K} {variables : List (List ℕ × List ℕ)} {old new : World K} {answer : ℕ} {command command' : Command} → command' ≡ command → Answers d variables old new answer (meaning command) → Answers d variables old new answer (meaning command')
-answers_at {d = d} {variables = variables} {old = old} {new = new} {answer = answer} same answers = subst (λ c. Answers d variables old new answer (meaning c)) (sym same) answers
+pub answers_at : {K : Type 0} (d : Devices K) (variables : List (List ℕ × List ℕ)) (old new : World K) (answer : ℕ) (command command' : Command) → command' ≡ command → Answers d variables old new answer (meaning command) → Answers d variables old new answer (meaning command')
+answers_at d variables old new answer command command' same answers = subst (λ c. Answers d variables old new answer (meaning c)) (sym same) answers
 
 -- the answer to a command is that to each command that the words are
-pub answers_by : {K : Type 0} {d : Devices K} {variables : List (List ℕ × List ℕ)} {old new : World K} {answer : ℕ} (words : List (List ℕ)) (meant other : Meaning)
+pub answers_by : {K : Type 0} (d : Devices K) (variables : List (List ℕ × List ℕ)) (words : List (List ℕ)) (old new : World K) (answer : ℕ) (meant other : Meaning)
     → IsCommand words meant → IsCommand words other → Answers d variables old new answer meant → Answers d variables old new answer other
-answers_by {d = d} {variables = variables} {old = old} {new = new} {answer = answer} words meant other is is' answers = subst (λ m. Answers d variables old new answer m) (one_meaning words meant other is is') answers
+answers_by d variables words old new answer meant other is is' answers = subst (λ m. Answers d variables old new answer m) (one_meaning words meant other is is') answers
 
 -- words are bad at one place
-pub refused_at : {K : Type 0} {old new : World K} {answer : ℕ} (words : List (List ℕ)) (place there : ℕ) → BadAt words place → BadAt words there → Answered (complaint (bad_words_text place)) bad_words_status old new answer → Answered (complaint (bad_words_text there)) bad_words_status old new answer
-refused_at {old = old} {new = new} {answer = answer} words place there bad other refused = subst (λ p. Answered (complaint (bad_words_text p)) bad_words_status old new answer) (one_place words place there bad other) refused
+pub refused_at : {K : Type 0} (words : List (List ℕ)) (old new : World K) (answer place there : ℕ) → BadAt words place → BadAt words there → Answered (complaint (bad_words_text place)) bad_words_status old new answer → Answered (complaint (bad_words_text there)) bad_words_status old new answer
+refused_at words old new answer place there bad other refused = subst (λ p. Answered (complaint (bad_words_text p)) bad_words_status old new answer) (one_place words place there bad other) refused
 
 -- the same build and the same command, as they are configured
 pub builds_as : {K : Type 0} (d : Devices K) (hosts : Hosts) (retry : Bool) (period : ℕ) (old new : World K) (answer : ℕ) {fallback fallback' : Bool} {tries tries' most most' : ℕ} → fallback ≡ fallback' → tries ≡ tries' → most ≡ most'

@@ -62,7 +62,11 @@ pub(crate) struct Script {
     pub(crate) dial_fails: u64,
     pub(crate) link_fails: u64,
     pub(crate) link_stops: u64,
+    // How many bytes a call of a link moves at most.
+    pub(crate) most: u32,
     pub(crate) reply: &'static [u8],
+    // How many bytes of the reply come.
+    pub(crate) given: usize,
     pub(crate) put_fails: u64,
 }
 
@@ -83,7 +87,9 @@ pub(crate) const FIRST: Script = Script {
     dial_fails: 0,
     link_fails: 0,
     link_stops: 0,
+    most: 4_096,
     reply: WHOLE,
+    given: 73,
     put_fails: 0,
 };
 
@@ -98,12 +104,14 @@ pub(crate) fn numbers(alloc: Global, number: u64) -> Result<CallNumbers, AllocEr
 fn links_of(alloc: Global, script: &Script) -> Result<LinkScripts, AllocError> {
     let mut links = LinkScripts::new(alloc);
     for _ in 0..12 {
+        let mut gives = Bytes::from_slice(alloc, script.reply)?;
+        gives.truncate(script.given);
         links.try_push(LinkScript {
-            gives: Bytes::from_slice(alloc, script.reply)?,
+            gives,
             moves: Moves {
                 fails: numbers(alloc, script.link_fails)?,
                 zeros: numbers(alloc, script.link_stops)?,
-                most: 4_096,
+                most: script.most,
             },
         })?;
     }

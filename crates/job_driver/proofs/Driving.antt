@@ -26,7 +26,6 @@ use Rattle.edge_traits.specs.Keepers.{IsIdle}
 use Rattle.edge_traits.specs.Told.{SameRelation, SameRelation3}
 use Rattle.farm_machine.specs.declared.reports.End.{End}
 use Rattle.farm_machine.specs.declared.reports.Report.{Report}
-use Rattle.edge_traits.specs.declared.entries.Put.{Put}
 use Rattle.farm_machine.specs.Acts.{Act, Did, Entries, deeds_of}
 use Rattle.farm_machine.specs.Course.{Course}
 use Rattle.farm_machine.specs.Driver.{AllWorked, WorkersRun}

@@ -14,7 +14,7 @@ pub returns-in-Ok-clause-bad_words : goal.returns-in-Ok-clause-bad_words
 returns-in-Ok-clause-bad_words g c = λ place bad. absurd (no_both (map (string_bytes {Z = Global}) c.args.words.now) (meaning c.in-Ok.command) place c.in-Ok.ensures bad)
 
 pub returns-in-Ok-clause-answers : goal.returns-in-Ok-clause-answers
-returns-in-Ok-clause-answers g c = λ meant is. answers_by (map (string_bytes {Z = Global}) c.args.words.now) (meaning c.in-Ok.command) meant c.in-Ok.ensures is c.answer.ensures
+returns-in-Ok-clause-answers g c = λ meant is. answers_by _ _ (map (string_bytes {Z = Global}) c.args.words.now) _ _ _ (meaning c.in-Ok.command) meant c.in-Ok.ensures is c.answer.ensures
 
 pub returns-in-Ok-clause-complete : goal.returns-in-Ok-clause-complete
 returns-in-Ok-clause-complete g c = λ config most jobs build known asks smooth.
@@ -22,7 +22,7 @@ returns-in-Ok-clause-complete g c = λ config most jobs build known asks smooth.
 
 pub returns-in-Err-clause-bad_words : goal.returns-in-Err-clause-bad_words
 returns-in-Err-clause-bad_words g c = λ place bad.
-    refused_at (map (string_bytes {Z = Global}) c.args.words.now) c.in-Err.place place c.in-Err.ensures bad (record { untouched = printed_alone c.idle.ensures.none; ends = status_as c.idle.ensures.status c.refuse_words.ensures })
+    refused_at (map (string_bytes {Z = Global}) c.args.words.now) _ _ _ c.in-Err.place place c.in-Err.ensures bad (record { untouched = printed_alone c.idle.ensures.none; ends = status_as c.idle.ensures.status c.refuse_words.ensures })
 
 pub returns-in-Err-clause-answers : goal.returns-in-Err-clause-answers
 returns-in-Err-clause-answers g c = λ meant is. absurd (no_both (map (string_bytes {Z = Global}) c.args.words.now) meant c.in-Err.place is c.in-Err.ensures)
