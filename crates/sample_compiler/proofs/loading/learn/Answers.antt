@@ -1,0 +1,28 @@
+use Rattle.std.proofs.Common.{◌≡◌, ◌∙◌, true, false}
+use Rattle.std.specs.Prelude.{None, Some}
+use Rattle.std.specs.FinMap.{get}
+use Rattle.arg_scan.specs.Names.{is_reserved}
+use Rattle.sample_compiler.specs.Loads.{unstaged}
+use Rattle.sample_compiler.proofs.LoadLemmas.{get_reserved, get_plain, absent_agrees, there_agrees}
+use Rattle.sample_compiler.proofs.loading.learn.Goals as goal
+
+pub returns-then-is_reserved-clause-known : goal.returns-then-is_reserved-clause-known
+returns-then-is_reserved-clause-known g c told a =
+    let files = (g.K.Keeper.shows c.args.keeper.now).files.value in
+    let reserved : is_reserved c.args.path ≡ true = cc in
+    absent_agrees c.args.known.now.files (unstaged files) c.args.known.now.absent c.try_push.new.self c.args.path c.in_ok-try_push.ensures.ok (get_reserved files c.args.path reserved) a
+
+pub returns-in_ok-try_put-in-Ok-clause-known : goal.returns-in_ok-try_put-in-Ok-clause-known
+returns-in_ok-try_put-in-Ok-clause-known g c told a =
+    let files = (g.K.Keeper.shows c.fetch.new.self).files.value in
+    let plain : is_reserved c.args.path ≡ false = cc in
+    let there : get files c.args.path ≡ Some c.in-Ok.content = c.in-Ok.ensures.whole.whole told in
+    there_agrees c.args.known.now.files c.try_put.new.self (unstaged files) c.args.known.now.absent c.args.path c.in-Ok.content c.in_ok-try_put-in-Ok.ensures.ok (get_plain files c.args.path plain ∙ there) a
+
+pub returns-in_ok-try_push-in-Err-Absent-clause-known : goal.returns-in_ok-try_push-in-Err-Absent-clause-known
+returns-in_ok-try_push-in-Err-Absent-clause-known g c told a =
+    let files = (g.K.Keeper.shows c.fetch.new.self).files.value in
+    let plain : is_reserved c.args.path ≡ false = cc in
+    let cause = rw c.in-Err-Absent.field-0-is at c.in-Err-Absent.ensures.cause in
+    let gone : get files c.args.path ≡ None = cause.absent told in
+    absent_agrees c.args.known.now.files (unstaged files) c.args.known.now.absent c.try_push-in-Err-Absent.new.self c.args.path c.in_ok-try_push-in-Err-Absent.ensures.ok (get_plain files c.args.path plain ∙ gone) a

@@ -1,0 +1,90 @@
+-- What the preprocessor makes of a text.
+use Rattle.std.specs.Prelude.{ℕ, zero, suc, ◌+◌, List, [], ◌∷◌, ◌++◌, codes, ◌==◌, if◌then◌else◌, Option, Some, None, Result, Ok, Err}
+use Rattle.std.specs.FinMap.{get}
+use Rattle.sample_lang.specs.FileMaps.{Files}
+use Rattle.sample_compiler.specs.declared.defines.Define.{Define}
+use Rattle.sample_compiler.specs.declared.stops.ExpandFault.{ExpandFault}
+use Rattle.sample_compiler.specs.declared.stops.ExpandFault.TheVariants.{BadDirective, NoFile, TooDeep}
+use Rattle.sample_compiler.specs.Lines.{lines_of}
+use Rattle.sample_compiler.specs.Words.{begins, replaced}
+use Rattle.sample_compiler.specs.Directives.{Definition, include_of, define_of}
+
+-- ---- where an included file is
+
+-- `DIR/F` for each folder, in order
+abbrev pub find_in : Files → List (List ℕ) → List ℕ → Option (List ℕ)
+find_in files [] name = None
+find_in files (dir ∷ dirs) name = or_else (get files (dir ++ codes "/" ++ name)) (find_in files dirs name)
+  where
+    or_else : Option (List ℕ) → Option (List ℕ) → Option (List ℕ)
+    or_else None other = other
+    or_else (Some content) other = Some content
+
+-- `F`, and then in the folders
+abbrev pub find_file : Files → List (List ℕ) → List ℕ → Option (List ℕ)
+find_file files dirs name = or_else (get files name) (find_in files dirs name)
+  where
+    or_else : Option (List ℕ) → Option (List ℕ) → Option (List ℕ)
+    or_else None other = other
+    or_else (Some content) other = Some content
+
+-- ---- a text
+
+-- the defined names so far, in order, and the text that was made
+pub record Expanded : Type 0 where
+  pub defines : List Define
+  pub text : List ℕ
+
+-- a fault stands on a line of the file that it is in
+abbrev pub Outcome : Type 0
+Outcome = Result Expanded (ℕ × ExpandFault)
+
+-- behind a text that was made
+abbrev pub behind_text : List ℕ → Outcome → Outcome
+behind_text text (Ok more) = Ok (record { defines = more.defines; text = text ++ more.text })
+behind_text text (Err fault) = Err fault
+
+abbrev pub then_lines : Outcome → (List Define → Outcome) → Outcome
+then_lines (Ok made) more = behind_text made.text (more made.defines)
+then_lines (Err fault) more = Err fault
+
+-- what includes a file: by the line of the directive, the defined names and the file's name
+abbrev pub Includes : Type 0
+Includes = ℕ → List Define → List ℕ → Outcome
+
+abbrev pub with_define : List Define → Definition → List Define
+with_define defines d = defines ++ record { name = d.name; value = d.value } ∷ []
+
+abbrev pub other_directive : ℕ → List Define → Option Definition → Outcome
+other_directive line defines (Some d) = Ok (record { defines = with_define defines d; text = [] })
+other_directive line defines None = Err (line, BadDirective)
+
+abbrev pub directive : Includes → ℕ → List Define → List ℕ → Option (List ℕ) → Outcome
+directive include line defines bytes (Some name) = include line defines name
+directive include line defines bytes None = other_directive line defines (define_of bytes)
+
+-- one line: a directive leaves none
+abbrev pub expand_line : Includes → ℕ → List Define → List ℕ → Outcome
+expand_line include line defines bytes =
+    if begins (λ c. c == 35) bytes then directive include line defines bytes (include_of bytes)
+    else Ok (record { defines = defines; text = replaced defines bytes ++ codes "\n" })
+
+-- the lines from this number on, in order
+abbrev pub expand_lines : Includes → ℕ → List Define → List (List ℕ) → Outcome
+expand_lines include line defines [] = Ok (record { defines = defines; text = [] })
+expand_lines include line defines (l ∷ ls) =
+    then_lines (expand_line include line defines l) (λ more. expand_lines include (line + 1) more ls)
+
+abbrev pub from_file : (List Define → List (List ℕ) → Outcome) → ℕ → List Define → List ℕ → Option (List ℕ) → Outcome
+from_file expand line defines name None = Err (line, NoFile name)
+from_file expand line defines name (Some content) = expand defines (lines_of content)
+
+-- an included file, where so many may still be open at once
+unfoldable pub include : Files → List (List ℕ) → ℕ → Includes
+include files dirs zero line defines name = Err (line, TooDeep)
+include files dirs (suc room) line defines name =
+    from_file (expand_lines (include files dirs room) 1) line defines name (find_file files dirs name)
+
+-- a whole text, at most 16 files deep
+abbrev pub expanded : Files → List (List ℕ) → List Define → List ℕ → Outcome
+expanded files dirs defines text = expand_lines (include files dirs 16) 1 defines (lines_of text)

@@ -1,0 +1,12 @@
+pub mod Objects
+pub mod Lines
+pub mod Words
+pub mod Directives
+pub mod Meanings
+pub mod Tasks
+pub mod Lookups
+pub mod Expanding
+pub mod Came
+pub mod Samples
+pub mod Loads
+pub mod Stations

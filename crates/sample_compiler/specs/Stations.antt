@@ -1,0 +1,70 @@
+-- What a run of the compiler leaves at a station.
+use Rattle.std.specs.Prelude.{ℕ, ◌≡◌, ◌∷◌, List, [], Bool, false, map, codes, ◌&&◌, if◌then◌else◌, Option, Some, None}
+use Rattle.std.specs.FinMap.{insert}
+use Rattle.std.specs.Str.{bytes_eq}
+use Rattle.farm_types.specs.declared.ran.Ran.{Ran}
+use Rattle.farm_types.specs.declared.placed.Word.{Word}
+use Rattle.farm_types.specs.declared.placed.Word.TheVariants.{Text, Input, Output}
+use Rattle.edge_traits.specs.Told.{told}
+use Rattle.edge_traits.specs.Stations.{StationView, has_output}
+use Rattle.sample_lang.specs.FileMaps.{Files}
+use Rattle.sample_compiler.specs.declared.station.SampleStation.{SampleStation}
+use Rattle.sample_compiler.specs.declared.task.Product.{Product}
+use Rattle.sample_compiler.specs.declared.task.Product.TheVariants as product
+use Rattle.sample_compiler.specs.declared.task.Task.{Task}
+use Rattle.sample_compiler.specs.Tasks.{task_of}
+use Rattle.sample_compiler.specs.Samples.{LeavesAsked}
+
+-- the name of the file that holds the input, with 0 as its first byte
+abbrev pub own_input : List ℕ
+own_input = 0 ∷ codes ".i"
+
+-- the name that stands for the object
+abbrev pub own_output : List ℕ
+own_output = 0 ∷ codes ".object"
+
+abbrev pub with_input : Files → List ℕ → Files
+with_input files input = insert files own_input input
+
+abbrev pub word_text : Word → List ℕ
+word_text (Text text) = text
+word_text (Input ext) = own_input
+word_text Output = own_output
+
+abbrev pub is_own_output : Product → Bool
+is_own_output product.Text = false
+is_own_output (product.Object output) = bytes_eq output own_output
+
+-- the operand of `-o` stands for the object
+abbrev pub is_output_named : Option Task → Bool
+is_output_named (Some task) = is_own_output task.product
+is_output_named None = false
+
+abbrev pub without_object : Ran → Ran
+without_object ran = record { status = ran.status; out = ran.out; err = ran.err; object = [] }
+
+-- an object is left only where a word stands for it, as the operand of `-o`
+abbrev pub as_left : List Word → Option Task → Ran → Ran
+as_left words asked ran = if has_output words && is_output_named asked then ran else without_object ran
+
+-- what these words ask for
+abbrev pub asked_by : List Word → Option Task
+asked_by words = task_of (map word_text words)
+
+-- what a run by these words on this input may leave over these files: what the compiler leaves
+pub record StationRan (files : Files) (words : List Word) (input : List ℕ) (ran : Ran) : Type 0 where
+  pub whole : Ran
+  pub leaves : LeavesAsked (with_input files input) (asked_by words) whole
+  pub left : ran ≡ as_left words (asked_by words) whole
+
+-- ---- the station
+
+abbrev pub station_files : SampleStation → Files
+station_files s = s.files
+
+-- it tells its runs, and no call of it fails
+abbrev pub station_shows : SampleStation → StationView
+station_shows s = record { runs = told s.runs; faults = 0; overruns = s.overruns }
+
+abbrev pub fresh_shows : StationView
+fresh_shows = record { runs = told []; faults = 0; overruns = 0 }
