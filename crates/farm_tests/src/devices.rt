@@ -173,15 +173,27 @@ fn kit(alloc: Global, script: &Script) -> Result<MemKit, AllocError>
     })
 }
 
+fn kit_count(script: &Script) -> usize
+    ensures some { 1 ≤ result }
+    ensures most { result ≤ 16 }
+{
+    if script.kits == 0 {
+        1
+    } else if script.kits > 16 {
+        16
+    } else {
+        script.kits
+    }
+}
+
 /// So many kits of a script, but 1 at least and 16 at most.
 pub(crate) fn kits(alloc: Global, script: &Script) -> Result<Vec<MemKit>, AllocError>
     ensures some { IfOk result (λ kits. 1 ≤ length kits.items) }
     ensures most { IfOk result (λ kits. length kits.items ≤ 16) }
     ensures idle { IfOk result (λ kits. All (λ kit. IsIdle (keeper_shows (keeper_state kit.keeper))) kits.items) }
 {
-    let count = script.kits.min(16);
+    let count = kit_count(script);
     let mut kits = Vec::new(alloc);
-    kits.push(kit(alloc, script)?)?;
     'making: while kits.len() < count {
         kits.push(kit(alloc, script)?)?;
     }

@@ -6,8 +6,7 @@ use Rattle.farm_tests.proofs.devices.kits.Given as goal
 
 abbrev pub invariant-making : goal.invariant-making
 invariant-making l = record {
-  some : 1 ≤ length l.kits.items;
-  few : length l.kits.items ≤ 16;
+  few : length l.kits.items ≤ l.count;
   idle : All (λ kit. IsIdle (keeper_shows (keeper_state kit.keeper))) l.kits.items;
 }
 
