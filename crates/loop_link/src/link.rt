@@ -48,7 +48,8 @@ pub struct LoopLink<S> {
 }
 
 impl<S: Station> LoopLink<S> {
-    ghost use Rattle.std.specs.Prelude.{◌≡◌, true, take, OnOk, IsErrOf};
+    ghost use Rattle.std.specs.Prelude.{◌≡◌, true, take, OnOk, OnErr, IsErrOf};
+    ghost use Rattle.edge_traits.specs.Stations.{NoneRose};
     ghost use Rattle.edge_traits.specs.Told.{SameRelation3};
     ghost use Rattle.edge_traits.specs.declared.faults.EdgeFault.TheVariants.{Failed};
     ghost use Rattle.loop_link.specs.Links.{loop_state, IsServed, LinkHolds};
@@ -59,6 +60,7 @@ impl<S: Station> LoopLink<S> {
         ensures holds { LinkHolds S.shows S.ran self.old → LinkHolds S.shows S.ran self.new }
         ensures same { SameRelation3 (S.ran self.old.held.station) (S.ran self.new.held.station) }
         ensures failed { IsErrOf result Failed → ⊥ }
+        ensures memory { OnErr result (NoneRose (S.shows self.old.held.station) (S.shows self.new.held.station)) }
         ensures ran { OnOk result (self.new.served ≡ true) }
 
         // Nothing else changes.
@@ -99,10 +101,11 @@ impl<S: Station> LoopLink<S> {
 }
 
 impl<S: Station> Link for LoopLink<S> {
-    ghost use Rattle.std.specs.Prelude.{◌≡◌, ◌<◌, ◌+◌, ◌-◌, ◌||◌, [], min, true, length, IfOk, OnOk, IsErrOf, refl};
+    ghost use Rattle.std.specs.Prelude.{◌≡◌, ◌<◌, ◌+◌, ◌-◌, ◌||◌, [], min, true, length, IfOk, OnOk, OnErr, IsErrOf, refl};
+    ghost use Rattle.edge_traits.specs.Stations.{NoneRose};
     ghost use Rattle.std.proofs.Common.{◌∙◌};
     ghost use Rattle.edge_traits.specs.declared.faults.EdgeFault.TheVariants.{Failed};
-    ghost use Rattle.loop_link.specs.Replies.{Gives, Serves};
+    ghost use Rattle.loop_link.specs.Replies.{Gives};
     ghost use Rattle.loop_link.specs.Following.{gives_stays};
     ghost use Rattle.daemon_service.proofs.Runs.{same3_itself, same3_then};
     ghost use Rattle.loop_link.specs.Links.{loop_state, loop_shows, after_send, IsServed, LinkHolds, LoopFollows};
@@ -148,6 +151,9 @@ impl<S: Station> Link for LoopLink<S> {
     fn recv(&mut self, room: &mut [u8]) -> Result<usize, EdgeFault>
         requires { 0 < length room.old }
         ensures failed { IsErrOf result Failed → ⊥ }
+
+        // Want of memory hides no fault of the station.
+        ensures memory { OnErr result (NoneRose (S.shows self.old.held.station) (S.shows self.new.held.station)) }
         ensures served { OnOk result (IsServed self.old.held.table.rows (S.ran self.new.held.station) (S.shows self.old.held.station) (S.shows self.new.held.station) (loop_state self.old) (loop_state self.new)) }
         ensures answer { IfOk result (λ n. n ≡ min (length room.old) (length (loop_state self.new).reply - (loop_state self.old).at)) }
         ensures moved { IfOk result (λ n. (loop_state self.new).at ≡ (loop_state self.old).at + n) }

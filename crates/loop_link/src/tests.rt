@@ -49,7 +49,9 @@ fn host(alloc: Global) -> Result<HostName, Fail> {
 }
 
 // Sends this, and receives until the end through a small room.
-fn exchange<L: Link>(alloc: Global, link: &mut L, sends: &[u8]) -> Result<Bytes, Fail> {
+fn exchange<L: Link>(alloc: Global, link: &mut L, sends: &[u8]) -> Result<Bytes, Fail>
+    ensures { L.follows link.old link.new }
+{
     let mut given = Bytes::new(alloc);
     if !sends.is_empty() {
         assert_sent(link.send(sends), sends.len())?;
@@ -131,26 +133,48 @@ fn attempt_by(
     Ok(attempt_over_loop(alloc, &request, &host, dialer))
 }
 
+// Why the exchange was broken, where it was.
+fn cause_of(answer: Attempt) -> Result<Option<Cause>, Fail> {
+    match answer {
+        Attempt::Whole(_) => Ok(None),
+        Attempt::Broke(cause) => Ok(Some(cause)),
+        Attempt::Memory { .. } => Err("memory lasts".into()),
+    }
+}
+
+// The same of an exchange over a new loop, whose station's run may fail.
+fn cause_over(alloc: Global, fails: bool) -> Result<Option<Cause>, Fail> {
+    let dialer = LoopDialer::new(station(alloc, fails)?, table(alloc)?);
+    let (_, answer) = attempt_by(alloc, dialer)?;
+    cause_of(answer)
+}
+
+// How a second dial goes while the first one's link is out.
+fn second_dial<D: Dialer>(alloc: Global, dialer: &mut D) -> Result<EdgeFault, Fail> {
+    let host = host(alloc)?;
+    let Ok(link) = dialer.dial(alloc, &host, 3632) else {
+        return Err("the station is there".into());
+    };
+    let second = dialer.dial(alloc, &host, 3632);
+    dialer.hang_up(link);
+    match second {
+        Ok(link) => {
+            dialer.hang_up(link);
+            Err("the station is away".into())
+        }
+        Err(fault) => Ok(fault),
+    }
+}
+
 #[test]
 fn how_exchanges_go(rt: HostRuntime) -> Result<(), Fail> {
     let alloc = rt.alloc();
-    let dialer = LoopDialer::new(station(alloc, false)?, table(alloc)?);
-    let (_, Attempt::Whole(outcome)) = attempt_by(alloc, dialer)? else {
-        return Err("the exchange is whole".into());
-    };
-    assert_eq!(rt; outcome.object.as_slice(), b"SCO1\ndef a 1\n".as_slice());
-    let dialer = LoopDialer::new(station(alloc, true)?, table(alloc)?);
-    let (mut dialer, Attempt::Broke(cause)) = attempt_by(alloc, dialer)? else {
-        return Err("the exchange is broken".into());
-    };
-    assert_eq!(rt; cause, Cause::Truncated { have: 0 });
-    let Ok(link) = dialer.dial(alloc, &host(alloc)?, 3632) else {
-        return Err("the station is there".into());
-    };
-    let (mut dialer, Attempt::Broke(cause)) = attempt_by(alloc, dialer)? else {
-        return Err("the station is away".into());
-    };
-    assert_eq!(rt; cause, Cause::Dial);
-    dialer.hang_up(link);
+    assert_eq!(rt; cause_over(alloc, false)?, None);
+    assert_eq!(rt;
+        cause_over(alloc, true)?,
+        Some(Cause::Truncated { have: 0 })
+    );
+    let mut dialer = LoopDialer::new(station(alloc, false)?, table(alloc)?);
+    assert_eq!(rt; second_dial(alloc, &mut dialer)?, EdgeFault::Failed);
     Ok(())
 }
