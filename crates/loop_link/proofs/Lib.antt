@@ -1,0 +1,4 @@
+mod Serviced
+mod Honest
+mod Holding
+mod Unbroken

@@ -1,0 +1,96 @@
+-- What a link of a loop is in, and what its calls do to it.
+use Rattle.std.specs.Prelude.{◌≡◌, ℕ, ◌≤◌, Bool, true, false, List, [], ◌++◌, length, take, Result}
+use Rattle.farm_types.specs.declared.placed.Word.{Word}
+use Rattle.farm_types.specs.declared.ran.Ran.{Ran}
+use Rattle.farm_types.specs.declared.hosts.HostName.{HostName}
+use Rattle.edge_traits.specs.Told.{told, SameRelation3}
+use Rattle.edge_traits.specs.Links.{Origin, LinkView, moved}
+use Rattle.edge_traits.specs.Stations.{StationView}
+use Rattle.daemon_service.specs.declared.compilers.Compiler.{Compiler}
+use Rattle.loop_link.specs.declared.link.LoopLink.{LoopLink}
+use Rattle.loop_link.specs.Replies.{Serves}
+
+-- whom the link was dialed to; whether it closes at its first receive; what was sent; whether the service ran, or memory ran
+-- out in it; how many bytes it saw; its reply; how many bytes of it were given; and whether the end was
+pub record LoopState : Type 0 where
+  pub origin : Origin
+  pub closes : Bool
+  pub sent : List ℕ
+  pub served : Bool
+  pub wanted : Bool
+  pub seen : ℕ
+  pub reply : List ℕ
+  pub at : ℕ
+  pub ended : Bool
+
+abbrev pub loop_state : {S : Type 0} → LoopLink S → LoopState
+loop_state link = record {
+  origin = record { host = link.host; port = link.port };
+  closes = link.closes;
+  sent = link.sent;
+  served = link.served;
+  wanted = link.wanted;
+  seen = link.seen;
+  reply = link.reply;
+  at = link.at;
+  ended = link.ended;
+}
+
+-- a link over which nothing has passed
+abbrev pub new_loop : HostName → ℕ → LoopState
+new_loop host port = record {
+  origin = record { host = host; port = port };
+  closes = false;
+  sent = [];
+  served = false;
+  wanted = false;
+  seen = 0;
+  reply = [];
+  at = 0;
+  ended = false;
+}
+
+-- what it tells
+abbrev pub loop_shows : LoopState → LinkView
+loop_shows link = record {
+  origin = link.origin;
+  sent = told link.sent;
+  given = told (take link.at link.reply);
+  ended = link.ended;
+  stopped = false;
+  faults = 0;
+}
+
+abbrev pub after_send : {E : Type 0} → LoopState → List ℕ → Result ℕ E → LoopState
+after_send link piece result = record link { sent = link.sent ++ moved result piece }
+
+-- The service runs at the first receive, on what was sent before it, and never again.
+pub record IsServed (table : List Compiler) (ran : List Word → List ℕ → Ran → Type 0) (before after : StationView) (old new : LoopState) : Type 0 where
+  pub done : new.served ≡ true
+  pub serves : old.served ≡ false → Serves table ran old.sent before after new.reply
+  pub seen : old.served ≡ false → new.seen ≡ length old.sent
+  pub again : old.served ≡ true → new.reply ≡ old.reply
+  pub same_seen : old.served ≡ true → new.seen ≡ old.seen
+  pub still : old.served ≡ true → after ≡ before
+
+-- What a link holds after its dial, at which the station stood at the first of these: the station's counts haven't fallen, and
+-- where the service ran, the reply is what it gave for the bytes that it saw.
+pub record Holds (table : List Compiler) (ran : List Word → List ℕ → Ran → Type 0) (dialed now : StationView) (link : LoopState) : Type 0 where
+  pub faults : dialed.faults ≤ now.faults
+  pub overruns : dialed.overruns ≤ now.overruns
+  pub serves : link.served ≡ true → Serves table ran (take link.seen link.sent) dialed now link.reply
+
+-- the same of a link, by what its stations show and may leave
+abbrev pub LinkHolds : {S : Type 0} → (S → StationView) → (S → List Word → List ℕ → Ran → Type 0) → LoopLink S → Type 0
+LinkHolds shows ran link = Holds link.held.table.rows (ran link.held.station) (shows link.dialed.value) (shows link.held.station) (loop_state link)
+
+-- The first became the second, by calls of it: it is to the same host, over the same table and a station with the same
+-- programs, dialed where the station stood the same, and it holds a reply where the first did.
+pub record LoopFollows {S : Type 0} (shows : S → StationView) (ran : S → List Word → List ℕ → Ran → Type 0) (a b : LoopLink S) : Type 0 where
+  pub host : b.host ≡ a.host
+  pub port : b.port ≡ a.port
+  pub closes : b.closes ≡ a.closes
+  pub table : b.held.table.rows ≡ a.held.table.rows
+  pub same : SameRelation3 (ran a.held.station) (ran b.held.station)
+  pub dialed : b.dialed.value ≡ a.dialed.value
+  pub holds : LinkHolds shows ran a → LinkHolds shows ran b
