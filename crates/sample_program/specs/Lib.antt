@@ -1,0 +1,2 @@
+pub mod Helps
+pub mod Programs

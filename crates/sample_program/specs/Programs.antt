@@ -1,0 +1,109 @@
+-- What `scc` does.
+use Rattle.std.specs.Prelude.{ℕ, ◌≡◌, ◌⊎◌, List, [], ◌∷◌, codes, ◌==◌, if◌then◌else◌, Option, None, Some, IsTrue}
+use Rattle.std.specs.FinMap.{insert}
+use Rattle.farm_types.specs.declared.ran.Ran.{Ran}
+use Rattle.farm_types.specs.Exits.{exit_code_of}
+use Rattle.edge_traits.specs.declared.entries.Put.{Put}
+use Rattle.edge_traits.specs.Told.{Grew, Became}
+use Rattle.edge_traits.specs.Causes.{Rose}
+use Rattle.edge_traits.specs.FileMaps.{Files}
+use Rattle.edge_traits.specs.Keepers.{KeeperView, IsIdle}
+use Rattle.stream_print.specs.declared.pieces.SinkKind.TheVariants.{Out, Err as ErrSink}
+use Rattle.stream_print.specs.declared.pieces.Piece.{Piece}
+use Rattle.stream_print.specs.Prints.{SinksView}
+use Rattle.stream_print.specs.Ends.{Ends, WantOf, complaint}
+use Rattle.sample_compiler.specs.declared.task.Product.{Product}
+use Rattle.sample_compiler.specs.declared.task.Product.TheVariants.{Text, Object}
+use Rattle.sample_compiler.specs.declared.task.Task.{Task}
+use Rattle.sample_compiler.specs.Tasks.{task_of}
+use Rattle.sample_compiler.specs.Samples.{SampleOf}
+use Rattle.sample_compiler.specs.Loads.{unstaged, WasTooLong}
+use Rattle.sample_program.specs.declared.running.RunStop.{RunStop}
+use Rattle.sample_program.specs.declared.running.RunStop.TheVariants.{File, Memory}
+use Rattle.sample_program.specs.Helps.{told_text}
+
+-- ---- the texts
+
+abbrev pub no_memory_text : List ℕ
+no_memory_text = codes "scc: no memory\n"
+
+abbrev pub file_fault_text : List ℕ
+file_fault_text = codes "scc: file fault\n"
+
+-- ---- what is put
+
+-- an object under its name
+abbrev pub object_put : Product → List ℕ → List Put
+object_put Text object = []
+object_put (Object output) object = record { path = output; bytes = object } ∷ []
+
+-- the object of a run that ended well, where one was asked for
+abbrev pub puts_of : Option Task → Ran → List Put
+puts_of (Some task) ran = if ran.status == 0 then object_put task.product ran.object else []
+puts_of None ran = []
+
+-- the files after these puts
+abbrev pub files_with : Files → List Put → Files
+files_with files [] = files
+files_with files (put ∷ puts) = files_with (insert files put.path put.bytes) puts
+
+-- the keeper has these puts more, its files are those after them, and none is pending
+pub record PutBy (puts : List Put) (old new : KeeperView) : Type 0 where
+  pub puts_more : Grew old.puts new.puts puts
+  pub files : Became old.files new.files (files_with old.files.value puts)
+  pub idle : IsIdle new
+
+-- ---- a run
+
+-- the words with the compiler's name in front
+abbrev pub named : List (List ℕ) → List (List ℕ)
+named words = codes "scc" ∷ words
+
+-- The run is that of the compiler over some files: those of the keeper, where they are told, but for names that end in
+-- `.farm~`. The object of one that ended well was put, and nothing else.
+pub record DidRun (words : List (List ℕ)) (old new : KeeperView) (ran : Ran) : Type 0 where
+  pub files : Files
+  pub leaves : SampleOf files (named words) ran
+  pub told : IsTrue new.files.known → SampleOf (unstaged old.files.value) (named words) ran
+  pub put : PutBy (puts_of (task_of (named words)) ran) old new
+
+-- the keeper's faults rose, or a file was above the bound of what is fetched
+abbrev pub FileCause : KeeperView → KeeperView → Type 0
+FileCause old new = Rose old.faults new.faults ⊎ ((bytes : ℕ) × WasTooLong old new bytes)
+
+abbrev pub StopCause : KeeperView → KeeperView → RunStop → Type 0
+StopCause old new File = FileCause old new
+StopCause old new Memory = Unit {0}
+
+-- nothing was put
+pub record StoppedRun (old new : KeeperView) (stop : RunStop) : Type 0 where
+  pub put : PutBy [] old new
+  pub cause : StopCause old new stop
+
+-- ---- the program
+
+-- a text for the output
+abbrev pub output : List ℕ → Piece
+output text = record { sink = Out; bytes = text }
+
+-- the messages, and then the output
+abbrev pub printed_by : Ran → List Piece
+printed_by ran = complaint ran.err ∷ output ran.out ∷ []
+
+-- The compiler ran, and what it left was printed; or the files failed; or memory was wanting before anything was put or printed.
+pub data Compiled (words : List (List ℕ)) (old new : KeeperView) (sinks sinks_now : SinksView) (answer : ℕ) : Type 0 where
+  ran_so : (ran : Ran) → DidRun words old new ran → Ends no_memory_text (printed_by ran) (exit_code_of ran.status) sinks sinks_now answer → Compiled words old new sinks sinks_now answer
+  files_failed : StoppedRun old new File → Ends no_memory_text (complaint file_fault_text ∷ []) 107 sinks sinks_now answer → Compiled words old new sinks sinks_now answer
+  memory_wanted : StoppedRun old new Memory → WantOf no_memory_text [] sinks sinks_now answer → Compiled words old new sinks sinks_now answer
+
+-- the text was printed, or memory was wanting before
+abbrev pub Told : List ℕ → SinksView → SinksView → ℕ → Type 0
+Told text sinks sinks_now answer = Ends no_memory_text (output text ∷ []) 0 sinks sinks_now answer ⊎ WantOf no_memory_text [] sinks sinks_now answer
+
+abbrev pub DoesBy : Option (List ℕ) → List (List ℕ) → KeeperView → KeeperView → SinksView → SinksView → ℕ → Type 0
+DoesBy (Some text) words old new sinks sinks_now answer = (new ≡ old) × Told text sinks sinks_now answer
+DoesBy None words old new sinks sinks_now answer = Compiled words old new sinks sinks_now answer
+
+-- what is done by these words
+abbrev pub Does : List (List ℕ) → KeeperView → KeeperView → SinksView → SinksView → ℕ → Type 0
+Does words old new sinks sinks_now answer = DoesBy (told_text words) words old new sinks sinks_now answer
