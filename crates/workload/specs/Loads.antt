@@ -1,0 +1,46 @@
+-- The workload of a number: its jobs and its files.
+use Rattle.std.specs.Prelude.{ℕ, zero, suc, ◌+◌, ◌*◌, ◌/◌, ◌%◌, ◌^◌, List, [], ◌∷◌, ◌++◌, map, codes}
+use Rattle.std.specs.Fmt.{decimal}
+use Rattle.std.specs.List.{range_with_len}
+use Rattle.std.specs.FinMap.{from_entries}
+use Rattle.sample_lang.specs.FileMaps.{Files}
+
+-- what comes after a number of the generator
+abbrev pub next_state : ℕ → ℕ
+next_state x = (1664525 * x + 1013904223) % 2 ^ 32
+
+-- what comes so many steps after it
+abbrev pub state_after : ℕ → ℕ → ℕ
+state_after x zero = x
+state_after x (suc steps) = next_state (state_after x steps)
+
+-- the factor that a number of the generator stands for, below 1,000
+abbrev pub factor_of : ℕ → ℕ
+factor_of x = (x / 65536) % 1000
+
+-- the file of a job, and its object's
+abbrev pub source_name : ℕ → List ℕ
+source_name job = (codes "j" ++ decimal job) ++ codes ".c"
+
+abbrev pub object_name : ℕ → List ℕ
+object_name job = (codes "j" ++ decimal job) ++ codes ".o"
+
+-- the source of a job with this factor: one item, the factor times 7 plus the job's number
+abbrev pub source_text : ℕ → ℕ → List ℕ
+source_text job factor = (((((codes "int j" ++ decimal job) ++ codes " = ") ++ decimal factor) ++ codes " * 7 + ") ++ decimal job) ++ codes ";\n"
+
+-- the words of a job
+abbrev pub job_words : ℕ → List (List ℕ)
+job_words job = codes "scc" ∷ codes "-c" ∷ source_name job ∷ codes "-o" ∷ object_name job ∷ []
+
+-- the file of a job, where the generator began with n
+abbrev pub file_of : ℕ → ℕ → List ℕ × List ℕ
+file_of n job = (source_name job, source_text job (factor_of (state_after n job)))
+
+-- the jobs of n, from 1 to n
+abbrev pub jobs_of : ℕ → List (List (List ℕ))
+jobs_of n = map job_words (range_with_len 1 n)
+
+-- their files
+abbrev pub files_of : ℕ → Files
+files_of n = from_entries (map (file_of n) (range_with_len 1 n))
