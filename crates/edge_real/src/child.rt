@@ -9,15 +9,16 @@ ghost use Rattle.edge_real.specs.Views.{station_view, counted_station, names_of}
 
 use crate::counting::raise;
 use crate::disk::load;
+use crate::notices::{tell_overrun, tell_unstarted};
 use crate::own_files::{OwnFile, OwnNames};
 use crate::reading::{Reading, read_to_end};
 use edge_traits::{Bounds, FetchFault, Station, StationFault, Stream, has_output};
 use farm_types::{Bytes, Ext, Ran, Word};
 use std::alloc::Global;
 use std::fs::File;
-use std::io::{Read, Seek, Write};
+use std::io::{Eprint, Read, Seek, Write};
 use std::os::unix::process::ExitStatusExt;
-use std::process::{Command, Processes, Stdio};
+use std::process::{Child, Command, OpenProcess, Processes, Stdio};
 use std::{rt, str};
 
 /// Runs programs as children of this process, and waits for their ends.
@@ -25,6 +26,9 @@ use std::{rt, str};
 /// The program is sought as the system seeks it, in `PATH` where its name has no slash. It has the environment and the folder of this process, and an
 /// empty standard input. The files that stand for `Input` and `Output` are in the folder that the station was given, and are gone when the run
 /// ends, whatever it answers. So is the one that takes its standard error, which has a name only until it is open.
+///
+/// Why a run came to nothing stands as a line on the standard error of this process: the program or the file and the system's reason, or the
+/// stream that was too long.
 #[derive(Drop)]
 pub struct ChildStation<R> {
     rt: R,
@@ -49,7 +53,7 @@ impl<R: Processes + rt::Files<File = File>> ChildStation<R> {
     }
 }
 
-impl<R: Processes + rt::Files<File = File>> Station for ChildStation<R> {
+impl<R: Processes + rt::Files<File = File> + Eprint> Station for ChildStation<R> {
     ghost shows = { station_view };
 
     ghost ran = { λ s words input ran. ⊤ };
@@ -72,7 +76,10 @@ impl<R: Processes + rt::Files<File = File>> Station for ChildStation<R> {
         let ran = run_child(&self.rt, &mut self.names, alloc, words, input, bounds);
         match ran {
             Ok(_) => {}
-            Err(StationFault::TooMuch { .. }) => raise(&mut self.overruns),
+            Err(StationFault::TooMuch { stream, bytes }) => {
+                tell_overrun(&self.rt, words, stream, bytes);
+                raise(&mut self.overruns);
+            }
             Err(StationFault::Failed) => raise(&mut self.faults),
             Err(StationFault::Memory) => {}
         }
@@ -81,7 +88,7 @@ impl<R: Processes + rt::Files<File = File>> Station for ChildStation<R> {
 }
 
 #[tactic(auto, using(crate::proofs::ChildLemmas::unnamed))]
-fn run_child<R: Processes + rt::Files<File = File>>(
+fn run_child<R: Processes + rt::Files<File = File> + Eprint>(
     rt: &R,
     names: &mut OwnNames,
     alloc: Global,
@@ -99,7 +106,8 @@ fn run_child<R: Processes + rt::Files<File = File>>(
     let object = output_file(rt, names, alloc, words)?;
     let mut messages = nameless_file(rt, names, alloc)?;
     let command = command_of(alloc, words, path_of(&source), path_of(&object))?;
-    let (status, out) = run_to_end(rt, command, &messages, alloc, bounds.out)?;
+    let child = start(rt, command, &messages)?;
+    let (status, out) = run_to_end(child, alloc, bounds.out)?;
     let err = read_again(&mut messages, alloc, bounds.err)?;
     let object = match &object {
         Some(file) => load_own(rt, alloc, file.path(), bounds.object, Stream::Object)?,
@@ -114,7 +122,7 @@ fn run_child<R: Processes + rt::Files<File = File>>(
 }
 
 /// The file that stands for `Input`, where it stands in the words.
-fn input_file<'a, R: rt::Files>(
+fn input_file<'a, R: rt::Files + Eprint>(
     rt: &'a R,
     names: &mut OwnNames,
     alloc: Global,
@@ -136,7 +144,7 @@ fn input_file<'a, R: rt::Files>(
 }
 
 /// The file that stands for `Output`, where it stands in the words. It is empty until the program writes it.
-fn output_file<'a, R: rt::Files>(
+fn output_file<'a, R: rt::Files + Eprint>(
     rt: &'a R,
     names: &mut OwnNames,
     alloc: Global,
@@ -154,7 +162,7 @@ fn output_file<'a, R: rt::Files>(
 }
 
 /// A file for the program's standard error. Its name is gone at once, so that nothing is left of it even where this process is killed.
-fn nameless_file<R: rt::Files<File = File>>(
+fn nameless_file<R: rt::Files<File = File> + Eprint>(
     rt: &R,
     names: &mut OwnNames,
     alloc: Global,
@@ -269,16 +277,13 @@ fn text_of<'a>(word: &'a Word, source: &'a str, object: &'a str) -> Result<&'a s
     }
 }
 
-/// Runs a program to its end. Its standard error goes to a file and its standard output to a pipe that is read here, so neither holds it up.
-fn run_to_end<R: Processes>(
+/// Starts a program, with an empty standard input. Its standard error goes to this file, and its standard output to a pipe.
+fn start<R: Processes + Eprint>(
     rt: &R,
     command: Command,
     messages: &File,
-    alloc: Global,
-    bound: u32,
-) -> Result<(u32, Bytes), StationFault>
-    ensures within { IfOk result (λ ended. length ended.1 ≤ bound) }
-    ensures fault { IfErr result (IsStreamFault Stream.Out bound) }
+) -> Result<Child<R::Started>, StationFault>
+    ensures fault { IfErr result NamesNoStream }
 {
     let Ok(errors) = messages.try_clone() else {
         return Err(StationFault::Failed);
@@ -288,9 +293,24 @@ fn run_to_end<R: Processes>(
         .stdin(Stdio::null())
         .stdout(Stdio::piped())
         .stderr(Stdio::from(errors));
-    let Ok(mut child) = command.spawn(rt) else {
-        return Err(StationFault::Failed);
-    };
+    match command.spawn(rt) {
+        Ok(child) => Ok(child),
+        Err(error) => {
+            tell_unstarted(rt, command.get_program(), &error);
+            Err(StationFault::Failed)
+        }
+    }
+}
+
+/// Runs a program to its end. Its standard output is read here, so it doesn't hold the program up.
+fn run_to_end<P: OpenProcess + Drop>(
+    mut child: Child<P>,
+    alloc: Global,
+    bound: u32,
+) -> Result<(u32, Bytes), StationFault>
+    ensures within { IfOk result (λ ended. length ended.1 ≤ bound) }
+    ensures fault { IfErr result (IsStreamFault Stream.Out bound) }
+{
     let out = read_pipe(child.stdout.take(), alloc, bound);
     let Ok(status) = child.wait() else {
         return Err(StationFault::Failed);

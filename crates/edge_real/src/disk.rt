@@ -1,4 +1,4 @@
-ghost use Rattle.std.specs.Prelude.{◌≡◌, ◌≢◌, ◌≤◌, length, IfOk, IfErr, OnOk, MatchResult, Err, string_bytes};
+ghost use Rattle.std.specs.Prelude.{◌≡◌, ◌≢◌, ◌≤◌, length, IfOk, IfErr, OnOk, OnErr, MatchResult, None, Err, string_bytes};
 ghost use Rattle.std.specs.Str.{IsUtf8};
 ghost use Rattle.edge_real.specs.Counts.{call_faults, append_faults, load_faults, load_overruns};
 ghost use Rattle.edge_real.specs.OwnNames.{first_names, SameOwner};
@@ -167,7 +167,9 @@ fn rename_file<R: rt::Files>(
     from: &Bytes,
     to: &Bytes,
 ) -> io::Result<()>
-    ensures { OnOk result (IsUtf8 to.now) }
+    ensures name { OnOk result (IsUtf8 to.now) }
+    ensures ended { OnOk result (staged.new ≡ None) }
+    ensures stays { OnErr result (staged.new ≡ staged.old) }
 {
     let Some(file) = staged else {
         return Err(io::Error::from(ErrorKind::NotFound));
@@ -185,7 +187,9 @@ fn remove_file<R: rt::Files>(
     rt: &R,
     staged: &mut Option<StagedFile>,
     name: &Bytes,
-) -> io::Result<()> {
+) -> io::Result<()>
+    ensures { staged.new ≡ None }
+{
     match staged.take() {
         Some(file) => {
             if !file.stands_for(name) {

@@ -3,10 +3,11 @@ ghost use Rattle.std.specs.Fs.{asks_read, asks_write, asks_create_new};
 ghost use Rattle.edge_real.specs.Children.{NamesNoStream};
 ghost use Rattle.edge_real.specs.OwnNames.{names_view, first_names, next_names, own_name, name_of, SameOwner, IsBeside, numbered, staged_text};
 
+use crate::notices::tell_unmade;
 use edge_traits::StationFault;
 use std::alloc::{AllocError, Global};
 use std::fs::OpenOptions;
-use std::io::ErrorKind;
+use std::io::{Eprint, ErrorKind};
 use std::os::unix::fs::OpenOptionsExt;
 use std::{fs, rt};
 
@@ -97,7 +98,7 @@ pub struct OwnFile<'a, R: rt::Files> {
     path: String,
 }
 
-impl<'a, R: rt::Files> OwnFile<'a, R> {
+impl<'a, R: rt::Files + Eprint> OwnFile<'a, R> {
     /// A new empty file that its owner alone may read, opened for reading and writing. A name that is there already is passed over.
     pub fn create(
         rt: &'a R,
@@ -115,6 +116,7 @@ impl<'a, R: rt::Files> OwnFile<'a, R> {
                 Ok(file) => return Ok((OwnFile { rt, path }, file)),
                 Err(error) => {
                     if error.kind() != ErrorKind::AlreadyExists {
+                        tell_unmade(rt, path.as_str(), &error);
                         return Err(StationFault::Failed);
                     }
                 }
@@ -122,7 +124,10 @@ impl<'a, R: rt::Files> OwnFile<'a, R> {
         }
         Err(StationFault::Failed)
     }
+}
 
+impl<R: rt::Files> OwnFile<'_, R> {
+    /// Where it is.
     pub fn path(&self) -> &str
         ensures { result.now ≡ name_of self.now }
     {

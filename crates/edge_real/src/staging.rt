@@ -1,7 +1,8 @@
 // New files that are written beside those whose names they get.
 ghost use Rattle.std.specs.Prelude.{◌≡◌, ◌≤◌, length, IfOk, OnOk};
-ghost use Rattle.std.specs.Str.{IsUtf8};
+ghost use Rattle.std.specs.Str.{IsUtf8, bytes_eq};
 ghost use Rattle.edge_real.specs.OwnNames.{names_view, SameOwner};
+ghost use Rattle.edge_real.specs.Staging.{staged_as, staged_at};
 
 use crate::disk::text_of;
 use crate::own_files::OwnNames;
@@ -24,11 +25,16 @@ pub struct StagedFile {
 
 impl StagedFile {
     /// Whether this name stands for it.
-    pub fn stands_for(&self, name: &Bytes) -> bool {
+    pub fn stands_for(&self, name: &Bytes) -> bool
+        ensures { result ≡ bytes_eq (staged_as self.now) name.now }
+    {
         self.name.as_slice() == name.as_slice()
     }
 
-    pub fn path(&self) -> &str {
+    /// Where it is.
+    pub fn path(&self) -> &str
+        ensures { result.now ≡ staged_at self.now }
+    {
         self.path.as_str()
     }
 
@@ -82,6 +88,7 @@ pub fn stage<R: rt::Files<File = File>>(
     name: &Bytes,
 ) -> Result<StagedFile, EdgeFault>
     ensures name { OnOk result (IsUtf8 name.now) }
+    ensures stands { IfOk result (λ staged. staged_as staged ≡ name.now) }
     ensures owner { SameOwner (names_view names.old) (names_view names.new) }
 {
     let Ok(text) = text_of(name) else {

@@ -5,40 +5,34 @@ ghost use Rattle.std.specs.Prelude.{◌≡◌, ◌≤◌, length, IfOk, IfSome};
 
 use daemon_program::{DoorPlace, door_place, farmd};
 use daemon_worker::DoorKit;
-use edge_real::{ChildStation, StdSink, TcpDoor};
+use edge_real::{ChildStation, StdSink, TcpDoor, command_words, own_folder};
 use log::warn;
+use std::alloc::AllocError;
 use std::net::TcpListener;
-use std::process::ExitCode;
+use std::process::{self, ExitCode};
 use std::thread::Threads;
-use std::{env, process};
 
 /// The doors and stations of the system.
 type SystemDoor = DoorKit<TcpDoor<TcpListener>, ChildStation<HostRuntime>>;
 
+/// The status where memory is wanting.
+const NO_MEMORY: u8 = 105;
+
 // The words of the command line. Where one isn't UTF-8, they are one word that is no option.
-fn words_of(rt: &HostRuntime) -> anyhow::Result<Vec<String>> {
-    let mut words = Vec::new(rt.alloc());
-    match env::args(rt) {
-        Ok(given) => {
-            for word in given.skip(1) {
-                words.push(word)?;
-            }
-        }
-        Err(_) => words.push(String::new(rt.alloc()))?,
+fn words_of(rt: &HostRuntime) -> Result<Vec<String>, AllocError> {
+    if let Some(words) = command_words(rt)? {
+        return Ok(words);
     }
+    let mut words = Vec::new(rt.alloc());
+    words.push(String::new(rt.alloc()))?;
     Ok(words)
 }
 
 // A door and a station for it, whose own files are in the system's folder for such files.
-fn kit_of(rt: &HostRuntime, door: TcpDoor<TcpListener>) -> anyhow::Result<SystemDoor> {
-    let folder = env::temp_dir(rt)?;
+fn kit_of(rt: &HostRuntime, door: TcpDoor<TcpListener>) -> Result<SystemDoor, AllocError> {
     Ok(DoorKit {
         door,
-        station: ChildStation::new(
-            *rt,
-            String::from_str(rt.alloc(), folder.as_str())?,
-            process::id(rt.process()),
-        ),
+        station: ChildStation::new(*rt, own_folder(rt)?, process::id(rt.process())),
     })
 }
 
@@ -47,7 +41,7 @@ fn open_doors(
     rt: &HostRuntime,
     first: TcpDoor<TcpListener>,
     count: u32,
-) -> anyhow::Result<Vec<SystemDoor>>
+) -> Result<Vec<SystemDoor>, AllocError>
     requires { 1 ≤ count }
     ensures { IfOk result (λ doors. length doors.items ≡ count) }
 {
@@ -60,7 +54,7 @@ fn open_doors(
 }
 
 // The doors at a place. Where `farmd` isn't to serve, there is one that is closed.
-fn doors_at(rt: &HostRuntime, place: Option<DoorPlace>) -> anyhow::Result<Vec<SystemDoor>>
+fn doors_at(rt: &HostRuntime, place: Option<DoorPlace>) -> Result<Vec<SystemDoor>, AllocError>
     requires { IfSome place (λ place. place.doors ≤ 16) }
     ensures some { IfOk result (λ doors. 1 ≤ length doors.items) }
     ensures few { IfOk result (λ doors. length doors.items ≤ 16) }
@@ -78,7 +72,7 @@ fn doors_at(rt: &HostRuntime, place: Option<DoorPlace>) -> anyhow::Result<Vec<Sy
 }
 
 // Runs `farmd` on the program's words and standard output, and answers its exit status.
-fn run<T: Threads + Sync>(threads: &T, rt: &HostRuntime) -> anyhow::Result<u8> {
+fn run<T: Threads + Sync>(threads: &T, rt: &HostRuntime) -> Result<u8, AllocError> {
     let words = words_of(rt)?;
     let place = door_place(words.as_slice());
     let mut doors = doors_at(rt, place)?;
@@ -87,7 +81,10 @@ fn run<T: Threads + Sync>(threads: &T, rt: &HostRuntime) -> anyhow::Result<u8> {
     Ok(status)
 }
 
-fn main(rt: HostRuntime) -> anyhow::Result<ExitCode> {
-    let status = run(&rt, &rt)?;
-    Ok(ExitCode::from(status))
+fn main(rt: HostRuntime) -> ExitCode {
+    if let Ok(status) = run(&rt, &rt) {
+        return ExitCode::from(status);
+    }
+    let _ = println!(rt; "farmd: no memory");
+    ExitCode::from(NO_MEMORY)
 }

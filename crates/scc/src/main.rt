@@ -1,32 +1,27 @@
 //! The program `scc`: the call `scc` over the files and the standard streams of the system.
 #![tactic(auto)]
 
-use edge_real::{DiskFiles, StdSink};
+use edge_real::{DiskFiles, StdSink, command_words, own_folder};
 use object_delivery::FileKeeper;
 use sample_program::scc;
-use std::process::ExitCode;
-use std::{env, process};
+use std::alloc::AllocError;
+use std::process::{self, ExitCode};
+
+/// The status where memory is wanting.
+const NO_MEMORY: u8 = 105;
 
 // The words of the command line. Where one isn't UTF-8, there are none, which the compiler doesn't take.
-fn words_of(rt: &HostRuntime) -> anyhow::Result<Vec<String>> {
-    let mut words = Vec::new(rt.alloc());
-    if let Ok(given) = env::args(rt) {
-        for word in given.skip(1) {
-            words.push(word)?;
-        }
-    }
-    Ok(words)
+fn words_of(rt: &HostRuntime) -> Result<Vec<String>, AllocError> {
+    Ok(match command_words(rt)? {
+        Some(words) => words,
+        None => Vec::new(rt.alloc()),
+    })
 }
 
 // Runs `scc` on the program's words, and answers its exit status.
-fn run(rt: &HostRuntime) -> anyhow::Result<u8> {
+fn run(rt: &HostRuntime) -> Result<u8, AllocError> {
     let words = words_of(rt)?;
-    let folder = env::temp_dir(rt)?;
-    let files = DiskFiles::new(
-        *rt,
-        String::from_str(rt.alloc(), folder.as_str())?,
-        process::id(rt.process()),
-    );
+    let files = DiskFiles::new(*rt, own_folder(rt)?, process::id(rt.process()));
     let mut keeper = FileKeeper::new(files);
     let mut out = StdSink::new(rt.stdout());
     let mut err = StdSink::new(rt.stderr());
@@ -40,7 +35,10 @@ fn run(rt: &HostRuntime) -> anyhow::Result<u8> {
     Ok(status)
 }
 
-fn main(rt: HostRuntime) -> anyhow::Result<ExitCode> {
-    let status = run(&rt)?;
-    Ok(ExitCode::from(status))
+fn main(rt: HostRuntime) -> ExitCode {
+    if let Ok(status) = run(&rt) {
+        return ExitCode::from(status);
+    }
+    let _ = eprintln!(rt; "scc: no memory");
+    ExitCode::from(NO_MEMORY)
 }

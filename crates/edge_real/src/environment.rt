@@ -1,0 +1,48 @@
+//! What a program's `main` reads of its environment.
+
+use std::alloc::{AllocError, Global};
+use std::env::{self, Env, VarError};
+use std::io::ErrorKind;
+
+/// The words of the command line, without the program's name. None where one of them isn't UTF-8.
+pub fn command_words<R: Env + AllocGlobal>(rt: &R) -> Result<Option<Vec<String>>, AllocError> {
+    match env::args(rt) {
+        Ok(given) => {
+            let mut words = Vec::new(rt.alloc());
+            for word in given.skip(1) {
+                words.push(word)?;
+            }
+            Ok(Some(words))
+        }
+        Err(error) => {
+            if error.kind() == ErrorKind::OutOfMemory {
+                return Err(AllocError);
+            }
+            Ok(None)
+        }
+    }
+}
+
+/// The value of a variable, None where it isn't set. One that isn't UTF-8 is the replacement character, which is no
+/// number, no host and no switch, so that such a value is refused where it matters and not passed over.
+pub fn variable<R: Env + AllocGlobal>(rt: &R, name: &str) -> Result<Option<String>, AllocError> {
+    match env::var(rt, name) {
+        Ok(value) => Ok(Some(value)),
+        Err(VarError::NotPresent) => Ok(None),
+        Err(VarError::NotUnicode) => Ok(Some(String::from_str(rt.alloc(), "\u{FFFD}")?)),
+        Err(VarError::OutOfMemory) => Err(AllocError),
+    }
+}
+
+/// The folder for files of a process's own: `TMPDIR`, or `/tmp` where that isn't set, is empty or isn't UTF-8.
+pub fn own_folder<R: Env + AllocGlobal>(rt: &R) -> Result<String, AllocError> {
+    match env::var(rt, "TMPDIR") {
+        Ok(folder) if !folder.is_empty() => Ok(folder),
+        Err(VarError::OutOfMemory) => Err(AllocError),
+        _ => folder_for_all(rt.alloc()),
+    }
+}
+
+fn folder_for_all(alloc: Global) -> Result<String, AllocError> {
+    String::from_str(alloc, "/tmp")
+}
