@@ -44,6 +44,11 @@ cause_then a b c Failed one cause = rose_then a.faults b.faults c.faults one.fau
 cause_then a b c (TooMuch bytes) one cause = record { rose = rose_then a.overruns b.overruns c.overruns one.overruns cause.rose; above = cause.above; long = cause.long }
 cause_then a b c Memory one cause = tt
 
+-- what is known agrees with the files after a fetch, since they are the same
+pub agrees_on : (b c : KeeperView) (known : Files) (absent : List (List ℕ)) → OnlyFetched b c → IsTrue c.files.known
+    → Agrees known absent false (unstaged b.files.value) → Agrees known absent false (unstaged c.files.value)
+agrees_on b c known absent only told agrees = subst (λ files. Agrees known absent false (unstaged files)) (sym (only.files.became told)) agrees
+
 -- what agreed with the files agrees with them after a fetch
 pub agrees_then : (b c : KeeperView) (known more : Files) (absent names : List (List ℕ)) → OnlyFetched b c
     → (IsTrue b.files.known → Agrees known absent false (unstaged b.files.value))

@@ -1,8 +1,10 @@
 pub mod PieceLemmas
 pub mod ExpandLemmas
+pub mod SeekLemmas
 pub mod GatherLemmas
 pub mod RunLemmas
 pub mod LoadLemmas
+pub mod KnownLemmas
 pub mod Fetching
 pub mod StationLemmas
 pub mod OutputLemmas

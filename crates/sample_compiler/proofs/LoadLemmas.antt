@@ -49,7 +49,7 @@ either : (a b : Bool) → (a || b) ≡ true → a ≡ false → b ≡ true
 either true b h other = absurd (cc)
 either false b h other = h
 
-at_end : (names : List (List ℕ)) (name path : List ℕ) → is_listed (names ++ name ∷ []) path ≡ (is_listed names path || bytes_eq name path)
+pub at_end : (names : List (List ℕ)) (name path : List ℕ) → is_listed (names ++ name ∷ []) path ≡ (is_listed names path || bytes_eq name path)
 at_end [] name path = last (bytes_eq name path)
   where
     last : (b : Bool) → (b || false) ≡ (false || b)
@@ -60,6 +60,9 @@ at_end (n ∷ names) name path = ap (λ r. bytes_eq n path || r) (at_end names n
     regroup : (a b c : Bool) → (a || (b || c)) ≡ ((a || b) || c)
     regroup true b c = refl
     regroup false b c = refl
+
+pub same_bytes : (name : List ℕ) → bytes_eq name name ≡ true
+same_bytes name = nat_list_eq_equiv.refl name
 
 -- one name more that is no file
 pub absent_agrees : (known files : Files) (absent more : List (List ℕ)) (name : List ℕ) → more ≡ absent ++ name ∷ [] → get files name ≡ None → Agrees known absent false files → Agrees known more false files
@@ -72,7 +75,7 @@ absent_agrees known files absent more name grown none a = record {
       (cases_Bool (is_listed absent path));
 }
 
-put_at : (known : Files) (path content q : List ℕ) → get (insert known path content) q ≡ cond (pointwise nat_eq q path) (Some content) (get known q)
+pub put_at : (known : Files) (path content q : List ℕ) → get (insert known path content) q ≡ cond (pointwise nat_eq q path) (Some content) (get known q)
 put_at known path content q = get-insert nat_list_cmp_total known path content q ∙ ap (λ test. cond test (Some content) (get known q)) (sym (texts_ties q path))
 
 -- one file more

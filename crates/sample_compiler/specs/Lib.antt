@@ -8,5 +8,6 @@ pub mod Lookups
 pub mod Expanding
 pub mod Came
 pub mod Samples
+pub mod Seeking
 pub mod Loads
 pub mod Stations

@@ -1,15 +1,20 @@
 -- What a load of files leaves, and when it may fail.
-use Rattle.std.specs.Prelude.{ℕ, ◌≡◌, ◌<◌, ◌≤◌, not, List, [], IsTrue}
-use Rattle.std.specs.FinMap.{retain_keys}
+use Rattle.std.specs.Prelude.{ℕ, ◌≡◌, ◌<◌, ◌≤◌, not, true, List, [], ◌∷◌, ◌++◌, Option, Some, None, IsTrue}
+use Rattle.std.specs.List.{flat_map}
+use Rattle.std.specs.FinMap.{get, retain_keys}
 use Rattle.farm_types.specs.declared.ran.Ran.{Ran}
-use Rattle.edge_traits.specs.Told.{Grew, Became}
+use Rattle.edge_traits.specs.Told.{Told, Grew, Became}
+use Rattle.edge_traits.specs.declared.entries.Fetch.{Fetch}
 use Rattle.edge_traits.specs.Causes.{Rose}
 use Rattle.edge_traits.specs.Keepers.{KeeperView, IsIdle, HasLength}
 use Rattle.arg_scan.specs.Names.{is_reserved}
 use Rattle.sample_lang.specs.FileMaps.{Files}
 use Rattle.sample_compiler.specs.declared.loading.LoadFault.{LoadFault}
 use Rattle.sample_compiler.specs.declared.loading.LoadFault.TheVariants.{Failed, TooMuch, Memory}
+use Rattle.sample_compiler.specs.Lookups.{is_listed}
 use Rattle.sample_compiler.specs.Samples.{SampleOf}
+use Rattle.sample_compiler.specs.Seeking.{asked_names, firsts_after}
+use Rattle.sample_compiler.specs.Tasks.{task_of}
 
 -- the files whose names don't end in `.farm~`
 abbrev pub unstaged : Files → Files
@@ -38,6 +43,39 @@ abbrev pub LoadCause : KeeperView → KeeperView → LoadFault → Type 0
 LoadCause old now Failed = Rose old.faults now.faults
 LoadCause old now (TooMuch bytes) = WasTooLong old now bytes
 LoadCause old now Memory = Unit {0}
+
+-- ---- which files are fetched
+
+-- the entry of a fetch of this name: none where there is no such file
+abbrev pub entry_of : List ℕ → Option (List ℕ) → List Fetch
+entry_of name None = []
+entry_of name (Some content) = record { path = name; bytes = content } ∷ []
+
+abbrev pub entry_at : Files → List ℕ → List Fetch
+entry_at files name = entry_of name (get files name)
+
+-- the files of these names, fetched in order
+abbrev pub entries_at : Files → List (List ℕ) → List Fetch
+entries_at files names = flat_map (entry_at files) names
+
+-- the names that the words have looked up, each where it comes first
+abbrev pub names_for : Files → List (List ℕ) → List (List ℕ)
+names_for files words = firsts_after [] (asked_names files (task_of words))
+
+-- Some first of these names were fetched, in order.
+pub record FetchedFront (files : Files) (names : List (List ℕ)) (old new : Told (List Fetch)) : Type 0 where
+  pub front : List (List ℕ)
+  pub rest : List (List ℕ)
+  pub parts : names ≡ front ++ rest
+  pub grew : Grew old new (entries_at files front)
+
+-- a file that was too long has one of these names
+abbrev pub LongNamed : KeeperView → List (List ℕ) → LoadFault → Type 0
+LongNamed now names Failed = Unit {0}
+LongNamed now names (TooMuch bytes) = IsTrue now.files.known → (path : List ℕ) × (is_listed names path ≡ true) × HasLength now.files.value path bytes
+LongNamed now names Memory = Unit {0}
+
+-- ---- what they leave
 
 -- the words leave the same over both
 pub record SameRuns (words : List (List ℕ)) (files others : Files) : Type 0 where

@@ -1,10 +1,12 @@
 //! What the compiler does over a map of files.
 
-ghost use Rattle.std.specs.Prelude.{ℕ, ◌≡◌, List, true, IfOk};
+ghost use Rattle.std.specs.Prelude.{ℕ, ◌≡◌, List, true, false, Some, IfOk};
 ghost use Rattle.farm_types.specs.declared.ran.Ran.{Ran};
 ghost use Rattle.sample_lang.specs.FileMaps.{Files};
 ghost use Rattle.sample_compiler.specs.Lookups.{Agrees};
 ghost use Rattle.sample_compiler.specs.Came.{CameText};
+ghost use Rattle.sample_compiler.specs.Seeking as seeking;
+ghost use Rattle.sample_compiler.specs.Seeking.{Walked, first_unknown};
 ghost use Rattle.sample_compiler.specs.Samples as samples;
 ghost use Rattle.sample_compiler.specs.Samples.{task_text, LeftBy, MadeOf, LeavesAsked, SampleOf, PreprocessedOf, asks_for_text};
 
@@ -33,8 +35,10 @@ fn is_ready(product: &Product, input: &[u8]) -> bool
 // The preprocessed text of the input.
 fn expanded_text(sources: Sources<'_>, task: &Task, content: &Bytes) -> Result<Bytes, ExpandStop>
     requires { sources.dirs.now ≡ task.now.dirs }
-    ensures { (files : Files) → Agrees sources.entry.files.now sources.entry.absent.now sources.entry.whole files
+    ensures came { (files : Files) → Agrees sources.entry.files.now sources.entry.absent.now sources.entry.whole files
         → CameText sources.entry.whole (samples.expanded_text files task.now content.now) result }
+    ensures looked { (files : Files) → Agrees sources.entry.files.now sources.entry.absent.now sources.entry.whole files
+        → sources.entry.whole ≡ false → Walked (first_unknown sources.entry.files.now sources.entry.absent.now (seeking.by_text files task.now content.now)) result }
 {
     let mut made = Expansion {
         defines: task.defines.copy()?,
@@ -47,8 +51,10 @@ fn expanded_text(sources: Sources<'_>, task: &Task, content: &Bytes) -> Result<B
 /// The text that is compiled or printed.
 pub fn task_text(sources: Sources<'_>, task: &Task) -> Result<Bytes, ExpandStop>
     requires { sources.dirs.now ≡ task.now.dirs }
-    ensures { (files : Files) → Agrees sources.entry.files.now sources.entry.absent.now sources.entry.whole files
+    ensures came { (files : Files) → Agrees sources.entry.files.now sources.entry.absent.now sources.entry.whole files
         → CameText sources.entry.whole (task_text files task.now) result }
+    ensures looked { (files : Files) → Agrees sources.entry.files.now sources.entry.absent.now sources.entry.whole files
+        → sources.entry.whole ≡ false → Walked (first_unknown sources.entry.files.now sources.entry.absent.now (seeking.task_names files task.now)) result }
 {
     match look(sources, &task.input)? {
         Some(content) => {

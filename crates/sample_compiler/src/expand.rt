@@ -1,6 +1,6 @@
 //! The preprocessed text of a file.
 
-ghost use Rattle.std.specs.Prelude.{◌≡◌, ◌++◌, ◌+◌, ◌<◌, ◌≤◌, ◌^◌, length, drop, codes, IfOk};
+ghost use Rattle.std.specs.Prelude.{◌≡◌, ◌++◌, ◌+◌, ◌<◌, ◌≤◌, ◌^◌, length, drop, codes, false, IfOk};
 ghost use Rattle.sample_compiler.specs.Expanding as expanding;
 ghost use Rattle.sample_compiler.specs.Expanding.{expand_lines, expand_line, include, directive, other_directive};
 ghost use Rattle.sample_compiler.specs.Lines.{lines_of};
@@ -8,6 +8,8 @@ ghost use Rattle.sample_compiler.specs.Directives as directives;
 ghost use Rattle.sample_lang.specs.FileMaps.{Files};
 ghost use Rattle.sample_compiler.specs.Lookups.{Agrees};
 ghost use Rattle.sample_compiler.specs.Came.{Came};
+ghost use Rattle.sample_compiler.specs.Seeking as seeking;
+ghost use Rattle.sample_compiler.specs.Seeking.{Walked, first_unknown};
 
 use crate::defines::Define;
 use crate::directive::{define_of, include_of};
@@ -44,8 +46,10 @@ fn include(
     name: &[u8],
     made: &mut Expansion,
 ) -> Result<(), ExpandStop>
-    ensures { (files : Files) → Agrees sources.entry.files.now sources.entry.absent.now sources.entry.whole files
+    ensures came { (files : Files) → Agrees sources.entry.files.now sources.entry.absent.now sources.entry.whole files
         → Came sources.entry.whole (expanding.include files sources.entry.dirs.now room line made.old.defines name.now) made.old.text made.new result }
+    ensures looked { (files : Files) → Agrees sources.entry.files.now sources.entry.absent.now sources.entry.whole files
+        → sources.entry.whole ≡ false → Walked (first_unknown sources.entry.files.now sources.entry.absent.now (seeking.by_include files sources.entry.dirs.now room made.old.defines name.now)) result }
 {
     if room == 0 {
         return Err(ExpandStop::Fault {
@@ -74,8 +78,10 @@ fn take_directive(
     bytes: &[u8],
     made: &mut Expansion,
 ) -> Result<(), ExpandStop>
-    ensures { (files : Files) → Agrees sources.entry.files.now sources.entry.absent.now sources.entry.whole files
+    ensures came { (files : Files) → Agrees sources.entry.files.now sources.entry.absent.now sources.entry.whole files
         → Came sources.entry.whole (directive (expanding.include files sources.entry.dirs.now room) line made.old.defines bytes.now (directives.include_of bytes.now)) made.old.text made.new result }
+    ensures looked { (files : Files) → Agrees sources.entry.files.now sources.entry.absent.now sources.entry.whole files
+        → sources.entry.whole ≡ false → Walked (first_unknown sources.entry.files.now sources.entry.absent.now (seeking.by_directive (seeking.by_include files sources.entry.dirs.now room) made.old.defines (directives.include_of bytes.now))) result }
 {
     if let Some(name) = include_of(bytes) {
         return include(sources, room, line, name, made);
@@ -103,8 +109,10 @@ fn take_line(
     bytes: &[u8],
     made: &mut Expansion,
 ) -> Result<(), ExpandStop>
-    ensures { (files : Files) → Agrees sources.entry.files.now sources.entry.absent.now sources.entry.whole files
+    ensures came { (files : Files) → Agrees sources.entry.files.now sources.entry.absent.now sources.entry.whole files
         → Came sources.entry.whole (expand_line (expanding.include files sources.entry.dirs.now room) line made.old.defines bytes.now) made.old.text made.new result }
+    ensures looked { (files : Files) → Agrees sources.entry.files.now sources.entry.absent.now sources.entry.whole files
+        → sources.entry.whole ≡ false → Walked (first_unknown sources.entry.files.now sources.entry.absent.now (seeking.by_line (seeking.by_include files sources.entry.dirs.now room) made.old.defines bytes.now)) result }
 {
     if bytes.first() == Some(&b'#') {
         return take_directive(sources, room, line, bytes, made);
@@ -122,8 +130,10 @@ pub fn expand(
     text: &[u8],
     made: &mut Expansion,
 ) -> Result<(), ExpandStop>
-    ensures { (files : Files) → Agrees sources.entry.files.now sources.entry.absent.now sources.entry.whole files
+    ensures came { (files : Files) → Agrees sources.entry.files.now sources.entry.absent.now sources.entry.whole files
         → Came sources.entry.whole (expand_lines (expanding.include files sources.entry.dirs.now room) 1 made.old.defines (lines_of text.now)) made.old.text made.new result }
+    ensures looked { (files : Files) → Agrees sources.entry.files.now sources.entry.absent.now sources.entry.whole files
+        → sources.entry.whole ≡ false → Walked (first_unknown sources.entry.files.now sources.entry.absent.now (seeking.by_lines (expanding.include files sources.entry.dirs.now room) (seeking.by_include files sources.entry.dirs.now room) 1 made.old.defines (lines_of text.now))) result }
 {
     let mut rest = text;
     let mut line = 1;

@@ -1,11 +1,15 @@
 //! The files that a command's words look up, fetched from a keeper of files.
 
-ghost use Rattle.std.specs.Prelude.{ℕ, ◌≡◌, false, IsTrue, IfOk, IfErr, IfNone, OnOk};
+ghost use Rattle.std.specs.Prelude.{ℕ, ◌≡◌, ◌||◌, ◌∷◌, [], List, false, IsTrue, IfOk, IfErr, IfNone, OnOk, OnErr};
+ghost use Rattle.std.specs.Str.{bytes_eq};
+ghost use Rattle.edge_traits.specs.Told.{Grew};
 ghost use Rattle.sample_lang.specs.FileMaps.{Files};
 ghost use Rattle.sample_compiler.specs.Lookups.{Agrees};
 ghost use Rattle.sample_compiler.specs.Samples.{task_text};
 ghost use Rattle.edge_traits.specs.Keepers.{IsIdle};
-ghost use Rattle.sample_compiler.specs.Loads.{unstaged, OnlyFetched, LoadCause, SameRuns};
+ghost use Rattle.sample_compiler.specs.Loads.{unstaged, entry_at, entries_at, names_for, FetchedFront, LongNamed, OnlyFetched, LoadCause, SameRuns};
+ghost use Rattle.sample_compiler.specs.Seeking.{asked_names, first_unknown, firsts_after, is_known, task_names};
+ghost use Rattle.sample_compiler.specs.Tasks.{task_of};
 
 use crate::compiler::task_text;
 use crate::lookup::Sources;
@@ -50,8 +54,10 @@ pub struct Known {
 
 // The next name that is looked up and isn't known yet. Without one, all files that are as known make the same text.
 fn next_unknown(alloc: Global, known: &Known, task: &Task) -> Result<Option<Bytes>, AllocError>
-    ensures { IfOk result (λ next. IfNone next ((files : Files) → Agrees known.now.files known.now.absent false files
+    ensures same { IfOk result (λ next. IfNone next ((files : Files) → Agrees known.now.files known.now.absent false files
         → task_text files task.now ≡ task_text known.now.files task.now)) }
+    ensures first { IfOk result (λ next. (files : Files) → Agrees known.now.files known.now.absent false files
+        → first_unknown known.now.files known.now.absent (task_names files task.now) ≡ next) }
 {
     let sources = Sources {
         alloc,
@@ -79,6 +85,12 @@ fn learn<K: Keeper>(
     ensures known { OnOk result (IsTrue (K.shows keeper.new).files.known
         → Agrees known.old.files known.old.absent false (unstaged (K.shows keeper.new).files.value)
         → Agrees known.new.files known.new.absent false (unstaged (K.shows keeper.new).files.value)) }
+    ensures knows { OnOk result ((name : List ℕ) → is_known known.new.files known.new.absent name ≡ (is_known known.old.files known.old.absent name || bytes_eq path name)) }
+    ensures fetched { OnOk result (IsTrue (K.shows keeper.new).files.known
+        → Grew (K.shows keeper.old).fetches (K.shows keeper.new).fetches (entry_at (unstaged (K.shows keeper.new).files.value) path)) }
+    ensures tried { OnErr result (IsTrue (K.shows keeper.new).files.known
+        → FetchedFront (unstaged (K.shows keeper.new).files.value) (path ∷ []) (K.shows keeper.old).fetches (K.shows keeper.new).fetches) }
+    ensures named { IfErr result (LongNamed (K.shows keeper.new) (path ∷ [])) }
     ensures only { OnlyFetched (K.shows keeper.old) (K.shows keeper.new) }
     ensures cause { IfErr result (LoadCause (K.shows keeper.old) (K.shows keeper.new)) }
 {
@@ -106,6 +118,11 @@ fn load_task<K: Keeper>(alloc: Global, task: &Task, keeper: &mut K) -> Result<Fi
     requires { IsIdle (K.shows keeper.old) }
     ensures same { IfOk result (λ files. IsTrue (K.shows keeper.new).files.known
         → task_text (unstaged (K.shows keeper.new).files.value) task.now ≡ task_text files task.now) }
+    ensures fetched { OnOk result (IsTrue (K.shows keeper.new).files.known
+        → Grew (K.shows keeper.old).fetches (K.shows keeper.new).fetches (entries_at (unstaged (K.shows keeper.new).files.value) (firsts_after [] (task_names (unstaged (K.shows keeper.new).files.value) task.now)))) }
+    ensures tried { OnErr result (IsTrue (K.shows keeper.new).files.known
+        → FetchedFront (unstaged (K.shows keeper.new).files.value) (firsts_after [] (task_names (unstaged (K.shows keeper.new).files.value) task.now)) (K.shows keeper.old).fetches (K.shows keeper.new).fetches) }
+    ensures named { IfErr result (LongNamed (K.shows keeper.new) (task_names (unstaged (K.shows keeper.new).files.value) task.now)) }
     ensures only { OnlyFetched (K.shows keeper.old) (K.shows keeper.new) }
     ensures cause { IfErr result (LoadCause (K.shows keeper.old) (K.shows keeper.new)) }
 {
@@ -123,13 +140,18 @@ fn load_task<K: Keeper>(alloc: Global, task: &Task, keeper: &mut K) -> Result<Fi
     Err(LoadFault::Memory)
 }
 
-/// Fetches the files that the compiler looks up for these words, in that order, each once, and no others. A name is left out
+/// Fetches the files that the compiler looks up for these words, in the order in which it looks them up first, each once, and no others. A name is left out
 /// where its fetch answered that it isn't there, and where it ends in `.farm~`, which isn't fetched. So the words leave the
 /// same over these files as over all of the keeper's, but for those names. It puts nothing.
 pub fn load<K: Keeper>(alloc: Global, words: &Words, keeper: &mut K) -> Result<FileMap, LoadFault>
     requires idle { IsIdle (K.shows keeper.old) }
     ensures same { IfOk result (λ files. IsTrue (K.shows keeper.new).files.known
         → SameRuns words.now (unstaged (K.shows keeper.new).files.value) files) }
+    ensures fetched { OnOk result (IsTrue (K.shows keeper.new).files.known
+        → Grew (K.shows keeper.old).fetches (K.shows keeper.new).fetches (entries_at (unstaged (K.shows keeper.new).files.value) (names_for (unstaged (K.shows keeper.new).files.value) words.now))) }
+    ensures tried { OnErr result (IsTrue (K.shows keeper.new).files.known
+        → FetchedFront (unstaged (K.shows keeper.new).files.value) (names_for (unstaged (K.shows keeper.new).files.value) words.now) (K.shows keeper.old).fetches (K.shows keeper.new).fetches) }
+    ensures named { IfErr result (LongNamed (K.shows keeper.new) (asked_names (unstaged (K.shows keeper.new).files.value) (task_of words.now))) }
     ensures only { OnlyFetched (K.shows keeper.old) (K.shows keeper.new) }
     ensures cause { IfErr result (LoadCause (K.shows keeper.old) (K.shows keeper.new)) }
 {

@@ -1,12 +1,14 @@
 //! Where the files of a run are looked up.
 
-ghost use Rattle.std.specs.Prelude.{◌≡◌, ◌++◌, codes, IfOk};
+ghost use Rattle.std.specs.Prelude.{◌≡◌, ◌++◌, ◌∷◌, [], codes, false, IfOk};
 ghost use Rattle.std.specs.Option.{option_copied};
 ghost use Rattle.sample_lang.specs.FileMaps.{Files};
 ghost use Rattle.std.specs.FinMap.{get};
 ghost use Rattle.sample_compiler.specs.Expanding as expanding;
 ghost use Rattle.sample_compiler.specs.Lookups as lookups;
 ghost use Rattle.sample_compiler.specs.Lookups.{Agrees, Looked};
+ghost use Rattle.sample_compiler.specs.Seeking as seeking;
+ghost use Rattle.sample_compiler.specs.Seeking.{Walked, first_unknown};
 
 use crate::stops::ExpandStop;
 use farm_types::Bytes;
@@ -39,8 +41,10 @@ fn is_listed(names: &[Bytes], name: &[u8]) -> bool
 
 /// A file, if it is there. A name of which that isn't known stops the run.
 pub fn look<'a>(sources: Sources<'a>, path: &Bytes) -> Result<Option<&'a Bytes>, ExpandStop>
-    ensures { (files : Files) → Agrees sources.entry.files.now sources.entry.absent.now sources.entry.whole files
+    ensures found { (files : Files) → Agrees sources.entry.files.now sources.entry.absent.now sources.entry.whole files
         → Looked (λ found. option_copied found) sources.entry.whole (get files path.now) result }
+    ensures looked { (files : Files) → Agrees sources.entry.files.now sources.entry.absent.now sources.entry.whole files
+        → sources.entry.whole ≡ false → Walked (first_unknown sources.entry.files.now sources.entry.absent.now (path.now ∷ [])) result }
 {
     if let Some(content) = sources.files.find(path) {
         return Ok(Some(content));
@@ -64,8 +68,10 @@ fn joined(alloc: Global, dir: &Bytes, name: &[u8]) -> Result<Bytes, AllocError>
 
 // The first of the folders' files of this name.
 fn find_in<'a>(sources: Sources<'a>, name: &[u8]) -> Result<Option<&'a Bytes>, ExpandStop>
-    ensures { (files : Files) → Agrees sources.entry.files.now sources.entry.absent.now sources.entry.whole files
+    ensures found { (files : Files) → Agrees sources.entry.files.now sources.entry.absent.now sources.entry.whole files
         → Looked (λ found. option_copied found) sources.entry.whole (expanding.find_in files sources.entry.dirs.now name.now) result }
+    ensures looked { (files : Files) → Agrees sources.entry.files.now sources.entry.absent.now sources.entry.whole files
+        → sources.entry.whole ≡ false → Walked (first_unknown sources.entry.files.now sources.entry.absent.now (seeking.sought_in files sources.entry.dirs.now name.now)) result }
 {
     let mut rest = sources.dirs;
     'seeking: while let [dir, more @ ..] = rest {
@@ -80,8 +86,10 @@ fn find_in<'a>(sources: Sources<'a>, name: &[u8]) -> Result<Option<&'a Bytes>, E
 
 /// An included file.
 pub fn find_file<'a>(sources: Sources<'a>, name: &[u8]) -> Result<Option<&'a Bytes>, ExpandStop>
-    ensures { (files : Files) → Agrees sources.entry.files.now sources.entry.absent.now sources.entry.whole files
+    ensures found { (files : Files) → Agrees sources.entry.files.now sources.entry.absent.now sources.entry.whole files
         → Looked (λ found. option_copied found) sources.entry.whole (expanding.find_file files sources.entry.dirs.now name.now) result }
+    ensures looked { (files : Files) → Agrees sources.entry.files.now sources.entry.absent.now sources.entry.whole files
+        → sources.entry.whole ≡ false → Walked (first_unknown sources.entry.files.now sources.entry.absent.now (seeking.sought files sources.entry.dirs.now name.now)) result }
 {
     let path = Bytes::from_slice(sources.alloc, name)?;
     if let Some(content) = look(sources, &path)? {
