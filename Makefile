@@ -12,6 +12,7 @@ demo:
 test:
 	rt ci
 	tests/interop
+	tests/environment
 	tests/delivery
 	tests/clients
 	tests/hostile
