@@ -69,74 +69,76 @@ fn compare(rt: &impl Abort, ran: &Ran, status: u32, want: (&[u8], &[u8], &[u8]))
     assert_eq!(rt; ran.object.as_slice(), object);
 }
 
+// Words behind the compiler's name, and what they leave: the status, the output, the messages and the object.
+const RUNS: &[(&[&str], u32, (&[u8], &[u8], &[u8]))] = &[
+    (
+        &["-c", "a.c", "-o", "a.o"],
+        0,
+        (b"", b"", b"SCO1\ndef a 1\n"),
+    ),
+    (
+        &["-c", "o.c"],
+        0,
+        (b"", b"", b"SCO1\nneed b\ndef a @b 2 @b + *\n"),
+    ),
+    (&["-S", "s.c"], 0, (b"", b"", b"SCO1\ndef a 5 2 - 1 -\n")),
+    (&["-c", "e.c"], 0, (b"", b"", b"SCO1\n")),
+    (
+        &["-c", "b.i", "-o", "b.o"],
+        256,
+        (b"", b"line 1: unknown name b\n", b""),
+    ),
+    (&["-c", "t.ii"], 256, (b"", b"line 1: bad byte\n", b"")),
+    (&["-E", "t.ii"], 0, (b"", b"", b"")),
+    (&["-E", "x.c"], 0, (b"int a = 3;\n", b"", b"")),
+    (
+        &["-E", "-I", "d", "m.c"],
+        0,
+        (b"N\nint n = 3;\n3\n", b"", b""),
+    ),
+    (&["-E", "m.c"], 256, (b"", b"line 2: no file m.h\n", b"")),
+    (
+        &["-E", "w.c"],
+        0,
+        (b"int x = 3; N+3 NN N1 1N _N\n", b"", b""),
+    ),
+    (
+        &["-E", "-DN=1", "-D", "N=2", "g.c"],
+        0,
+        (b"int a = 2;\n", b"", b""),
+    ),
+    (&["-D", "N", "-c", "g.c"], 0, (b"", b"", b"SCO1\ndef a 1\n")),
+    (&["-DN=", "-E", "g.c"], 0, (b"int a = ;\n", b"", b"")),
+    (&["-E", "-c", "a.h"], 0, (b"int a = 1;\n", b"", b"")),
+    (&["-c", "-E", "a.c"], 0, (b"", b"", b"SCO1\ndef a 1\n")),
+    (&["-c", "k.c"], 256, (b"", b"line 2: no file k.h\n", b"")),
+    (&["-c", "p.c"], 256, (b"", b"line 1: bad directive\n", b"")),
+    (
+        &["-c", "l.c"],
+        256,
+        (b"", b"line 1: includes too deep\n", b""),
+    ),
+    (&["-E", "-Id", "f.c"], 0, (b"int near = 1;\n", b"", b"")),
+    (&["-c", "z.c"], 256, (b"", b"line 0: no file z.c\n", b"")),
+    (
+        &["-O2", "-MD", "-", "-c", "a.c"],
+        0,
+        (b"", b"", b"SCO1\ndef a 1\n"),
+    ),
+    (
+        &["-c", "a.h", "-o", "a.o"],
+        0,
+        (b"", b"", b"SCO1\ndef a 1\n"),
+    ),
+];
+
 #[test]
 fn runs(rt: HostRuntime) -> Result<(), Fail> {
-    let rows: [(&[&str], u32, (&[u8], &[u8], &[u8])); 23] = [
-        (
-            &["-c", "a.c", "-o", "a.o"],
-            0,
-            (b"", b"", b"SCO1\ndef a 1\n"),
-        ),
-        (
-            &["-c", "o.c"],
-            0,
-            (b"", b"", b"SCO1\nneed b\ndef a @b 2 @b + *\n"),
-        ),
-        (&["-S", "s.c"], 0, (b"", b"", b"SCO1\ndef a 5 2 - 1 -\n")),
-        (&["-c", "e.c"], 0, (b"", b"", b"SCO1\n")),
-        (
-            &["-c", "b.i", "-o", "b.o"],
-            256,
-            (b"", b"line 1: unknown name b\n", b""),
-        ),
-        (&["-c", "t.ii"], 256, (b"", b"line 1: bad byte\n", b"")),
-        (&["-E", "t.ii"], 0, (b"", b"", b"")),
-        (&["-E", "x.c"], 0, (b"int a = 3;\n", b"", b"")),
-        (
-            &["-E", "-I", "d", "m.c"],
-            0,
-            (b"N\nint n = 3;\n3\n", b"", b""),
-        ),
-        (&["-E", "m.c"], 256, (b"", b"line 2: no file m.h\n", b"")),
-        (
-            &["-E", "w.c"],
-            0,
-            (b"int x = 3; N+3 NN N1 1N _N\n", b"", b""),
-        ),
-        (
-            &["-E", "-DN=1", "-D", "N=2", "g.c"],
-            0,
-            (b"int a = 2;\n", b"", b""),
-        ),
-        (&["-D", "N", "-c", "g.c"], 0, (b"", b"", b"SCO1\ndef a 1\n")),
-        (&["-DN=", "-E", "g.c"], 0, (b"int a = ;\n", b"", b"")),
-        (&["-E", "-c", "a.h"], 0, (b"int a = 1;\n", b"", b"")),
-        (&["-c", "-E", "a.c"], 0, (b"", b"", b"SCO1\ndef a 1\n")),
-        (&["-c", "k.c"], 256, (b"", b"line 2: no file k.h\n", b"")),
-        (&["-c", "p.c"], 256, (b"", b"line 1: bad directive\n", b"")),
-        (
-            &["-c", "l.c"],
-            256,
-            (b"", b"line 1: includes too deep\n", b""),
-        ),
-        (&["-E", "-Id", "f.c"], 0, (b"int near = 1;\n", b"", b"")),
-        (&["-c", "z.c"], 256, (b"", b"line 0: no file z.c\n", b"")),
-        (
-            &["-O2", "-MD", "-", "-c", "a.c"],
-            0,
-            (b"", b"", b"SCO1\ndef a 1\n"),
-        ),
-        (
-            &["-c", "a.h", "-o", "a.o"],
-            0,
-            (b"", b"", b"SCO1\ndef a 1\n"),
-        ),
-    ];
     let files = files_of(rt.alloc())?;
-    for (list, status, want) in rows {
+    for (list, status, want) in RUNS {
         let words = words_of(rt.alloc(), list)?;
         let ran = compile(rt.alloc(), &files, &words)?;
-        compare(&rt, &ran, status, want);
+        compare(&rt, &ran, *status, *want);
     }
     let words = words_of(rt.alloc(), &["-c", "x.c"])?;
     let ran = preprocess(rt.alloc(), &files, &words)?;
@@ -144,23 +146,24 @@ fn runs(rt: HostRuntime) -> Result<(), Fail> {
     Ok(())
 }
 
+const BAD_WORDS: &[&[&str]] = &[
+    &[],
+    &["a.c"],
+    &["-c"],
+    &["-c", "a.c", "b.c"],
+    &["-c", "a.c", "-o"],
+    &["-c", "a.c", "-o", "x", "-o", "y"],
+    &["-c", "a.h"],
+    &["-c", "a.c", "-o", "x.farm~"],
+    &["-E", "a.c", "-o", "x.farm~"],
+    &["-c", "a.c", "-I"],
+    &["-c", "a.c", "-D"],
+];
+
 #[test]
 fn bad_words(rt: HostRuntime) -> Result<(), Fail> {
-    let rows: [&[&str]; 11] = [
-        &[],
-        &["a.c"],
-        &["-c"],
-        &["-c", "a.c", "b.c"],
-        &["-c", "a.c", "-o"],
-        &["-c", "a.c", "-o", "x", "-o", "y"],
-        &["-c", "a.h"],
-        &["-c", "a.c", "-o", "x.farm~"],
-        &["-E", "a.c", "-o", "x.farm~"],
-        &["-c", "a.c", "-I"],
-        &["-c", "a.c", "-D"],
-    ];
     let files = files_of(rt.alloc())?;
-    for list in rows {
+    for list in BAD_WORDS {
         let words = words_of(rt.alloc(), list)?;
         let ran = compile(rt.alloc(), &files, &words)?;
         compare(&rt, &ran, 512, (b"", b"scc: bad words\n", b""));
