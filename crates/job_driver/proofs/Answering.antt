@@ -1,18 +1,17 @@
 -- What each job's runs left and what its exchanges were given.
-use Rattle.std.proofs.Common.{◌≡◌, inl, inr, ℕ, zero, suc, ◌+◌, ◌<◌, Bool, true, false, cond, List, [], ◌∷◌, ◌++◌, Some, length, map, refl, sym, ap, ◌∙◌, subst, arith}
+use Rattle.std.proofs.Common.{◌≡◌, inl, inr, ℕ, zero, suc, ◌+◌, ◌<◌, Bool, true, false, cond, List, [], ◌∷◌, Some, length, map, refl, sym, ap, ◌∙◌, subst, arith}
 use Rattle.std.specs.Prelude.{All, slice_get}
 use Rattle.std.proofs.lemmas.List.Elements.{All-nil, All-cons}
 use Rattle.std.proofs.lemmas.Bool.{true≢false}
 use Rattle.std.proofs.lemmas.List.Sums.{sum_by-cons}
 use Rattle.std.proofs.lemmas.Option.{slice_get_cases}
 use Rattle.edge_traits.specs.Causes.{Rose, RoseBy}
-use Rattle.edge_traits.specs.Deeds.{ran, fetched, exchanged, put, timed, exchanges_in, MayAll}
 use Rattle.farm_machine.specs.declared.reports.End.{End}
 use Rattle.farm_machine.specs.declared.reports.End.TheVariants.{Done, Failed}
 use Rattle.farm_machine.specs.declared.reports.Why5.TheVariants.{Station, Put, Broke, NoHost, Memory, Fetch}
 use Rattle.farm_machine.specs.declared.reports.Places.{Places}
 use Rattle.farm_machine.specs.declared.reports.Report.{Report}
-use Rattle.farm_machine.specs.Acts.{Act, Did, Met, deeds_of}
+use Rattle.farm_machine.specs.Acts.{Act}
 use Rattle.farm_machine.specs.Honest.{Peers, Programs, AllRan}
 use Rattle.farm_machine.specs.Numbered.{advanced, untimed}
 use Rattle.farm_machine.specs.Own.{DoneJob, Each, IsReported}

@@ -1,6 +1,6 @@
 -- Which jobs find no hosts down.
 use Rattle.std.proofs.Common.{◌≡◌, ℕ, true, false, List, [], ◌∷◌, ◌++◌, Option, refl, subst}
-use Rattle.std.specs.Prelude.{◌≢◌, All}
+use Rattle.std.specs.Prelude.{◌≢◌}
 use Rattle.std.proofs.lemmas.List.Elements.{All-head, All-tail}
 use Rattle.slot_table.specs.declared.calls.CallEntry.{CallEntry}
 use Rattle.slot_table.specs.declared.calls.SlotCall.{SlotCall}
