@@ -37,7 +37,8 @@ def rehearsed(usual):
             return USUAL
         if seen.returncode == 105 and usual.startswith(seen.stdout) and b"farm: no memory\n".startswith(seen.stderr):
             return WANTING
-        return OWN if seen.returncode == 1 and b"error:" in seen.stderr.lower() else None
+        words_lost = seen.returncode == 101 and seen.stderr == b"farm: bad words at word 0\n"
+        return OWN if words_lost or seen.returncode == 1 and b"error:" in seen.stderr.lower() else None
 
     return end
 
