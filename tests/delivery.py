@@ -8,12 +8,12 @@ import re
 import resource
 import shutil
 import signal
-import socket
 import subprocess
 import sys
 import tempfile
-import threading
 import time
+
+from hosts import read_request, reply_head, start_host
 
 FARM = os.environ["FARM"]
 MIB = 1048576
@@ -26,56 +26,14 @@ def expect(name, holds, seen=""):
         print(f"FAIL {name} {seen}")
 
 
-def token(name, number):
-    return b"%s%08x" % (name, number)
-
-
-def read_exactly(link, count):
-    parts = []
-    while count:
-        part = link.recv(min(count, 1 << 16))
-        if not part:
-            raise EOFError
-        parts.append(part)
-        count -= len(part)
-    return b"".join(parts)
-
-
-def read_field(link):
-    head = read_exactly(link, 12)
-    return head[:4], int(head[4:], 16)
-
-
 def serve(link):
     """Reads one request, and answers the object that its source asks for."""
-    with link:
-        try:
-            read_field(link)
-            _, count = read_field(link)
-            for _ in range(count):
-                _, length = read_field(link)
-                read_exactly(link, length)
-            _, length = read_field(link)
-            source = read_exactly(link, length).split()
-            size, letter = int(source[0]), source[1]
-            link.sendall(token(b"DONE", 1) + token(b"STAT", 0) + token(b"SERR", 0) + token(b"SOUT", 0) + token(b"DOTO", size))
-            piece = letter * 65536
-            while size:
-                size -= link.send(piece[: min(size, len(piece))])
-        except (OSError, EOFError, ValueError, IndexError):
-            pass
-
-
-def start_host():
-    door = socket.create_server(("127.0.0.1", 0))
-
-    def accept():
-        while True:
-            link, _ = door.accept()
-            threading.Thread(target=serve, args=(link,), daemon=True).start()
-
-    threading.Thread(target=accept, daemon=True).start()
-    return door.getsockname()[1]
+    source = read_request(link).split()
+    size, letter = int(source[0]), source[1]
+    link.sendall(reply_head(size))
+    piece = letter * 65536
+    while size:
+        size -= link.send(piece[: min(size, len(piece))])
 
 
 def start_farm(folder, job, **more):
@@ -213,7 +171,7 @@ def other_outputs(folder):
     expect("nothing is left", not leftovers(folder))
 
 
-PORT = start_host()
+PORT = start_host(serve)
 work = tempfile.mkdtemp()
 try:
     os.environ["TMPDIR"] = work

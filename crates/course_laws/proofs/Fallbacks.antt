@@ -14,7 +14,7 @@ use Rattle.farm_machine.specs.Course.{At, Start, LentInPlace, RanInPlace, Send, 
 use Rattle.course_laws.specs.Laws.{FallbackLaw, is_own_end}
 
 -- no host is the cause of the end, where this is one
-abbrev is_own : At → Bool
+abbrev pub is_own : At → Bool
 is_own (Over end) = is_own_end end
 is_own at = true
 
@@ -31,6 +31,25 @@ own-preprocessed r = go (nat_eq r.status 0)
     go : (b : Bool) → is_own (cond b (Send r.out r.err []) (Over (Done r.status [] r.err [] Cpp))) ≡ true
     go true = refl
     go false = refl
+
+own-as : (end other : End) → end ≡ other → is_own_end other ≡ true → is_own_end end ≡ true
+own-as end other e own = ap is_own_end e ∙ own
+
+pub own-end : (j : Job) (at : At) (end : End) → Ends j at end → is_own at ≡ true → is_own_end end ≡ true
+own-end j Start end h own =
+    elim h [
+      | inl e ↦ own-as end (Failed Memory) e refl
+      | inr other ↦ elim other [ inl f ↦ own-as end (Failed Fetch) f.2 refl | inr s ↦ own-as end (Failed Station) s.2 refl ]
+    ]
+own-end j (Send source note tried) end h own = own-as end (Failed Memory) h refl
+own-end j (Locally source note) end h own = own-as end (Failed Memory) h refl
+own-end j (Finish by note o) end h own =
+    elim h [
+      | inl zero_ ↦ elim zero_.1 [ inl e ↦ own-as end (Failed Memory) e refl | inr e ↦ own-as end (Failed NotPut) e refl ]
+      | inr done ↦ own-as end (Done o.status note o.err o.out by) done.1 refl
+    ]
+own-end j (Over e) end h own = own-as end e h own
+own-end j at end h own = absurd h
 
 module _ (j : Job) (fallback : j.config.fallback ≡ true) where
   own-or_here : (source note : List ℕ) (end : End) → is_own (or_here j source note end) ≡ true
@@ -81,27 +100,8 @@ module _ (j : Job) (fallback : j.config.fallback ≡ true) where
   own-next (Finish by note o) c (Did (put x)) h = own-at c (Over (Done 0 note o.err o.out by)) h.3 refl
   own-next at c a h = absurd h
 
-  own-as : (end other : End) → end ≡ other → is_own_end other ≡ true → is_own_end end ≡ true
-  own-as end other e own = ap is_own_end e ∙ own
-
-  own-end : (at : At) (end : End) → Ends j at end → is_own at ≡ true → is_own_end end ≡ true
-  own-end Start end h own =
-      elim h [
-        | inl e ↦ own-as end (Failed Memory) e refl
-        | inr other ↦ elim other [ inl f ↦ own-as end (Failed Fetch) f.2 refl | inr s ↦ own-as end (Failed Station) s.2 refl ]
-      ]
-  own-end (Send source note tried) end h own = own-as end (Failed Memory) h refl
-  own-end (Locally source note) end h own = own-as end (Failed Memory) h refl
-  own-end (Finish by note o) end h own =
-      elim h [
-        | inl zero_ ↦ elim zero_.1 [ inl e ↦ own-as end (Failed Memory) e refl | inr e ↦ own-as end (Failed NotPut) e refl ]
-        | inr done ↦ own-as end (Done o.status note o.err o.out by) done.1 refl
-      ]
-  own-end (Over e) end h own = own-as end e h own
-  own-end at end h own = absurd h
-
   own-from : (acts : List Act) (at : At) (end : End) → is_own at ≡ true → From j at acts end → is_own_end end ≡ true
-  own-from [] at end own ends = own-end at end ends own
+  own-from [] at end own ends = own-end j at end ends own
   own-from (a ∷ acts) at end own (c, next, from) = own-from acts c end (own-next at c a next) from
 
 pub own : FallbackLaw

@@ -1,9 +1,10 @@
 -- What a compiler may answer, and what jobs put over honest peers.
-use Rattle.std.specs.Prelude.{◌≡◌, ◌⊎◌, ℕ, true, List, [], ◌∷◌, ◌++◌}
+use Rattle.std.specs.Prelude.{◌≡◌, ◌⊎◌, ℕ, true, IsTrue, List, [], ◌∷◌, ◌++◌}
 use Rattle.farm_types.specs.declared.ran.Outcome.{Outcome}
 use Rattle.edge_traits.specs.declared.entries.Exchange.{Exchange}
 use Rattle.edge_traits.specs.declared.entries.Put.{Put}
 use Rattle.edge_traits.specs.Deeds.{exchanged, put}
+use Rattle.edge_traits.specs.Kits.{KitView}
 use Rattle.farm_machine.specs.declared.reports.By.TheVariants.{Remote, Here}
 use Rattle.farm_machine.specs.declared.reports.End.{End}
 use Rattle.farm_machine.specs.declared.reports.End.TheVariants.{Done}
@@ -69,3 +70,8 @@ AreHonestFor peers programs j = (IsHonest peers programs × (j.config.fallback �
 abbrev pub EndAnswerLaw : Peers → Programs → Type 0
 EndAnswerLaw peers programs = (j : Job) (acts : List Act) (end : End)
     → AreHonestFor peers programs j → AllGiven peers acts → AllRan programs acts → Course j acts end → IsAnswered programs j acts end
+
+-- Where the exchanges are told and a host's failure is compiled here once more over honest peers, or over fully honest ones: a job that was
+-- compiled ends with an outcome that a compiler may answer.
+abbrev pub AnswersBy : Peers → Programs → KitView → Job → List Act → End → Type 0
+AnswersBy peers programs kit job acts end = IsTrue kit.dialer.exchanges.known → AreHonestFor peers programs job → IsAnswered programs job acts end

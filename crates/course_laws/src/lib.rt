@@ -3,6 +3,7 @@
 
 ghost use Rattle.course_laws.specs.Answers.{EndAnswerLaw, PutAnswerLaw, WholeAnswerLaw};
 ghost use Rattle.course_laws.specs.Laws.{DownLaw, FallbackLaw, LengthLaw, OrderLaw, PutLaw, UntimedLaw};
+ghost use Rattle.course_laws.specs.Returns.{OwnEndLaw, UnbrokenLaw};
 ghost use Rattle.farm_machine.specs.Numbered.{NumberedLaw};
 ghost use Rattle.farm_machine.specs.Table.{MemoryLaw, TableLaw};
 
@@ -53,6 +54,14 @@ pub fn length_law()
 /// a fetch or a put of its own failed.
 pub fn fallback_law()
     ensures { FallbackLaw }
+{}
+
+/// A job that no host fails is done, or memory was wanting, where its station and keeper did nothing wrong. And where none of its
+/// exchanges broke a job leaves no host alone, and no host is the cause of its end unless it finds all hosts down before it took a
+/// slot of one: so with fallback off, too.
+pub fn return_law()
+    ensures own { OwnEndLaw }
+    ensures unbroken { UnbrokenLaw }
 {}
 
 /// Over honest peers, what a host answers whole with status 0 is what a compiler of this station may answer to the

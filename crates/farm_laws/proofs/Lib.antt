@@ -8,3 +8,4 @@ pub mod Below
 pub mod Grants
 pub mod Kept
 pub mod Farms
+pub mod Up

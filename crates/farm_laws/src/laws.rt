@@ -2,6 +2,7 @@
 ghost use Rattle.farm_machine.specs.Farm.{AllBackLaw, KeptLaw, PrefixLaw, RunLaw, WeaveLaw};
 ghost use Rattle.farm_machine.specs.Reading.{ReadingLaw};
 ghost use Rattle.farm_machine.specs.Weave.{CallersLaw, NothingLostLaw, UnreadLaw};
+ghost use Rattle.farm_laws.specs.Laws.{UpLaw};
 
 /// The farm machine: after every list of steps that it may make, and so at every front of one, the calls are
 /// a legal history, the jobs drawn are those begun or returned, a worker has at most one begun job, a begun
@@ -32,4 +33,10 @@ pub fn callers_law()
 pub fn unread_law()
     ensures alike { UnreadLaw }
     ensures read { ReadingLaw }
+{}
+
+/// Hosts are found down only after one of them was left alone, or by a job that took one before: where there is a host, and no
+/// job leaves one alone or asks for another after it took one, no job finds them down.
+pub fn up_law()
+    ensures { UpLaw }
 {}

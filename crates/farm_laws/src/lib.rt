@@ -3,4 +3,4 @@
 
 mod laws;
 
-pub use laws::{callers_law, machine_law, unread_law, weave_law};
+pub use laws::{callers_law, machine_law, unread_law, up_law, weave_law};

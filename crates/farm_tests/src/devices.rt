@@ -162,7 +162,8 @@ pub(crate) fn standing_clock(alloc: Global) -> MemClock {
     MemClock::new(Moments::new(alloc))
 }
 
-fn kit(alloc: Global, script: &Script) -> Result<MemKit, AllocError>
+/// One kit of a script.
+pub(crate) fn kit(alloc: Global, script: &Script) -> Result<MemKit, AllocError>
     ensures { IfOk result (λ kit. IsIdle (keeper_shows (keeper_state kit.keeper))) }
 {
     Ok(Kit {

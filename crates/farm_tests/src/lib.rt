@@ -6,6 +6,8 @@ mod devices;
 #[cfg(test)]
 mod faults;
 #[cfg(test)]
+mod files;
+#[cfg(test)]
 mod gates;
 #[cfg(test)]
 mod jobs;

@@ -1,80 +1,34 @@
 -- What each job's runs left and what its exchanges were given.
-use Rattle.std.proofs.Common.{◌≡◌, inl, inr, ℕ, zero, suc, ◌+◌, ◌<◌, Bool, true, false, cond, List, [], ◌∷◌, ◌++◌, Some, length, map, refl, sym, ap, ◌∙◌, subst, arith}
+use Rattle.std.proofs.Common.{◌≡◌, inl, inr, ℕ, zero, suc, ◌+◌, ◌<◌, Bool, true, false, cond, List, [], ◌∷◌, Some, length, map, refl, sym, ap, ◌∙◌, subst, arith}
 use Rattle.std.specs.Prelude.{All, slice_get}
 use Rattle.std.proofs.lemmas.List.Elements.{All-nil, All-cons}
 use Rattle.std.proofs.lemmas.Bool.{true≢false}
 use Rattle.std.proofs.lemmas.List.Sums.{sum_by-cons}
 use Rattle.std.proofs.lemmas.Option.{slice_get_cases}
 use Rattle.edge_traits.specs.Causes.{Rose, RoseBy}
-use Rattle.edge_traits.specs.Deeds.{ran, fetched, exchanged, put, timed, exchanges_in, MayAll}
 use Rattle.farm_machine.specs.declared.reports.End.{End}
 use Rattle.farm_machine.specs.declared.reports.End.TheVariants.{Done, Failed}
 use Rattle.farm_machine.specs.declared.reports.Why5.TheVariants.{Station, Put, Broke, NoHost, Memory, Fetch}
 use Rattle.farm_machine.specs.declared.reports.Places.{Places}
 use Rattle.farm_machine.specs.declared.reports.Report.{Report}
-use Rattle.farm_machine.specs.Acts.{Act, Did, Met, deeds_of}
+use Rattle.farm_machine.specs.Acts.{Act}
 use Rattle.farm_machine.specs.Honest.{Peers, Programs, AllRan}
 use Rattle.farm_machine.specs.Numbered.{advanced, untimed}
 use Rattle.farm_machine.specs.Own.{DoneJob, Each, IsReported}
 use Rattle.farm_machine.specs.Weave.{Reports}
 use Rattle.course_laws.specs.Answers.{AllGiven}
 use Rattle.course_laws.specs.Laws.{is_own_end}
-use Rattle.job_driver.specs.Driven.{is_done_or_wanted}
+use Rattle.course_laws.specs.Returns.{is_done_or_wanted}
+use Rattle.course_laws.proofs.Given.{given-split, ran-split}
 use Rattle.job_driver.specs.Works.{untimed_job, all_acts, AreReportsOf, RoseTogether, ends_so, is_station_failure, is_keeper_failure}
-
-pub given-acts : (peers : Peers) (acts : List Act) → MayAll peers (exchanges_in (deeds_of acts)) → AllGiven peers acts
-given-acts peers [] may = tt
-given-acts peers (Did (ran x) ∷ acts) may = given-acts peers acts may
-given-acts peers (Did (fetched x) ∷ acts) may = given-acts peers acts may
-given-acts peers (Did (exchanged x) ∷ acts) may = (may.0, given-acts peers acts may.1)
-given-acts peers (Did (put x) ∷ acts) may = given-acts peers acts may
-given-acts peers (Did (timed moment) ∷ acts) may = given-acts peers acts may
-given-acts peers (Met x ∷ acts) may = given-acts peers acts may
-
-given-split : (peers : Peers) (acts more : List Act) → AllGiven peers (acts ++ more) → AllGiven peers (untimed acts) × AllGiven peers more
-given-split peers [] more all = (tt, all)
-given-split peers (Did (ran x) ∷ acts) more all = given-split peers acts more all
-given-split peers (Did (fetched x) ∷ acts) more all = given-split peers acts more all
-given-split peers (Did (exchanged x) ∷ acts) more all = let rest = given-split peers acts more all.1 in ((all.0, rest.0), rest.1)
-given-split peers (Did (put x) ∷ acts) more all = given-split peers acts more all
-given-split peers (Did (timed moment) ∷ acts) more all = given-split peers acts more all
-given-split peers (Met x ∷ acts) more all = given-split peers acts more all
 
 pub given-each : (peers : Peers) (done : List DoneJob) → AllGiven peers (all_acts done) → Each (λ job. AllGiven peers (untimed job.acts)) done
 given-each peers [] all = tt
 given-each peers (job ∷ done) all = let parts = given-split peers job.acts (all_acts done) all in (parts.0, given-each peers done parts.1)
 
-ran-split : (programs : Programs) (acts more : List Act) → AllRan programs (acts ++ more) → AllRan programs (untimed acts) × AllRan programs more
-ran-split programs [] more all = (tt, all)
-ran-split programs (Did (ran x) ∷ acts) more all = let rest = ran-split programs acts more all.1 in ((all.0, rest.0), rest.1)
-ran-split programs (Did (fetched x) ∷ acts) more all = ran-split programs acts more all
-ran-split programs (Did (exchanged x) ∷ acts) more all = ran-split programs acts more all
-ran-split programs (Did (put x) ∷ acts) more all = ran-split programs acts more all
-ran-split programs (Did (timed moment) ∷ acts) more all = ran-split programs acts more all
-ran-split programs (Met x ∷ acts) more all = ran-split programs acts more all
-
 pub ran-each : (programs : Programs) (done : List DoneJob) → AllRan programs (all_acts done) → Each (λ job. AllRan programs (untimed job.acts)) done
 ran-each programs [] all = tt
 ran-each programs (job ∷ done) all = let parts = ran-split programs job.acts (all_acts done) all in (parts.0, ran-each programs done parts.1)
-
--- what holds of the acts of a front of the acts
-pub given-front : (peers : Peers) (acts more : List Act) → AllGiven peers (acts ++ more) → AllGiven peers acts
-given-front peers [] more all = tt
-given-front peers (Did (ran x) ∷ acts) more all = given-front peers acts more all
-given-front peers (Did (fetched x) ∷ acts) more all = given-front peers acts more all
-given-front peers (Did (exchanged x) ∷ acts) more all = (all.0, given-front peers acts more all.1)
-given-front peers (Did (put x) ∷ acts) more all = given-front peers acts more all
-given-front peers (Did (timed moment) ∷ acts) more all = given-front peers acts more all
-given-front peers (Met x ∷ acts) more all = given-front peers acts more all
-
-pub ran-front : (programs : Programs) (acts more : List Act) → AllRan programs (acts ++ more) → AllRan programs acts
-ran-front programs [] more all = tt
-ran-front programs (Did (ran x) ∷ acts) more all = (all.0, ran-front programs acts more all.1)
-ran-front programs (Did (fetched x) ∷ acts) more all = ran-front programs acts more all
-ran-front programs (Did (exchanged x) ∷ acts) more all = ran-front programs acts more all
-ran-front programs (Did (put x) ∷ acts) more all = ran-front programs acts more all
-ran-front programs (Did (timed moment) ∷ acts) more all = ran-front programs acts more all
-ran-front programs (Met x ∷ acts) more all = ran-front programs acts more all
 
 -- what holds of the acts and the end of each job of a worker holds of those that are read for its reports
 pub reports-each : (P : List Act → End → Type 0) (w : ℕ) (read : Reports) (done : List DoneJob) (at : Places) (rs : List Report)

@@ -41,17 +41,22 @@ use Rattle.worker_laws.proofs.Reported.{workers-run}
 use Rattle.job_run.proofs.Lists.{moments-append}
 use Rattle.job_driver.specs.Jobs.{job_at}
 use Rattle.job_driver.specs.Works.{untimed_job, all_acts, AreReportsOf, WorkedOff, AreCaused, ends_so, is_station_failure, is_keeper_failure}
-use Rattle.course_laws.specs.Answers.{AllGiven}
+use Rattle.course_laws.specs.Answers.{AllGiven, AnswersBy}
+use Rattle.course_laws.specs.Laws.{is_own_end}
+use Rattle.course_laws.specs.Returns.{IsCalm, is_done_or_wanted, NoneBroke, IsUnbroken}
 use Rattle.course_laws.proofs.Compilers.{put-answer, end-answer}
 use Rattle.course_laws.proofs.Fallbacks.{own as never-by-host}
-use Rattle.job_driver.specs.Driven.{Devices, reports_by, events_of, no_entries, HasAnswers, AnswersBy, IsCalm, is_done_or_wanted, KitDid, JobsRan}
+use Rattle.course_laws.proofs.Given.{given-acts, given-front, ran-front}
+use Rattle.course_laws.proofs.Unbroken.{unbroken-law}
+use Rattle.farm_laws.proofs.Up.{up-law}
+use Rattle.job_driver.specs.Driven.{Devices, reports_by, events_of, no_entries, HasAnswers, KitDid, JobsRan}
 use Rattle.job_driver.proofs.Working.{numbers_of}
 use Rattle.job_driver.proofs.Drawing.{drawn-append}
 use Rattle.job_driver.proofs.Stepping.{numbers-drawn}
 use Rattle.job_driver.proofs.Sorting.{SameSums, up-same, up-range, up-from, sum-below}
 use Rattle.job_driver.proofs.Joining.{Joins, drawn-sums}
 use Rattle.job_driver.proofs.Rising.{Rise, rise-range, rise-drawn, Has, same-reports, rise-by, has-at, has-each, own-by, by-own}
-use Rattle.job_driver.proofs.Answering.{given-acts, given-each, given-front, ran-each, ran-front, reports-each, calm-each, none-together, returned-well, some-at}
+use Rattle.job_driver.proofs.Answering.{given-each, ran-each, reports-each, calm-each, none-together, returned-well, some-at}
 use Rattle.job_driver.proofs.ReportReading.{reads-each, events-numbered, by-worker}
 
 -- a worker with the jobs that it did
@@ -269,10 +274,11 @@ module _ {K : Type 0} (d : Devices K) (l : Limits 16) (words : List (List (List 
             let f = facts i inside in
             ran-each (d.programs (V i)) (done i) (subst (λ (ds : List DoneJob). AllRan (d.programs (V i)) (all_acts ds)) f.1 f.0.works.ran)
 
-    returns-each : (j : ℕ) → j < l.jobs → (jobs j).config.fallback ≡ true → IsCalm (d.shows (V (run.reports.worker j))) (d.shows (N (run.reports.worker j))) → is_done_or_wanted (run.reports.ends j) ≡ true
-    returns-each j below fallback calm =
+    -- a job that no host fails
+    well-each : (j : ℕ) → j < l.jobs → is_own_end (run.reports.ends j) ≡ true → IsCalm (d.shows (V (run.reports.worker j))) (d.shows (N (run.reports.worker j))) → is_done_or_wanted (run.reports.ends j) ≡ true
+    well-each j below own calm =
         let stands = told-each (λ i acts end. IsCalm (d.shows (V i)) (d.shows (N i)) → (is_station_failure end ≡ false) × (is_keeper_failure end ≡ false)) theirs j below calm in
-        returned-well (run.reports.ends j) (never-by-host (jobs j) (run.reports.acts j) (run.reports.ends j) (run.courses j below) fallback) stands.0 stands.1
+        returned-well (run.reports.ends j) own stands.0 stands.1
       where
         theirs : (i : ℕ) → i < n → Each (λ job. IsCalm (d.shows (V i)) (d.shows (N i)) → (is_station_failure job.end ≡ false) × (is_keeper_failure job.end ≡ false)) (done i)
         theirs i inside =
@@ -287,6 +293,13 @@ module _ {K : Type 0} (d : Devices K) (l : Limits 16) (words : List (List (List 
                 → Each (λ job. IsCalm (d.shows (V i)) (d.shows (N i)) → (is_station_failure job.end ≡ false) × (is_keeper_failure job.end ≡ false)) ds
             both [] s k = tt
             both (job ∷ ds) s k = (λ calm. ((s calm).0, (k calm).0), both ds (λ calm. (s calm).1) (λ calm. (k calm).1))
+
+    own-each : (j : ℕ) → j < l.jobs → 0 < l.count → ((i : ℕ) → i < l.jobs → NoneBroke (jobs i) (run.reports.acts i)) → is_own_end (run.reports.ends j) ≡ true
+    own-each j below some none =
+        (unbroken j below).own (up-law 16 l run.reports H some run.agrees (λ i inside. (unbroken i inside).asks) j below)
+      where
+        unbroken : (i : ℕ) → i < l.jobs → IsUnbroken (run.reports.acts i) (run.reports.ends i)
+        unbroken i inside = unbroken-law (jobs i) (run.reports.acts i) (run.reports.ends i) (run.courses i inside) (none i inside)
 
     answers-each : (j : ℕ) → j < l.jobs → HasAnswers (d.peers (V (run.reports.worker j))) (d.programs (V (run.reports.worker j))) (d.shows (N (run.reports.worker j))) (jobs j) (run.reports.acts j)
     answers-each j below before rest x known honest is =
@@ -339,7 +352,10 @@ module _ {K : Type 0} (d : Devices K) (l : Limits 16) (words : List (List (List 
               (subst (λ (x : K). AnswersBy (d.peers (V (run.reports.worker j))) (d.programs (V (run.reports.worker j))) (d.shows x) (jobs j) (run.reports.acts j) (run.reports.ends j)) (sym k.1) (answered-each j below));
           returns = λ j other below fallback calm.
               let k = kits (run.reports.worker j) other (run.workers j below) in
-              returns-each j below fallback (subst (λ (x : K). IsCalm (d.shows x) (d.shows (N (run.reports.worker j)))) k.0 (subst (λ (x : K). IsCalm (d.shows (get_or old (run.reports.worker j) other)) (d.shows x)) k.1 calm));
+              well-each j below (never-by-host (jobs j) (run.reports.acts j) (run.reports.ends j) (run.courses j below) fallback) (subst (λ (x : K). IsCalm (d.shows x) (d.shows (N (run.reports.worker j)))) k.0 (subst (λ (x : K). IsCalm (d.shows (get_or old (run.reports.worker j) other)) (d.shows x)) k.1 calm));
+          returns_unbroken = λ j other below some none calm.
+              let k = kits (run.reports.worker j) other (run.workers j below) in
+              well-each j below (own-each j below some none) (subst (λ (x : K). IsCalm (d.shows x) (d.shows (N (run.reports.worker j)))) k.0 (subst (λ (x : K). IsCalm (d.shows (get_or old (run.reports.worker j) other)) (d.shows x)) k.1 calm));
           kits = λ i other below.
               let k = kits i other below in
               subst (λ (x : K). KitDid d config.period i sorted (entries i) (calls_by i H) x (get_or new i other)) (sym k.0)

@@ -1,12 +1,11 @@
 -- What all workers did: reports that, with the history of the slots, are a run of the farm.
-use Rattle.std.specs.Prelude.{◌≡◌, ℕ, ◌<◌, ◌≤◌, Bool, true, false, IsTrue, List, [], ◌∷◌, ◌++◌, length, filter, nat_eq, slice_index, slice_index_or}
+use Rattle.std.specs.Prelude.{◌≡◌, ℕ, ◌<◌, ◌≤◌, true, IsTrue, List, [], ◌∷◌, ◌++◌, length, filter, nat_eq, slice_index, slice_index_or}
 use Rattle.std.specs.List.{flat_map}
 use Rattle.slot_table.specs.declared.limits.Limits.{Limits}
 use Rattle.slot_table.specs.declared.state.SlotState.{SlotState}
 use Rattle.slot_table.specs.declared.calls.CallEntry.{CallEntry}
 use Rattle.slot_table.specs.History.{outstanding, state_after, calls_by}
 use Rattle.edge_traits.specs.declared.kit.Kit.{Kit}
-use Rattle.edge_traits.specs.Causes.{Rose}
 use Rattle.edge_traits.specs.Clocks.{ClockView}
 use Rattle.edge_traits.specs.Dialers.{DialerView}
 use Rattle.edge_traits.specs.Keepers.{KeeperView, IsIdle}
@@ -15,9 +14,6 @@ use Rattle.edge_traits.specs.Deeds.{exchanges_in, moments_in, put, DidIn, MayAll
 use Rattle.edge_traits.specs.Kits.{KitView, kit_view}
 use Rattle.edge_traits.specs.Told.{SameRelation, SameRelation3}
 use Rattle.farm_machine.specs.declared.reports.Event.{Event}
-use Rattle.farm_machine.specs.declared.reports.End.{End}
-use Rattle.farm_machine.specs.declared.reports.End.TheVariants.{Done, Failed}
-use Rattle.farm_machine.specs.declared.reports.Why5.TheVariants.{Memory}
 use Rattle.farm_machine.specs.declared.reports.Report.{Report}
 use Rattle.edge_traits.specs.declared.entries.Put.{Put}
 use Rattle.farm_machine.specs.Acts.{Act, Did, Entries, deeds_of}
@@ -31,7 +27,10 @@ use Rattle.farm_machine.specs.Moments.{AreMoments}
 use Rattle.farm_machine.specs.Numbered.{numbered, no_places, added}
 use Rattle.farm_machine.specs.Reading.{AreRead}
 use Rattle.farm_machine.specs.Weave.{Reports, Agrees, weave}
-use Rattle.course_laws.specs.Answers.{AllGiven, IsAnswer, IsAnswered, AreHonestFor}
+use Rattle.course_laws.specs.Answers.{AllGiven, IsAnswer}
+pub use Rattle.course_laws.specs.Answers.{AnswersBy}
+use Rattle.course_laws.specs.Returns.{NoneBroke}
+pub use Rattle.course_laws.specs.Returns.{IsCalm, is_done_or_wanted}
 use Rattle.job_driver.specs.Works.{AreCaused}
 
 -- what is seen of kits: what they tell, what their peers may give, and what their programs may leave
@@ -79,30 +78,12 @@ abbrev pub HasAnswers : Peers → Programs → KitView → Job → List Act → 
 HasAnswers peers programs kit job acts = (before rest : List Act) (x : Put) → IsTrue kit.dialer.exchanges.known → IsHonest peers programs
     → acts ≡ before ++ Did (put x) ∷ rest → IsAnswer programs job before x
 
--- Where the exchanges are told and a host's failure is compiled here once more over honest peers, or over fully honest ones: a job that was
--- compiled ends with an outcome that a compiler may answer.
-abbrev pub AnswersBy : Peers → Programs → KitView → Job → List Act → End → Type 0
-AnswersBy peers programs kit job acts end = IsTrue kit.dialer.exchanges.known → AreHonestFor peers programs job → IsAnswered programs job acts end
-
--- no run, fetch or put of the kit failed, and none was too large
-pub record IsCalm (old new : KitView) : Type 0 where
-  pub station : ¬ (Rose old.station.faults new.station.faults)
-  pub station_overruns : ¬ (Rose old.station.overruns new.station.overruns)
-  pub keeper : ¬ (Rose old.keeper.faults new.keeper.faults)
-  pub keeper_overruns : ¬ (Rose old.keeper.overruns new.keeper.overruns)
-
--- a job was done, or memory was wanting
-abbrev pub is_done_or_wanted : End → Bool
-is_done_or_wanted (Done status note err out by) = true
-is_done_or_wanted (Failed Memory) = true
-is_done_or_wanted end = false
-
 -- All jobs were done by this many workers, one for each of the first kits. There is one report for each job, in the order of the jobs. Read
 -- by the workers' entries the reports are courses of their jobs, the calls of the one history of the slots agree with them, and what is woven
 -- of both is a run of the farm. At its end each job was drawn, each slot is back, and none is held. What the job's exchanges were given and
 -- its runs left is what the peers and programs of its worker's kit may give and leave; so over honest peers its object is one that a compiler
 -- may answer. With fallback on a job whose worker's station and keeper did nothing wrong is done, or memory was wanting, whatever dialers,
--- links and hosts do.
+-- links and hosts do. So it is with fallback off where there is a host and no exchange of the run broke: then no host is ever left alone.
 pub record JobsRan {K : Type 0} (d : Devices K) (l : Limits 16) (jobs : ℕ → Job) (period workers : ℕ) (reports : List Report) (history : List CallEntry) (last : SlotState 16) (old new : List K) : Type 0 where
   pub entries : ℕ → Entries
   pub read : Reports
@@ -126,6 +107,8 @@ pub record JobsRan {K : Type 0} (d : Devices K) (l : Limits 16) (jobs : ℕ → 
       → AnswersBy (d.peers (slice_index_or old (read.worker j) other)) (d.programs (slice_index_or old (read.worker j) other))
       (d.shows (slice_index_or new (read.worker j) other)) (jobs j) (read.acts j) (read.ends j)
   pub returns : (j : ℕ) (other : K) → j < l.jobs → (jobs j).config.fallback ≡ true
+      → IsCalm (d.shows (slice_index_or old (read.worker j) other)) (d.shows (slice_index_or new (read.worker j) other)) → is_done_or_wanted (read.ends j) ≡ true
+  pub returns_unbroken : (j : ℕ) (other : K) → j < l.jobs → 0 < l.count → ((i : ℕ) → i < l.jobs → NoneBroke (jobs i) (read.acts i))
       → IsCalm (d.shows (slice_index_or old (read.worker j) other)) (d.shows (slice_index_or new (read.worker j) other)) → is_done_or_wanted (read.ends j) ≡ true
   pub kits : (worker : ℕ) (other : K) → worker < workers
       → KitDid d period worker reports (entries worker) (calls_by worker history) (slice_index_or old worker other) (slice_index_or new worker other)

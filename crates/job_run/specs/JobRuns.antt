@@ -1,7 +1,8 @@
 -- A job that ran over a kit and the slots that it was granted.
-use Rattle.std.specs.Prelude.{◌≡◌, ℕ, ◌≤◌, IsTrue, List, [], ◌++◌}
+use Rattle.std.specs.Prelude.{◌≡◌, ◌≢◌, ℕ, ◌≤◌, true, IsTrue, List, [], ◌++◌, All}
 use Rattle.slot_table.specs.declared.limits.Limits.{Limits}
 use Rattle.slot_table.specs.declared.calls.CallEntry.{CallEntry}
+use Rattle.slot_table.specs.declared.calls.SlotReply.TheVariants.{Down}
 use Rattle.edge_traits.specs.Kits.{KitView}
 use Rattle.edge_traits.specs.Deeds.{exchanges_in, moments_in, DidIn, MayAll}
 use Rattle.farm_machine.specs.declared.reports.Event.{Event}
@@ -16,11 +17,19 @@ use Rattle.farm_machine.specs.Jobs.{Job}
 use Rattle.farm_machine.specs.Moments.{AreMoments}
 use Rattle.farm_machine.specs.Numbered.{numbered, advanced, untimed}
 use Rattle.farm_machine.specs.Own.{Serves}
+use Rattle.course_laws.specs.Answers.{AnswersBy}
+use Rattle.course_laws.specs.Returns.{IsCalm, is_done_or_wanted, NoneBroke}
+
+-- no call was answered that all hosts are down
+abbrev pub NoneIsDown : List CallEntry → Type 0
+NoneIsDown calls = All (λ e. e.reply ≢ Down) calls
 
 -- All that the job did, looks at the clock included, is one list of acts. Its deeds are the new entries of the kit's lists; its events name
 -- them, numbered on from the places, which have grown by them; without looks at the clock it is a course, with this end. Its slot events are
 -- the new calls on the slots, with the refused takes before each, and the moments that these calls name are those that the clock gave. A
 -- failure of a device goes with a rise of that device's count, and where the job didn't end by a failed run no count of the station rose. Peers gave what peers may give, and programs left what programs may leave.
+-- Where station and keeper did nothing wrong the job is done, or memory was wanting, if fallback is on, or if none of its exchanges broke and
+-- it found no hosts down. Over honest peers a job that was compiled ends with an outcome that a compiler may answer.
 pub record JobRan {h : ℕ} (peers : Peers) (programs : Programs) (j : Job) (l : Limits h) (caller number : ℕ) (at next : Places) (events : List Event) (end : End) (mine_old mine_new : List CallEntry) (old new : KitView) : Type 0 where
   pub acts : List Act
   pub calls : List CallEntry
@@ -36,6 +45,9 @@ pub record JobRan {h : ℕ} (peers : Peers) (programs : Programs) (j : Job) (l :
   pub later : KitLater old new
   pub may : IsTrue new.dialer.exchanges.known → MayAll peers (exchanges_in (deeds_of acts))
   pub ran : AllRan programs acts
+  pub returns : j.config.fallback ≡ true → IsCalm old new → is_done_or_wanted end ≡ true
+  pub returns_unbroken : NoneIsDown calls → NoneBroke j (untimed acts) → IsCalm old new → is_done_or_wanted end ≡ true
+  pub answered : AnswersBy peers programs new j (untimed acts) end
 
 -- each next place is so small that a job's events can't pass the greatest
 pub record AreSmall (at : Places) : Type 0 where

@@ -1,0 +1,156 @@
+//! Twelve jobs over devices in memory.
+
+ghost use Rattle.std.specs.Prelude.{◌≤◌, length, All, IfOk};
+ghost use Rattle.edge_traits.specs.Keepers.{IsIdle};
+ghost use Rattle.object_delivery.specs.ScriptedFiles.{files_state, files_shows};
+ghost use Rattle.object_delivery.specs.Staging.{keeper_view};
+
+use crate::judging::{JOBS, Verdict, objects, printed};
+use edge_memory::{
+    LinkScript, LinkScripts, MemClock, MemDialer, MemSink, MemSource, MemStation, Moments, Moves,
+    RanList,
+};
+use edge_traits::{CallNumbers, FileList, Kit};
+use farm_program::{Ended, farm};
+use farm_types::Bytes;
+use object_delivery::{FileKeeper, MemFiles};
+use std::alloc::{AllocError, Global};
+use std::sync::Wait;
+use std::thread::Threads;
+
+type FileKit = Kit<MemDialer, MemStation, FileKeeper<MemFiles>, MemClock>;
+
+const REPLY: &[u8] = b"DONE00000001STAT00000000SERR00000000SOUT00000000DOTO0000000dSCO1\ndef a 1\n";
+
+const WORDS: [&str; 5] = ["build", "--hosts", "H:3632/4 localhost/2", "--workers", "4"];
+
+// Each of twelve jobs has an object of its own name.
+fn job_list(alloc: Global) -> Result<Bytes, AllocError> {
+    let mut text = Bytes::new(alloc);
+    for number in 1..=JOBS {
+        let line = format!(in alloc; "scc -I. -DN=3 -O2 -MD -c f{number}.c -o f{number}.o\n")?;
+        text.try_extend(line.as_bytes())?;
+    }
+    Ok(text)
+}
+
+fn moves(alloc: Global) -> Moves {
+    Moves {
+        fails: CallNumbers::new(alloc),
+        zeros: CallNumbers::new(alloc),
+        most: 4_096,
+    }
+}
+
+// Twelve links that answer the object.
+fn links(alloc: Global) -> Result<LinkScripts, AllocError> {
+    let mut links = LinkScripts::new(alloc);
+    for _ in 0..JOBS {
+        links.try_push(LinkScript {
+            gives: Bytes::from_slice(alloc, REPLY)?,
+            moves: moves(alloc),
+        })?;
+    }
+    Ok(links)
+}
+
+fn kit(alloc: Global) -> Result<FileKit, AllocError>
+    ensures { IfOk result (λ kit. IsIdle (keeper_view (files_shows (files_state kit.keeper.files)) kit.keeper.pending)) }
+{
+    let files = MemFiles::new(FileList::new(alloc), CallNumbers::new(alloc), 4_096);
+    Ok(Kit {
+        dialer: MemDialer::new(links(alloc)?, CallNumbers::new(alloc)),
+        station: MemStation::new(RanList::new(alloc), CallNumbers::new(alloc)),
+        keeper: FileKeeper::new(files),
+        clock: MemClock::new(Moments::new(alloc)),
+    })
+}
+
+// One kit, or four of them.
+fn kits(alloc: Global, four: bool) -> Result<Vec<FileKit>, AllocError>
+    ensures some { IfOk result (λ kits. 1 ≤ length kits.items) }
+    ensures most { IfOk result (λ kits. length kits.items ≤ 16) }
+    ensures idle { IfOk result (λ kits. All (λ kit. IsIdle (keeper_view (files_shows (files_state kit.keeper.files)) kit.keeper.pending)) kits.items) }
+{
+    let mut kits = Vec::new(alloc);
+    kits.push(kit(alloc)?)?;
+    if four {
+        kits.push(kit(alloc)?)?;
+        kits.push(kit(alloc)?)?;
+        kits.push(kit(alloc)?)?;
+    }
+    Ok(kits)
+}
+
+// Whether every slot is back.
+fn is_all_back(ended: &Ended) -> bool {
+    match ended.built.as_slice().first() {
+        Some(built) => built.last.state.local_held == 0 && built.last.state.held == [0; 16],
+        None => true,
+    }
+}
+
+// How many objects were put, where each is whole and nothing is left of a put.
+fn all_objects(alloc: Global, kits: Vec<FileKit>) -> Result<Option<u32>, AllocError> {
+    let mut whole: u32 = 0;
+    for kit in kits {
+        match objects(alloc, &mut kit.keeper.into_files())? {
+            Some(more) => whole = whole.saturating_add(more),
+            None => return Ok(None),
+        }
+    }
+    Ok(Some(whole))
+}
+
+// How a run ended that answered this, printed so, and put so many objects.
+fn judge(status: u8, out: &[u8], err: &[u8], whole: u32) -> Verdict {
+    let Some(seen) = std::str::from_utf8(out).ok().and_then(printed) else {
+        return Verdict::Wrong("a line is none of this run");
+    };
+    if status == 0 && seen.total && seen.ok == JOBS && whole == JOBS && err.is_empty() {
+        return Verdict::Usual;
+    }
+    if status != 105 {
+        return Verdict::Wrong("the status is none of this run");
+    }
+    if !seen.total && !err.starts_with(b"farm: no") {
+        return Verdict::Wrong("the lines end without a word");
+    }
+    if whole < seen.ok || seen.total && whole != seen.ok {
+        return Verdict::Wrong("an object is missing, or one too many");
+    }
+    Verdict::Wanting
+}
+
+/// Does twelve jobs, by one worker or by four.
+pub fn twelve_jobs<W: Threads + Wait + Sync>(
+    rt: &W,
+    alloc: Global,
+    four: bool,
+) -> Result<Verdict, AllocError> {
+    let mut words = Vec::new(alloc);
+    for word in WORDS {
+        words.push(String::from_str(alloc, word)?)?;
+    }
+    let mut input = MemSource::new(job_list(alloc)?, CallNumbers::new(alloc), 4_096);
+    let mut kits = kits(alloc, four)?;
+    let mut out = MemSink::new(alloc, moves(alloc));
+    let mut err = MemSink::new(alloc, moves(alloc));
+    let ended = farm(
+        rt,
+        alloc,
+        words.as_slice(),
+        &[],
+        &mut input,
+        &mut kits,
+        &mut out,
+        &mut err,
+    );
+    if !is_all_back(&ended) {
+        return Ok(Verdict::Wrong("a slot isn't back"));
+    }
+    match all_objects(alloc, kits)? {
+        Some(whole) => Ok(judge(ended.status, out.written(), err.written(), whole)),
+        None => Ok(Verdict::Wrong("a put is there in part")),
+    }
+}

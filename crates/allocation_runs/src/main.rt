@@ -1,0 +1,53 @@
+//! Runs over devices in memory, in which a test has one allocation after another refused. The argument names the run: `one` and `four` are
+//! twelve jobs by one worker and by four, `daemon` is a whole request of the daemon.
+//!
+//! It ends with 0 and prints nothing where the run ended as usual, and with 105 where memory was wanting and it ended as it may then. Where
+//! it ended otherwise it ends with 0, too, and prints how, so that a refused allocation shows as other output with the same status.
+#![tactic(auto)]
+
+mod building;
+mod judging;
+mod serving;
+
+use judging::Verdict;
+use std::env;
+use std::process::ExitCode;
+use std::sync::Wait;
+use std::thread::Threads;
+
+/// The status of a run in which memory was wanting.
+const WANTING: u8 = 105;
+
+/// The status of a command line that names no run.
+const BAD_WORDS: u8 = 101;
+
+// Does the run of this name, where there is one. It may wait for a slot.
+fn run<W: Threads + Wait + Sync>(
+    waits: &W,
+    rt: &HostRuntime,
+    name: &str,
+) -> anyhow::Result<Option<Verdict>> {
+    let alloc = rt.alloc();
+    match name {
+        "one" => Ok(Some(building::twelve_jobs(waits, alloc, false)?)),
+        "four" => Ok(Some(building::twelve_jobs(waits, alloc, true)?)),
+        "daemon" => Ok(Some(serving::one_request(waits, alloc)?)),
+        _ => Ok(None),
+    }
+}
+
+fn main(rt: HostRuntime) -> anyhow::Result<ExitCode> {
+    let mut words = env::args(&rt)?.skip(1);
+    let Some(name) = words.next() else {
+        return Ok(ExitCode::from(BAD_WORDS));
+    };
+    match run(&rt, &rt, name.as_str())? {
+        Some(Verdict::Usual) => Ok(ExitCode::SUCCESS),
+        Some(Verdict::Wanting) => Ok(ExitCode::from(WANTING)),
+        Some(Verdict::Wrong(why)) => {
+            println!(rt; "wrong: {why}")?;
+            Ok(ExitCode::SUCCESS)
+        }
+        None => Ok(ExitCode::from(BAD_WORDS)),
+    }
+}

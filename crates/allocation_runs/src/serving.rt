@@ -1,0 +1,100 @@
+//! A whole request of the daemon over devices in memory.
+
+use crate::judging::Verdict;
+use daemon_program::farmd;
+use daemon_worker::DoorKit;
+use edge_memory::{LinkScript, LinkScripts, MemDoor, MemSink, MemStation, Moves, Peers, RanList};
+use edge_traits::CallNumbers;
+use farm_types::Bytes;
+use std::alloc::{AllocError, Global};
+use std::thread::Threads;
+
+const WORDS: [&str; 6] = ["--compiler", "scc=scc", "--jobs", "1", "--serve", "1"];
+
+const REQUEST: &[u8] =
+    b"DIST00000001ARGC00000005ARGV00000003sccARGV00000002-cARGV00000003a.iARGV00000002-oARGV00000003a.oDOTI0000000bint a = 1;\n";
+
+const REPLY: &[u8] = b"DONE00000001STAT00000000SERR00000000SOUT00000000DOTO00000000";
+
+const ANSWERED: &[u8] = b"door 1 conn 1 answered 00000000\n";
+
+const WANTED: &[u8] = b"door 1 conn 1 no memory\n";
+
+const NOTICE: &[u8] = b"farmd: no memory\n";
+
+fn moves(alloc: Global) -> Moves {
+    Moves {
+        fails: CallNumbers::new(alloc),
+        zeros: CallNumbers::new(alloc),
+        most: 50,
+    }
+}
+
+fn door(alloc: Global) -> Result<MemDoor, AllocError> {
+    let mut links = LinkScripts::new(alloc);
+    links.try_push(LinkScript {
+        gives: Bytes::from_slice(alloc, REQUEST)?,
+        moves: moves(alloc),
+    })?;
+    Ok(MemDoor::new(alloc, links, Peers::new(alloc), CallNumbers::new(alloc)))
+}
+
+// Where memory was wanting it was in the connection or at the door, and the line says so; or outside, and a notice stands behind what
+// was printed before, which is none of the line here.
+fn is_wanting(status: u8, out: &[u8]) -> bool {
+    match status {
+        0 => out == WANTED,
+        105 => out == WANTED || NOTICE.starts_with(out),
+        _ => false,
+    }
+}
+
+// How a run ended that answered this, printed so, and sent so much to its peer.
+fn judge(status: u8, out: &[u8], sent: &[u8]) -> Verdict {
+    if !sent.is_empty() && sent != REPLY {
+        return Verdict::Wrong("the reply is none of this run");
+    }
+    if status == 0 && out == ANSWERED {
+        return if sent == REPLY {
+            Verdict::Usual
+        } else {
+            Verdict::Wrong("the reply wasn't sent")
+        };
+    }
+    if out == WANTED && !sent.is_empty() {
+        return Verdict::Wrong("a reply was sent, and memory wanting");
+    }
+    if is_wanting(status, out) {
+        return Verdict::Wanting;
+    }
+    Verdict::Wrong("what is printed is none of this run")
+}
+
+/// Serves one whole request.
+pub fn one_request<W: Threads + Sync>(rt: &W, alloc: Global) -> Result<Verdict, AllocError> {
+    let mut words = Vec::new(alloc);
+    for word in WORDS {
+        words.push(String::from_str(alloc, word)?)?;
+    }
+    let mut doors = Vec::new(alloc);
+    doors.push(DoorKit {
+        door: door(alloc)?,
+        station: MemStation::new(RanList::new(alloc), CallNumbers::new(alloc)),
+    })?;
+    let mut out = MemSink::new(
+        alloc,
+        Moves {
+            most: 4_096,
+            ..moves(alloc)
+        },
+    );
+    let status = farmd(rt, alloc, words.as_slice(), &mut doors, &mut out);
+    let visit = match doors.pop() {
+        Some(kit) => kit.door.into_visits().take_last(),
+        None => None,
+    };
+    match visit {
+        Some(visit) => Ok(judge(status, out.written(), visit.sent.as_slice())),
+        None => Ok(judge(status, out.written(), b"")),
+    }
+}

@@ -1,0 +1,289 @@
+"""Faults of a real machine: each leaves every named file old or whole, and is told.
+
+A source is a number and a letter, as `65536 B`: its object has so many bytes of this letter, whoever compiles it. FARM names the program.
+"""
+import os
+import random
+import re
+import resource
+import shutil
+import signal
+import socket
+import struct
+import subprocess
+import sys
+import tempfile
+import threading
+import time
+
+from hosts import read_request, reply_head, start_host
+
+FARM = os.environ["FARM"]
+PAGE = 4096
+SIZE = 16 * PAGE
+MIB = 1 << 20
+JOBS = 30
+KILLS = int(os.environ.get("KILLS", "200"))
+TENTHS = range(11)
+NOBODY = 65534
+COMPILER = """#!/bin/sh
+read -r size letter <"$2"
+head -c "$size" /dev/zero | tr '\\0' "$letter" >"$4"
+"""
+failures = []
+
+
+def expect(name, holds, seen=""):
+    if not holds:
+        failures.append(name)
+        print(f"FAIL {name} {seen}")
+
+
+def write(path, text):
+    with open(path, "w") as file:
+        file.write(text)
+
+
+def content(path):
+    """The letter of a file that is whole, and its length; None where it is in part or of two letters."""
+    with open(path, "rb") as file:
+        data = file.read()
+    return (chr(data[0]), len(data)) if data and data == data[:1] * len(data) else None
+
+
+def leftovers(folder):
+    return [name for name in os.listdir(folder) if name.endswith(".farm~")]
+
+
+def object_of(source):
+    size, letter = source.split()
+    return letter * int(size)
+
+
+# hosts
+
+def answer(link):
+    made = object_of(read_request(link))
+    link.sendall(reply_head(len(made)) + made)
+
+
+def hang(link):
+    made = object_of(read_request(link))
+    time.sleep(1)
+    link.sendall(reply_head(len(made)) + made)
+
+
+def reset_after(tenths):
+    """A host that resets the link after so many tenths of its reply."""
+
+    def serve(link):
+        made = object_of(read_request(link))
+        reply = reply_head(len(made)) + made
+        link.sendall(reply[: len(reply) * tenths // 10])
+        time.sleep(0.05)
+        link.setsockopt(socket.SOL_SOCKET, socket.SO_LINGER, struct.pack("ii", 1, 0))
+
+    return serve
+
+
+# runs of farm
+
+def start_farm(folder, jobs, port, *words, **more):
+    streams = {"stdout": subprocess.PIPE, "stderr": subprocess.STDOUT, **more}
+    child = subprocess.Popen([FARM, "build", "--hosts", f"127.0.0.1:{port}/4", *words], cwd=folder, stdin=subprocess.PIPE, **streams)
+    child.stdin.write(jobs.encode())
+    child.stdin.close()
+    return child
+
+
+def run_farm(folder, jobs, port, *words, **more):
+    child = start_farm(folder, jobs, port, *words, **more)
+    text = child.stdout.read().decode() if child.stdout else ""
+    return child.wait(), text
+
+
+def job(output, source="x.i"):
+    return f"./cc -c {source} -o {output}\n"
+
+
+def line(port, text):
+    return f"1 {text.replace('HOST', f'127.0.0.1:{port}')}\ntotal 1 ok {int('stat 00000000' in text)}\n"
+
+
+def make_folder(folder):
+    write(f"{folder}/cc", COMPILER)
+    os.chmod(f"{folder}/cc", 0o755)
+    write(f"{folder}/x.i", f"{SIZE} N\n")
+    write(f"{folder}/small.i", "1 S\n")
+    for number in range(JOBS):
+        write(f"{folder}/k{number}.i", f"{MIB} N\n")
+
+
+# faults of the disk
+
+def not_put(name, folder, seen, put=False):
+    """The object wasn't put: the old file is there, and nothing else. Where it fits it was."""
+    status, text = seen
+    if put:
+        expect(name, status == 0 and content(f"{folder}/x.o") == ("N", SIZE), seen)
+    else:
+        expect(name, status == 107 and text == line(PORT, "failed put"), seen)
+        expect(f"{name} leaves the output", content(f"{folder}/x.o") == ("o", 4))
+    expect(f"{name} leaves nothing else", not leftovers(folder), leftovers(folder))
+
+
+def full_disk(folder):
+    """The disk has room for each number of pages of the object."""
+    small = f"{folder}/disk"
+    os.mkdir(small)
+    for pages in range(1, SIZE // PAGE + 3):
+        words = ["mount", "-t", "tmpfs", "-o", f"size={pages * PAGE}", "tmpfs", small]
+        if subprocess.run(words, capture_output=True).returncode != 0:
+            print("a full disk: skipped, since nothing can be mounted here")
+            return
+        try:
+            write(f"{small}/x.o", "oooo")
+            not_put(f"a disk of {pages} pages", small, run_farm(folder, job("disk/x.o"), PORT, "--no-fallback"), pages * PAGE > SIZE)
+        finally:
+            subprocess.run(["umount", small])
+
+
+def limited(folder):
+    """A file may grow to each number of bytes."""
+    for most in [*range(0, SIZE, 1021), SIZE - 1, SIZE]:
+        def limit():
+            signal.signal(signal.SIGXFSZ, signal.SIG_IGN)
+            resource.setrlimit(resource.RLIMIT_FSIZE, (most, most))
+
+        write(f"{folder}/x.o", "oooo")
+        not_put(f"a limit of {most} bytes", folder, run_farm(folder, job("x.o"), PORT, "--no-fallback", preexec_fn=limit), most == SIZE)
+
+
+def unwritable(folder):
+    """The output's folder isn't the user's to write."""
+    place = f"{folder}/place"
+    os.mkdir(place)
+    write(f"{place}/x.o", "oooo")
+    os.chmod(place, 0o555)
+    os.chmod(folder, 0o755)
+
+    def leave():
+        if os.getuid() == 0:
+            os.setgroups([])
+            os.setgid(NOBODY)
+            os.setuid(NOBODY)
+
+    try:
+        not_put("a folder that isn't writable", place, run_farm(folder, job("place/x.o"), PORT, "--no-fallback", preexec_fn=leave))
+    except PermissionError:
+        print("a folder that isn't writable: skipped, since another user can't run the program here")
+    os.chmod(place, 0o755)
+
+
+# faults of the output
+
+def unprinted(folder):
+    """The report can't be printed: the status says so, and the object is there."""
+    write(f"{folder}/x.o", "oooo")
+    with open("/dev/full", "w") as full:
+        status, _ = run_farm(folder, job("x.o"), PORT, "--no-fallback", stdout=full)
+    expect("a full output", status == 100 and content(f"{folder}/x.o") == ("N", SIZE), status)
+    status, _ = run_farm(folder, job("small.o", "small.i"), PORT, "--no-fallback", stdout=None, stderr=None, preexec_fn=lambda: os.close(1))
+    expect("a closed output", status == 100 and content(f"{folder}/small.o") == ("S", 1), status)
+    ends, starts = os.pipe()
+    os.close(ends)
+    status, _ = run_farm(folder, job("x.o"), PORT, "--no-fallback", stdout=starts, stderr=None)
+    os.close(starts)
+    expect("an output that no one reads", status == 100, status)
+
+
+# kills
+
+def killed(folder):
+    jobs = "".join(job(f"k{number}.o", f"k{number}.i") for number in range(JOBS))
+    begun = time.monotonic()
+    status, text = run_farm(folder, jobs, PORT, "--workers", "4", "--no-fallback")
+    length = time.monotonic() - begun
+    expect("a build of thirty objects", status == 0, text)
+    left = whole = 0
+    for _ in range(KILLS):
+        for number in range(JOBS):
+            write(f"{folder}/k{number}.o", "oooo")
+        child = start_farm(folder, jobs, PORT, "--workers", "4", "--no-fallback")
+        time.sleep(random.uniform(0, length))
+        child.kill()
+        child.stdout.read()
+        child.wait()
+        for number in range(JOBS):
+            seen = content(f"{folder}/k{number}.o")
+            expect("a killed farm leaves each output old or whole", seen in (("o", 4), ("N", MIB)), (number, seen))
+            whole += seen == ("N", MIB)
+        left += len(leftovers(folder))
+        for name in leftovers(folder):
+            expect("what is left has a name of its own", re.fullmatch(r"farm-\d+-\d+\.farm~", name), name)
+            os.remove(f"{folder}/{name}")
+    status, text = run_farm(folder, jobs, PORT, "--workers", "4", "--no-fallback")
+    expect("a run after killed ones", status == 0 and all(content(f"{folder}/k{number}.o") == ("N", MIB) for number in range(JOBS)), text)
+    print(f"killed {KILLS} times in {length:.2f} s: {whole} objects were whole, {left} files were left")
+
+
+# faults of hosts
+
+def resets(folder):
+    for tenths in TENTHS:
+        port = start_host(reset_after(tenths))
+        write(f"{folder}/x.o", "oooo")
+        seen = run_farm(folder, job("x.o"), port, "--no-fallback")
+        if tenths == 10:
+            expect("a reset behind the reply", seen == (0, line(port, "remote HOST stat 00000000")), seen)
+            continue
+        expect(f"a reset after {tenths} tenths", seen == (107, line(port, "failed HOST recv")), seen)
+        expect(f"a reset after {tenths} tenths leaves the output", content(f"{folder}/x.o") == ("o", 4) and not leftovers(folder))
+        seen = run_farm(folder, job("x.o"), port)
+        expect(f"a reset after {tenths} tenths is made good here", seen == (0, line(port, "here stat 00000000")), seen)
+        expect(f"a reset after {tenths} tenths, and the object", content(f"{folder}/x.o") == ("N", SIZE) and not leftovers(folder))
+
+
+def hangs(folder):
+    port = start_host(hang)
+    write(f"{folder}/x.o", "oooo")
+    seen = run_farm(folder, job("x.o"), port, "--no-fallback")
+    expect("a host that hangs for a second", seen == (0, line(port, "remote HOST stat 00000000")), seen)
+    expect("a host that hangs, and the object", content(f"{folder}/x.o") == ("N", SIZE))
+
+
+def killed_host(folder):
+    """A host that is killed while it answers: the job is compiled here."""
+    door = socket.create_server(("127.0.0.1", 0))
+    port = door.getsockname()[1]
+    host = os.fork()
+    if host == 0:
+        link, _ = door.accept()
+        made = object_of(read_request(link))
+        link.sendall(reply_head(len(made)) + made[: SIZE // 2])
+        time.sleep(600)
+        os._exit(0)
+    door.close()
+    write(f"{folder}/x.o", "oooo")
+    child = start_farm(folder, job("x.o"), port)
+    threading.Timer(0.5, os.kill, (host, signal.SIGKILL)).start()
+    text = child.stdout.read().decode()
+    os.waitpid(host, 0)
+    seen = (child.wait(), text)
+    expect("a host that is killed", seen == (0, line(port, "here stat 00000000")), seen)
+    expect("a host that is killed, and the object", content(f"{folder}/x.o") == ("N", SIZE) and not leftovers(folder))
+    seen = run_farm(folder, job("x.o"), port, "--no-fallback")
+    expect("a host that is gone", seen == (103, line(port, "failed HOST dial")), seen)
+
+
+PORT = start_host(answer)
+work = tempfile.mkdtemp()
+try:
+    os.environ["TMPDIR"] = work
+    make_folder(work)
+    for check in (full_disk, limited, unwritable, unprinted, killed, resets, hangs, killed_host):
+        check(work)
+finally:
+    shutil.rmtree(work, ignore_errors=True)
+print(f"tests/faults: {len(failures)} failed")
+sys.exit(1 if failures else 0)
