@@ -1,0 +1,4 @@
+pub mod Devices
+pub mod Counts
+pub mod Rehearsals
+pub mod Loops
