@@ -21,18 +21,22 @@ abbrev pub RehearsalKit : Type 0
 RehearsalKit = Kit (LoopDialer SampleStation) StillStation StillKeeper MemClock
 
 -- what each kit's keeper was given, and nothing behind the last kit
-abbrev pub puts_in : Option RehearsalKit → List Put
-puts_in (Some kit) = kit.keeper.puts
-puts_in None = []
+abbrev pub puts_at : Option RehearsalKit → List Put
+puts_at (Some kit) = kit.keeper.puts
+puts_at None = []
 
 abbrev pub puts_of : List RehearsalKit → ℕ → List Put
-puts_of kits worker = puts_in (slice_get kits worker)
+puts_of kits worker = puts_at (slice_get kits worker)
 
--- the place of a put that is the last of some events
+-- the place of a put that an event names
+abbrev pub put_place : Event → Option ℕ
+put_place (PutAt at) = Some at
+put_place event = None
+
+-- and the last of some events
 abbrev pub last_put : List Event → Option ℕ
 last_put [] = None
-last_put (PutAt at ∷ []) = Some at
-last_put (event ∷ []) = None
+last_put (event ∷ []) = put_place event
 last_put (event ∷ next ∷ events) = last_put (next ∷ events)
 
 abbrev pub len_at : List Put → Option ℕ → ℕ

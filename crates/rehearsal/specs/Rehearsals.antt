@@ -71,7 +71,7 @@ object_len ran = if ended_well ran then length ran.object else 0
 
 -- a job was done with the status and the messages of this run
 abbrev pub EndsAs : End → Ran → Type 0
-EndsAs (Done status note err out by) ran = (status ≡ ran.status) × (note ≡ []) × (err ≡ ran.err) × (out ≡ ran.out)
+EndsAs (Done status note err out by) ran = (status ≡ ran.status) × (err ≡ ran.err) × (out ≡ ran.out)
 EndsAs (Failed why) ran = ⊥
 
 -- All jobs were done, each as the compiler leaves it. The one number is how many of them have status 0, among the compiler's runs as among the

@@ -7,11 +7,13 @@ use crate::Count;
 use crate::config::rehearsal_config;
 use crate::count::count;
 use crate::kits::kits;
+use course_laws::put_law;
 use job_driver::{Built, build};
 use std::alloc::{AllocError, Global};
 use std::sync::Wait;
 use std::thread::Threads;
 use workload::make;
+use workload_runs::runs_of_jobs;
 
 /// The most workers of a rehearsal.
 const WORKERS_MAX: u32 = 4;
@@ -36,6 +38,8 @@ pub fn rehearse<R: Threads + Wait + Sync>(
     requires most { n ≤ 512 }
     ensures { IfOk result (λ done. IsRehearsal n done.built done.count) }
 {
+    put_law();
+    runs_of_jobs();
     let jobs = make(alloc, n)?.jobs;
     let config = rehearsal_config(alloc)?;
     let workers = n.min(WORKERS_MAX);

@@ -1,0 +1,6 @@
+mod Compiled
+mod Putting
+mod Looping
+mod OneJob
+mod Reporting
+mod Counting
