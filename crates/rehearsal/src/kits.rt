@@ -18,8 +18,8 @@ use workload::make;
 /// A kit of a rehearsal: a loop over the sample compiler, the sample compiler, a keeper in memory, and a clock that stands.
 pub type RehearsalKit = Kit<LoopDialer<SampleStation>, StillStation, StillKeeper, MemClock>;
 
-// The table of the loops, which names the sample compiler.
-fn table(alloc: Global) -> Result<Compilers, AllocError>
+/// The table of a loop, which names the sample compiler `scc`.
+pub fn compiler_table(alloc: Global) -> Result<Compilers, AllocError>
     ensures { IfOk result (λ table. AreOwnNames table.rows) }
 {
     let name = Bytes::from_slice(alloc, b"scc")?;
@@ -38,7 +38,7 @@ fn kit(alloc: Global, n: u32) -> Result<RehearsalKit, AllocError>
     let there = SampleStation::new(make(alloc, n)?.files);
     let here = StillStation::new(make(alloc, n)?.files);
     Ok(Kit {
-        dialer: LoopDialer::new(there, table(alloc)?),
+        dialer: LoopDialer::new(there, compiler_table(alloc)?),
         station: here,
         keeper: StillKeeper::new(alloc),
         clock: MemClock::new(Moments::new(alloc)),

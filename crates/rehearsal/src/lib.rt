@@ -11,7 +11,7 @@ mod station;
 
 pub use count::Count;
 pub use keeper::StillKeeper;
-pub use kits::RehearsalKit;
+pub use kits::{RehearsalKit, compiler_table};
 pub use laws::loops_answer_as_the_compiler;
 pub use rehearse::{Rehearsed, rehearse};
 pub use station::StillStation;
