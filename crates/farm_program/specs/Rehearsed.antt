@@ -1,7 +1,7 @@
 -- What `rehearse` does.
 use Rattle.std.specs.Prelude.{◌≡◌, ℕ, List, [], ◌∷◌, Option, Some, None}
 use Rattle.job_driver.specs.declared.driver.Built.{Built}
-use Rattle.rehearsal.specs.declared.count.Count.{Count}
+use Rattle.rehearsal.specs.declared.numbers.Count.{Count}
 use Rattle.rehearsal.specs.Rehearsals.{IsRehearsal}
 use Rattle.stream_print.specs.Prints.{SinksView}
 use Rattle.stream_print.specs.Ends.{Ends, WantOf}

@@ -14,7 +14,7 @@ use Rattle.job_driver.specs.Driven.{is_done_or_wanted}
 use Rattle.report_text.specs.Pieces.{is_done_well}
 use Rattle.sample_compiler.specs.Samples.{SampleOf}
 use Rattle.workload.specs.Loads.{job_words, files_of}
-use Rattle.rehearsal.specs.declared.count.Count.{Count}
+use Rattle.rehearsal.specs.declared.numbers.Count.{Count}
 use Rattle.rehearsal.specs.Counts.{object_len as report_len, IsDone, CountsDone}
 use Rattle.rehearsal.specs.Rehearsals.{ended_well, object_len, EndsAs, AreLeft, AreCounted, SomeWanted, Tells}
 use Rattle.rehearsal.proofs.Reporting.{Counted, TellsOf}
@@ -52,7 +52,6 @@ collect n puts from (report ∷ reports) all =
 
 module _ (n : ℕ) (puts : ℕ → List Put) (reports : List Report) (one_each : length reports ≡ n)
     (told : (j : ℕ) (report : Report) → j < n → slice_get reports j ≡ Some report → TellsOf n (j + 1) puts report) where
-
   within : (j : ℕ) (report : Report) → slice_get reports j ≡ Some report → j < n
   within j report there = subst (λ k. j < k) one_each (slice_get_within reports j report there)
 

@@ -4,3 +4,4 @@ mod Looping
 mod OneJob
 mod Reporting
 mod Counting
+mod Rehearsing

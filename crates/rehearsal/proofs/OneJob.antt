@@ -25,7 +25,7 @@ use Rattle.sample_compiler.specs.Stations.{StationRan}
 use Rattle.workload.specs.Loads.{job_words, files_of}
 use Rattle.workload_runs.specs.Laws.{text_of_job, SentLaw, PreprocessedLaw, CompiledLaw}
 use Rattle.rehearsal.specs.Counts.{last_put, len_at}
-use Rattle.rehearsal.specs.Devices.{put_len}
+use Rattle.rehearsal.specs.Puts.{put_len}
 use Rattle.rehearsal.specs.Rehearsals.{ended_well, object_len, EndsAs}
 use Rattle.rehearsal.proofs.Compiled.{is_compiled, has_source, compiled-from}
 use Rattle.rehearsal.proofs.Looping.{whole-object}
@@ -122,7 +122,6 @@ found-among a (b ∷ acts) (inr later) = let is = found-among a acts later in re
 
 module _ (puts : PutLaw) (n job : ℕ) (j : Job) (es : Entries) (events : List Event) (acts : List Act) (reads : ReadsAll es events acts)
     (status : ℕ) (note err out : List ℕ) (by : _) (course : Course j acts (Done status note err out by)) (is : IsLeft n job acts status err out) where
-
   good-len : is.left.status ≡ 0 → len_at es.puts (last_put events) ≡ length is.left.object
   good-len good =
       let x = is.object (is.status_is ∙ good) in

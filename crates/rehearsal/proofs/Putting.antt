@@ -1,5 +1,5 @@
 -- The put of a job, as its report's events name it.
-use Rattle.std.proofs.Common.{◌≡◌, ℕ, List, [], ◌∷◌, ◌++◌, Some, refl, sym, ap, ◌∙◌, append_assoc}
+use Rattle.std.proofs.Common.{◌≡◌, ℕ, suc, ◌-◌, length, List, [], ◌∷◌, ◌++◌, Some, refl, sym, ap, ◌∙◌, append_assoc, arith}
 use Rattle.std.specs.Prelude.{slice_get}
 use Rattle.std.proofs.lemmas.List.{append-nil}
 use Rattle.std.proofs.lemmas.List.Concat.{flat_map-cons}
@@ -9,7 +9,7 @@ use Rattle.farm_machine.specs.declared.reports.Event.{Event}
 use Rattle.farm_machine.specs.declared.reports.Event.TheVariants.{Ran, Fetched, Exchanged, Put as PutAt, Took, Gave, GaveBad, Down, TookLocal, GaveLocal}
 use Rattle.farm_machine.specs.Acts.{Act, Did, Met, Entries, Reads, ReadsAll, deeds_of}
 use Rattle.farm_machine.specs.Numbered.{added}
-use Rattle.rehearsal.specs.Counts.{put_place, last_put}
+use Rattle.rehearsal.specs.Counts.{put_place, named_put, last_put}
 
 -- the puts that some acts add
 pub added-puts : (es : Entries) (acts : List Act) → (added es acts).puts ≡ es.puts ++ puts_in (deeds_of acts)
@@ -22,6 +22,10 @@ added-puts es (Did (put x) ∷ acts) =
     ∙ ap (λ ps. es.puts ++ ps) (sym (flat_map-cons put_of (put x) (deeds_of acts)))
 added-puts es (Did (timed moment) ∷ acts) = added-puts es acts ∙ ap (λ ps. es.puts ++ ps) (sym (flat_map-cons put_of (timed moment) (deeds_of acts)))
 added-puts es (Met x ∷ acts) = added-puts es acts
+
+-- the last of some events, behind another one
+last_later : (e f : Event) (events : List Event) → last_put (e ∷ f ∷ events) ≡ last_put (f ∷ events)
+last_later e f events = ap (λ k. named_put (slice_get (e ∷ f ∷ events) k)) (let step : length (e ∷ f ∷ events) - 1 ≡ suc (length (f ∷ events) - 1) = omega arith in step)
 
 -- an event that reads as a put
 record ReadsPut (es : Entries) (e : Event) (x : Put) : Type 0 where
@@ -54,7 +58,7 @@ names-put es (e ∷ []) [] x (r, rest) = let is = reads_put es e x r in record {
 names-put es (e ∷ f ∷ events) [] x (r, rest) = absurd rest
 names-put es (e ∷ []) (a ∷ []) x (r, rest) = absurd rest
 names-put es (e ∷ []) (a ∷ b ∷ before) x (r, rest) = absurd rest
-names-put es (e ∷ f ∷ events) (a ∷ before) x (r, rest) = let is = names-put es (f ∷ events) before x rest in record { place = is.place; named = is.named; there = is.there }
+names-put es (e ∷ f ∷ events) (a ∷ before) x (r, rest) = let is = names-put es (f ∷ events) before x rest in record { place = is.place; named = last_later e f events ∙ is.named; there = is.there }
 
 -- an event that names a put reads as one
 abbrev IsPut : Act → Type 0
@@ -85,4 +89,4 @@ ends-put es (e ∷ []) (a ∷ b ∷ acts) place (r, rest) named = absurd rest
 ends-put es (e ∷ []) (a ∷ []) place (r, rest) named = let is = put_read es e a place r named in record { before = []; file = is.0; is = ap (λ (b : Act). b ∷ []) is.1 }
 ends-put es (e ∷ f ∷ events) [] place h named = absurd h
 ends-put es (e ∷ f ∷ events) (a ∷ acts) place (r, rest) named =
-    let is = ends-put es (f ∷ events) acts place rest named in record { before = a ∷ is.before; file = is.file; is = ap (λ (bs : List Act). a ∷ bs) is.is }
+    let is = ends-put es (f ∷ events) acts place rest (sym (last_later e f events) ∙ named) in record { before = a ∷ is.before; file = is.file; is = ap (λ (bs : List Act). a ∷ bs) is.is }

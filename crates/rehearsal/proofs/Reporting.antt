@@ -54,7 +54,6 @@ calm old new = record { station = still; station_overruns = still; keeper = stil
 module _ (laws : RunLaws) (put_law : PutLaw) (n : ℕ) (most : n ≤ 512) (l : Limits 16) (all : l.jobs ≡ n) (workers : ℕ) (reports : List Report)
     (history : List CallEntry) (last : SlotState 16) (old new : List RehearsalKit) (fresh : All (IsFresh (files_of n)) old) (enough : workers ≤ length old)
     (ran : JobsRan loop_devices l (job_at (jobs_of n) rehearsal_config) 60 workers reports history last old new) (other : RehearsalKit) where
-
   abbrev job_number : ℕ → Job
   job_number j = job_of (job_words (j + 1)) rehearsal_config
 
@@ -115,7 +114,7 @@ module _ (laws : RunLaws) (put_law : PutLaw) (n : ℕ) (most : n ≤ 512) (l : L
       let within : j < l.jobs = omega (arith, below, all) in
       let is = ran.are_read.each j report there in
       record {
-        returned = ap is_done_or_wanted is.end ∙ ran.returns j other within refl (calm _ _);
+        returned = ap is_done_or_wanted is.end ∙ ran.returns j other within refl (calm (slice_index_or old (ran.read.worker j) other) (slice_index_or new (ran.read.worker j) other));
         counted = by_end j report (ran.read.ends j) below is.end is.worker is.acts
             (subst (λ job. Course job (ran.read.acts j) (ran.read.ends j)) (job_is j below) (ran.courses j within)) (left j below);
       }

@@ -1,5 +1,5 @@
 -- The two numbers of some reports.
-use Rattle.std.specs.Prelude.{ℕ, ◌≡◌, true, List, [], ◌∷◌, length, All, count_by, Option, Some, None, slice_get, slice_index_or}
+use Rattle.std.specs.Prelude.{ℕ, ◌-◌, ◌≡◌, true, List, [], ◌∷◌, length, All, count_by, Option, Some, None, slice_get, slice_index_or}
 use Rattle.std.specs.List.{sum_by}
 use Rattle.edge_traits.specs.declared.entries.Put.{Put}
 use Rattle.edge_traits.specs.declared.kit.Kit.{Kit}
@@ -12,10 +12,10 @@ use Rattle.farm_machine.specs.declared.reports.Report.{Report}
 use Rattle.loop_link.specs.declared.dialer.LoopDialer.{LoopDialer}
 use Rattle.sample_compiler.specs.declared.station.SampleStation.{SampleStation}
 use Rattle.report_text.specs.Pieces.{is_done_well}
-use Rattle.rehearsal.specs.declared.count.Count.{Count}
+use Rattle.rehearsal.specs.declared.numbers.Count.{Count}
 use Rattle.rehearsal.specs.declared.keeper.StillKeeper.{StillKeeper}
 use Rattle.rehearsal.specs.declared.station.StillStation.{StillStation}
-use Rattle.rehearsal.specs.Devices as devices
+use Rattle.rehearsal.specs.Puts as puts
 
 abbrev pub RehearsalKit : Type 0
 RehearsalKit = Kit (LoopDialer SampleStation) StillStation StillKeeper MemClock
@@ -33,15 +33,17 @@ abbrev pub put_place : Event → Option ℕ
 put_place (PutAt at) = Some at
 put_place event = None
 
+abbrev pub named_put : Option Event → Option ℕ
+named_put (Some event) = put_place event
+named_put None = None
+
 -- and the last of some events
 abbrev pub last_put : List Event → Option ℕ
-last_put [] = None
-last_put (event ∷ []) = put_place event
-last_put (event ∷ next ∷ events) = last_put (next ∷ events)
+last_put events = named_put (slice_get events (length events - 1))
 
 abbrev pub len_at : List Put → Option ℕ → ℕ
-len_at puts (Some at) = devices.object_len puts at
-len_at puts None = 0
+len_at list (Some at) = puts.object_len list at
+len_at list None = 0
 
 -- the length of the object that a job put as its last act, and 0 where it put none
 abbrev pub object_len : (ℕ → List Put) → Report → ℕ

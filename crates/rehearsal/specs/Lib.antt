@@ -1,3 +1,4 @@
+pub mod Puts
 pub mod Devices
 pub mod Counts
 pub mod Rehearsals

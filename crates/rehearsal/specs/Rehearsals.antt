@@ -1,5 +1,5 @@
 -- What a rehearsal leaves.
-use Rattle.std.specs.Prelude.{ℕ, ◌≡◌, min, true, false, codes, List, [], ◌∷◌, length, All, count_by, Option, Some, None, slice_get, if◌then◌else◌, ◌==◌}
+use Rattle.std.specs.Prelude.{ℕ, Bool, ◌≡◌, min, true, false, codes, List, [], ◌∷◌, length, All, count_by, Option, Some, None, slice_get, if◌then◌else◌, ◌==◌}
 use Rattle.std.specs.List.{AllZip, sum_by}
 use Rattle.farm_types.specs.declared.hosts.Hosts.{Hosts}
 use Rattle.farm_types.specs.declared.jobs.JobConfig.{JobConfig}
@@ -22,7 +22,7 @@ use Rattle.sample_lang.specs.FileMaps.{Files}
 use Rattle.sample_compiler.specs.Samples.{SampleOf}
 use Rattle.sample_compiler.specs.Stations.{StationRan, station_files}
 use Rattle.workload.specs.Loads.{jobs_of, files_of}
-use Rattle.rehearsal.specs.declared.count.Count.{Count}
+use Rattle.rehearsal.specs.declared.numbers.Count.{Count}
 use Rattle.rehearsal.specs.Counts.{RehearsalKit}
 use Rattle.rehearsal.specs.Devices.{compiler_files, compiler_shows, keeper_shows}
 

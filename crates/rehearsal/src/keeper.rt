@@ -1,8 +1,9 @@
 //! A keeper in memory whose counts stand still.
 
-ghost use Rattle.std.specs.Prelude.{◌≡◌, ◌<◌, ◌≤◌, [], None, All, IfSome, length};
-ghost use Rattle.rehearsal.specs.Devices as devices;
-ghost use Rattle.rehearsal.specs.Devices.{keeper_shows, IsSmall, object_max};
+ghost use Rattle.std.specs.Prelude.{◌≡◌, ◌<◌, ◌≤◌, [], None, All, length};
+ghost use Rattle.std.specs.Option.{ForSome};
+ghost use Rattle.rehearsal.specs.Puts as puts;
+ghost use Rattle.rehearsal.specs.Puts.{IsSmall, object_max};
 
 use edge_traits::{EdgeFault, FetchFault, Keeper, Put};
 use farm_types::{Bytes, Items};
@@ -18,7 +19,7 @@ pub struct StillKeeper {
     pub(crate) puts: Items<Put>,
     pub(crate) pending: Option<Put>,
     ghost small: { All IsSmall puts },
-    ghost pending_small: { IfSome pending IsSmall },
+    ghost pending_small: { ForSome pending IsSmall },
 }
 
 impl StillKeeper {
@@ -35,7 +36,7 @@ impl StillKeeper {
 
     /// The length of the object that was put at this place, counted from 0; 0 where none was. It takes no memory.
     pub(crate) fn object_len(&self, at: u32) -> u64
-        ensures len { result ≡ devices.object_len self.now.puts at }
+        ensures len { result ≡ puts.object_len self.now.puts at }
         ensures small { result ≤ object_max }
     {
         match self.puts.get(at as usize) {

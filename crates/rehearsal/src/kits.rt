@@ -46,14 +46,14 @@ fn kit(alloc: Global, n: u32) -> Result<RehearsalKit, AllocError>
 }
 
 /// So many kits over the workload's files.
-pub(crate) fn kits(alloc: Global, n: u32, count: u32) -> Result<Vec<RehearsalKit>, AllocError>
+pub(crate) fn kits(alloc: Global, n: u32, count: usize) -> Result<Vec<RehearsalKit>, AllocError>
     requires some { 1 ≤ n }
     requires most { n ≤ 512 }
     ensures count { IfOk result (λ kits. length kits.items ≡ count) }
     ensures fresh { IfOk result (λ kits. All (λ kit. IsFresh (files_of n) kit) kits.items) }
 {
     let mut kits = Vec::new(alloc);
-    for _ in 0..count {
+    'making: while kits.len() < count {
         kits.push(kit(alloc, n)?)?;
     }
     Ok(kits)

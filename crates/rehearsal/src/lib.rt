@@ -2,18 +2,18 @@
 #![tactic(auto)]
 
 mod config;
-mod count;
 mod keeper;
 mod kits;
 mod laws;
-mod rehearse;
+mod numbers;
+mod run;
 mod station;
 
-pub use count::Count;
 pub use keeper::StillKeeper;
 pub use kits::{RehearsalKit, compiler_table};
 pub use laws::loops_answer_as_the_compiler;
-pub use rehearse::{Rehearsed, rehearse};
+pub use numbers::Count;
+pub use run::{Rehearsed, rehearse};
 pub use station::StillStation;
 
 #[cfg(test)]

@@ -1,8 +1,5 @@
 //! The sample compiler as a station whose counts stand still.
 
-ghost use Rattle.std.specs.Prelude.{◌≡◌};
-ghost use Rattle.rehearsal.specs.Devices.{compiler_files};
-
 use edge_traits::{Bounds, Station, StationFault};
 use farm_types::{Ran, Word};
 use sample_compiler::SampleStation;
@@ -17,6 +14,9 @@ pub struct StillStation {
 }
 
 impl StillStation {
+    ghost use Rattle.std.specs.Prelude.{◌≡◌};
+    ghost use Rattle.rehearsal.specs.Devices.{compiler_files};
+
     /// The compiler over these files. It takes no memory.
     pub fn new(files: FileMap) -> StillStation
         ensures { compiler_files result ≡ files }

@@ -5,8 +5,8 @@ ghost use Rattle.rehearsal.specs.Rehearsals.{IsRehearsal};
 
 use crate::Count;
 use crate::config::rehearsal_config;
-use crate::count::count;
 use crate::kits::kits;
+use crate::numbers::count_reports;
 use course_laws::put_law;
 use job_driver::{Built, build};
 use std::alloc::{AllocError, Global};
@@ -43,8 +43,8 @@ pub fn rehearse<R: Threads + Wait + Sync>(
     let jobs = make(alloc, n)?.jobs;
     let config = rehearsal_config(alloc)?;
     let workers = n.min(WORKERS_MAX);
-    let mut kits = kits(alloc, n, workers)?;
+    let mut kits = kits(alloc, n, workers as usize)?;
     let built = build(rt, alloc, &jobs, &config, &mut kits, workers)?;
-    let count = count(kits.as_slice(), built.reports.as_slice());
+    let count = count_reports(kits.as_slice(), built.reports.as_slice());
     Ok(Rehearsed { built, count })
 }
