@@ -21,3 +21,9 @@ complaint_by {notice = notice} {status = status} {old = old} {new = new} {answer
 
 pub regroup : (a b c d e : List ℕ) → a ++ (b ++ (c ++ (d ++ e))) ≡ a ++ b ++ c ++ d ++ e
 regroup a b c d e = simp append_assoc
+
+pub output_by : {notice text text' : List ℕ} {status : ℕ} {old new : SinksView} {answer : ℕ} → text ≡ text' → Ends notice (output text ∷ []) status old new answer → Ends notice (output text' ∷ []) status old new answer
+output_by {notice = notice} {status = status} {old = old} {new = new} {answer = answer} same ends = subst (λ t. Ends notice (output t ∷ []) status old new answer) same ends
+
+pub regroup_seven : (a b c d e f g : List ℕ) → a ++ (b ++ (c ++ (d ++ (e ++ (f ++ g))))) ≡ a ++ b ++ c ++ d ++ e ++ f ++ g
+regroup_seven a b c d e f g = simp append_assoc

@@ -34,6 +34,10 @@ host_fault_text at fault = codes "farm: host list: fault " ++ decimal (number_of
 abbrev pub job_fault_text : ℕ → JobFault → List ℕ
 job_fault_text line fault = codes "farm: job list: fault " ++ decimal (job_number_of fault) ++ codes " at line " ++ decimal line ++ codes "\n"
 
+-- what a rehearsal of so many jobs came to: how many were done with status 0, and how many bytes their objects have together
+abbrev pub rehearsal_text : ℕ → ℕ → ℕ → List ℕ
+rehearsal_text jobs done bytes = codes "rehearse " ++ decimal jobs ++ codes " ok " ++ decimal done ++ codes " bytes " ++ decimal bytes ++ codes "\n"
+
 -- the exit statuses for words and environment, for the host list, for an input that can't be read, and for the job list
 abbrev pub bad_words_status : ℕ
 bad_words_status = 101

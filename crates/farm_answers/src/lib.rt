@@ -14,7 +14,7 @@ pub use refuse::{
     want_memory,
 };
 pub use scan::answer_scan;
-pub use tell::{answer_help, answer_version};
+pub use tell::{answer_help, answer_rehearsal, answer_version};
 
 #[cfg(test)]
 mod tests;

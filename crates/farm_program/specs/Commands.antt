@@ -10,11 +10,12 @@ use Rattle.farm_words.specs.Environment.{host_text_of, is_fallback_on, PeriodOf,
 use Rattle.farm_words.specs.Help.{help_of}
 use Rattle.job_driver.specs.Driven.{Devices}
 use Rattle.stream_print.specs.Ends.{complaint, Ends, WantOf}
-use Rattle.farm_answers.specs.Texts.{bad_hosts_status, bad_period_text, bad_words_status, bad_words_text, host_fault_text, no_memory_text, output, version_text}
+use Rattle.farm_answers.specs.Texts.{bad_hosts_status, bad_period_text, bad_words_status, host_fault_text, no_memory_text, output, version_text}
 use Rattle.farm_answers.specs.Lines.{class_line}
 use Rattle.farm_answers.specs.ByHosts.{ByHosts}
 use Rattle.farm_program.specs.Worlds.{World, Untouched, Answered}
 use Rattle.farm_program.specs.Builds.{Builds, RunsCommand, config_of}
+use Rattle.farm_program.specs.Rehearsed.{DidRehearse}
 
 -- A command that runs jobs, by the back-off period of the environment and by the text of a host list. Both are right, and then this is done;
 -- or the period isn't; or the period is, and the list has this fault; or memory was wanting while the list was read. What the environment
@@ -38,7 +39,7 @@ build_config options variables hosts period = config_of hosts (is_fallback_on op
 abbrev pub command_config : List (List ℕ × List ℕ) → Hosts → ℕ → JobConfig
 command_config variables hosts period = config_of hosts (is_fallback_on true variables) true period 1
 
--- What each command does, by the variables of the environment. A rehearsal is refused as words that are no command.
+-- What each command does, by the variables of the environment.
 abbrev pub Answers : {K : Type 0} → Devices K → List (List ℕ × List ℕ) → World K → World K → ℕ → Meaning → Type 0
 Answers d variables old new answer (Build options) =
     OnHosts (host_text_of options.hosts variables) variables (λ hosts period. Builds d (build_config options variables hosts period) (worker_count options) old new answer) old new answer
@@ -46,7 +47,7 @@ Answers d variables old new answer (Cc words) =
     OnHosts (host_text_of None variables) variables (λ hosts period. RunsCommand d (command_config variables hosts period) words old new answer) old new answer
 Answers d variables old new answer (HostsCommand text) = ListsHosts (host_text_of text variables) old new answer
 Answers d variables old new answer (Scan words) = Answered (output (class_line words)) 0 old new answer
-Answers d variables old new answer (Rehearse jobs) = Answered (complaint (bad_words_text 0)) bad_words_status old new answer
+Answers d variables old new answer (Rehearse jobs) = DidRehearse jobs old new answer
 Answers d variables old new answer (Help name) = Answered (output (help_of name)) 0 old new answer
 Answers d variables old new answer Version = Answered (output version_text) 0 old new answer
 

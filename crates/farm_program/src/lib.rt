@@ -4,6 +4,7 @@
 mod by_hosts;
 mod jobs;
 mod list;
+mod rehearsing;
 mod report;
 mod single;
 mod top;

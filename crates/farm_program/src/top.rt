@@ -14,6 +14,7 @@ ghost use Rattle.farm_program.specs.Commands.{Answers, IsBuildBy};
 
 use crate::by_hosts::{build_by, command_by};
 use crate::jobs::Ended;
+use crate::rehearsing::run_rehearsal;
 use edge_traits::{Clock, Dialer, Keeper, Kit, Sink, Source, Station};
 use farm_answers::{answer_help, answer_hosts, answer_scan, answer_version, refuse_words};
 use farm_words::{Command, host_text, parse_command};
@@ -62,7 +63,7 @@ where
             Ended::idle(alloc, answer_hosts(alloc, text, out, err))
         }
         Command::Scan { words } => Ended::idle(alloc, answer_scan(alloc, words, out, err)),
-        Command::Rehearse { .. } => Ended::idle(alloc, refuse_words(alloc, 0, out, err)),
+        Command::Rehearse { jobs } => run_rehearsal(rt, alloc, jobs, out, err),
         Command::Help(name) => Ended::idle(alloc, answer_help(name, out, err)),
         Command::Version => Ended::idle(alloc, answer_version(out, err)),
     }

@@ -12,6 +12,10 @@ mod gates;
 #[cfg(test)]
 mod jobs;
 #[cfg(test)]
+mod loops;
+#[cfg(test)]
+mod rehearsals;
+#[cfg(test)]
 mod words;
 #[cfg(test)]
 mod workers;

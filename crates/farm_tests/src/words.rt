@@ -160,11 +160,15 @@ const COMMANDS: [Row; 21] = [
         err: "",
     },
     Row {
-        words: &["rehearse", "512"],
-        env: &[("DISTCC_HOSTS", "@red")],
-        status: 101,
-        out: "",
-        err: "farm: bad words at word 0\n",
+        words: &["rehearse", "2"],
+        env: &[
+            ("DISTCC_HOSTS", "@red"),
+            ("DISTCC_FALLBACK", "0"),
+            ("DISTCC_BACKOFF_PERIOD", "x"),
+        ],
+        status: 0,
+        out: "rehearse 2 ok 2 bytes 48\n",
+        err: "",
     },
     Row {
         words: &["cc", "gcc", "-c", "x.c"],

@@ -9,7 +9,7 @@ use Rattle.farm_words.specs.declared.name.CommandName.TheVariants as name
 use Rattle.farm_words.specs.declared.name.FirstWord.{FirstWord}
 use Rattle.farm_words.specs.declared.name.FirstWord.TheVariants as first
 use Rattle.farm_words.specs.declared.name.OptionName.TheVariants as option
-use Rattle.farm_words.specs.Limits.{count_digits, workers_max, tries_digits, tries_max}
+use Rattle.farm_words.specs.Limits.{count_digits, workers_max, jobs_max, tries_digits, tries_max}
 use Rattle.farm_words.specs.Names.{first_word}
 use Rattle.farm_words.specs.Numbers.{is_short_number, number_of, workers_of, tries_of, jobs_of}
 use Rattle.farm_words.specs.Commands.{Meaning, Build, Cc, Hosts, Scan, Rehearse, Help, Version, IsCommand, WordsRead, ByFirstWord, NamedCommand, asks_help, at_most, at_least_one, counted, rehearse_words, with_options}
@@ -61,11 +61,11 @@ any-words meant false within = within
 
 rehearsed : (words : List (List ℕ)) → ResultWithin (rehearse_words words)
 rehearsed [] = tt
-rehearsed (word ∷ words) = go (jobs_of word)
+rehearsed (word ∷ words) = go (jobs_of word) refl
   where
-    go : (o : Option ℕ) → ResultWithin (counted o (word ∷ words))
-    go None = tt
-    go (Some jobs) = either (nat_le (length (word ∷ words)) 1) (Rehearse jobs) 2 tt
+    go : (o : Option ℕ) → jobs_of word ≡ o → ResultWithin (counted o (word ∷ words))
+    go None is = tt
+    go (Some jobs) is = let few = number-within count_digits 1 jobs_max word jobs is in either (nat_le (length (word ∷ words)) 1) (Rehearse jobs) 2 (record { some = few.0; most = few.1 })
 
 named : (command : CommandName) (words : List (List ℕ)) (answer : Result Meaning ℕ) → NamedCommand command words answer → ResultWithin answer
 named name.Build words answer (Ok says, read, is) = subst ResultWithin (sym is) (options-within name.Build words says read)

@@ -23,7 +23,7 @@ program_help =
     ++ codes "  cc        do one compile command\n"
     ++ codes "  hosts     print the host list\n"
     ++ codes "  scan      say whether a compile command may be sent\n"
-    ++ codes "  rehearse  do made-up jobs in memory (not built yet)\n"
+    ++ codes "  rehearse  do made-up jobs in memory, without a host or a compiler\n"
     ++ codes "\n"
     ++ codes "farm COMMAND --help says more of a command; farm --version prints the version.\n"
     ++ codes "\n"
@@ -77,9 +77,9 @@ scan_help =
 abbrev pub rehearse_help : List ℕ
 rehearse_help =
     codes "Usage: farm rehearse N\n"
-    ++ codes "Does N made-up jobs, 1 to 512, in memory.\n"
-    ++ codes "\n"
-    ++ codes "Not built yet.\n"
+    ++ codes "Does N made-up jobs, 1 to 512, in memory, by the program's own daemon and sample\n"
+    ++ codes "compiler, without a host, a network or a compiler. Prints how many of them were\n"
+    ++ codes "done with status 0, and how many bytes their objects have together.\n"
 
 abbrev pub help_of : Option CommandName → List ℕ
 help_of None = program_help

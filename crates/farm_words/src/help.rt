@@ -21,7 +21,7 @@ Commands:
   cc        do one compile command
   hosts     print the host list
   scan      say whether a compile command may be sent
-  rehearse  do made-up jobs in memory (not built yet)
+  rehearse  do made-up jobs in memory, without a host or a compiler
 
 farm COMMAND --help says more of a command; farm --version prints the version.
 
@@ -74,9 +74,9 @@ the place of the reason, where it has to be done here.
 
 /// What `farm rehearse --help` prints.
 pub const REHEARSE_HELP: &[u8] = b"Usage: farm rehearse N
-Does N made-up jobs, 1 to 512, in memory.
-
-Not built yet.
+Does N made-up jobs, 1 to 512, in memory, by the program's own daemon and sample
+compiler, without a host, a network or a compiler. Prints how many of them were
+done with status 0, and how many bytes their objects have together.
 ";
 
 /// The help of a command, or of the program where no command is named.

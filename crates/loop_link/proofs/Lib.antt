@@ -1,4 +1,4 @@
 mod Serviced
-mod Honest
+pub mod Honest
 mod Holding
 mod Unbroken

@@ -43,6 +43,13 @@ impl<S: Station + Drop> LoopDialer<S> {
             exchanges: Trail::new(),
         }
     }
+
+    /// The exchanges so far, in order. It takes no memory.
+    pub fn into_exchanges(self) -> Trail<Exchange>
+        ensures { result ≡ (dialer_state self).exchanges }
+    {
+        self.exchanges
+    }
 }
 
 /// The entry of a dial that failed.

@@ -1,4 +1,4 @@
-use Rattle.std.proofs.Common.{◌∙◌, sym, subst, ℕ}
+use Rattle.std.proofs.Common.{◌∙◌, sym, subst, ℕ, refl}
 use Rattle.stream_print.specs.Ends.{Ends}
 use Rattle.farm_program.proofs.Building.{status_as}
 use Rattle.farm_program.proofs.Commanding.{printed_alone, by_hosts_as, answers_at}
@@ -17,7 +17,7 @@ pub returns-in-Scan : goal.returns-in-Scan
 returns-in-Scan g c = answers_at _ _ _ _ _ _ _ c.in-Scan.is (record { untouched = printed_alone c.idle-in-Scan.ensures.none; ends = status_as c.idle-in-Scan.ensures.status c.answer_scan.ensures })
 
 pub returns-in-Rehearse : goal.returns-in-Rehearse
-returns-in-Rehearse g c = answers_at _ _ _ _ _ _ _ c.in-Rehearse.is (record { untouched = printed_alone c.idle-in-Rehearse.ensures.none; ends = status_as c.idle-in-Rehearse.ensures.status c.refuse_words.ensures })
+returns-in-Rehearse g c = answers_at _ _ _ _ _ _ _ c.in-Rehearse.is (record { unread = refl; apart = refl; rehearses = c.run_rehearsal.ensures })
 
 pub returns-in-Help : goal.returns-in-Help
 returns-in-Help g c = answers_at _ _ _ _ _ _ _ c.in-Help.is (record { untouched = printed_alone c.idle-in-Help.ensures.none; ends = status_as c.idle-in-Help.ensures.status c.answer_help.ensures })

@@ -1,0 +1,7 @@
+mod Compiled
+mod Putting
+mod Looping
+mod OneJob
+mod Reporting
+mod Counting
+mod Rehearsing

@@ -1,0 +1,29 @@
+-- The devices of a rehearsal, whose counts stand still.
+use Rattle.std.specs.Prelude.{[]}
+use Rattle.std.specs.FinMap.{from_entries}
+use Rattle.edge_traits.specs.Told.{told, untold}
+use Rattle.edge_traits.specs.Keepers.{KeeperView}
+use Rattle.edge_traits.specs.Stations.{StationView}
+use Rattle.edge_memory.specs.Keepers.{pending_of}
+use Rattle.sample_lang.specs.FileMaps.{Files}
+use Rattle.sample_compiler.specs.Stations.{station_files, station_shows}
+use Rattle.rehearsal.specs.declared.keeper.StillKeeper.{StillKeeper}
+use Rattle.rehearsal.specs.declared.station.StillStation.{StillStation}
+
+abbrev pub compiler_files : StillStation → Files
+compiler_files station = station_files station.inner
+
+-- the station tells its runs, and its counts stand still
+abbrev pub compiler_shows : StillStation → StationView
+compiler_shows station = record { runs = (station_shows station.inner).runs; faults = 0; overruns = 0 }
+
+-- the keeper tells what was put, and its counts stand still
+abbrev pub keeper_shows : StillKeeper → KeeperView
+keeper_shows keeper = record {
+  files = untold (from_entries []);
+  puts = told keeper.puts;
+  fetches = told [];
+  pending = pending_of keeper.pending;
+  faults = 0;
+  overruns = 0;
+}

@@ -1,0 +1,5 @@
+pub mod Puts
+pub mod Devices
+pub mod Counts
+pub mod Rehearsals
+pub mod Loops

@@ -1,0 +1,18 @@
+-- The objects that were put.
+use Rattle.std.specs.Prelude.{ℕ, ◌≤◌, List, length, Option, Some, None, slice_get}
+use Rattle.edge_traits.specs.declared.entries.Put.{Put}
+
+-- the most bytes of an object
+abbrev pub object_max : ℕ
+object_max = 33554432
+
+abbrev pub IsSmall : Put → Type 0
+IsSmall put = length put.bytes ≤ object_max
+
+abbrev pub put_len : Option Put → ℕ
+put_len (Some put) = length put.bytes
+put_len None = 0
+
+-- the length of the object that was put at this place, and 0 where none was
+abbrev pub object_len : List Put → ℕ → ℕ
+object_len puts at = put_len (slice_get puts at)

@@ -1,0 +1,20 @@
+//! The rehearsal: the jobs of the generated workload, run in memory over the daemon's own service (docs/rehearsal.md).
+#![tactic(auto)]
+
+mod config;
+mod keeper;
+mod kits;
+mod laws;
+mod numbers;
+mod run;
+mod station;
+
+pub use keeper::StillKeeper;
+pub use kits::{RehearsalKit, compiler_table};
+pub use laws::loops_answer_as_the_compiler;
+pub use numbers::Count;
+pub use run::{Rehearsed, rehearse};
+pub use station::StillStation;
+
+#[cfg(test)]
+mod tests;

@@ -1,0 +1,5 @@
+mod Plain
+mod Names
+mod Expands
+mod Tasks
+mod Runs

@@ -1,0 +1,6 @@
+//! What the sample compiler leaves of the workload's jobs, at a station and by their own words (docs/workload.md).
+#![tactic(auto)]
+
+mod laws;
+
+pub use laws::runs_of_jobs;
