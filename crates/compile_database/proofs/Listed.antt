@@ -1,6 +1,5 @@
 -- How a text was listed, and an input read.
 use Rattle.std.proofs.Common.{◌≡◌, ℕ, List, Some, None, Err, refl, subst, inl, inr}
-use Rattle.std.specs.Prelude.{◌⊎◌}
 use Rattle.edge_traits.specs.Sources.{SourceView}
 use Rattle.stream_print.specs.Prints.{SinksView}
 use Rattle.compile_database.specs.declared.fault.DatabaseFault.{DatabaseFault}

@@ -1,5 +1,5 @@
 -- What was printed, by an equal text.
-use Rattle.std.proofs.Common.{◌≡◌, ℕ, List, [], ◌∷◌, subst}
+use Rattle.std.proofs.Common.{◌≡◌, ℕ, List, subst}
 use Rattle.stream_print.specs.Prints.{SinksView}
 use Rattle.compile_database.specs.Programs.{Told, Refused}
 

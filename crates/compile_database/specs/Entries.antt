@@ -1,6 +1,6 @@
 -- What an entry of a compile database says.
 use Rattle.std.specs.Prelude.{ℕ, List, [], ◌∷◌, codes, Option, Some, None, option_map, option_and_then, Result, Ok, Err}
-use Rattle.serde_json.specs.Data.{Data, string, Items, no_items, item}
+use Rattle.serde_json.specs.Data.{Data, Items, no_items, item}
 use Rattle.serde_json.specs.Find.{get, as_str, as_array}
 use Rattle.compile_database.specs.declared.entry.NoWords.{NoWords}
 use Rattle.compile_database.specs.declared.entry.NoWords.TheVariants.{NoForm, OpenQuote}

@@ -1,5 +1,5 @@
 -- What `farm_jobs` does.
-use Rattle.std.specs.Prelude.{◌≡◌, ◌<◌, ℕ, List, [], ◌∷◌, ◌++◌, length, codes, Option, None, Some, Err}
+use Rattle.std.specs.Prelude.{◌≡◌, ◌<◌, ℕ, List, [], ◌∷◌, ◌++◌, length, codes, None, Some, Err}
 use Rattle.std.specs.Fmt.{decimal}
 use Rattle.edge_traits.specs.Sources.{SourceView}
 use Rattle.input_read.specs.Reads.{AllRead, ReadTo, BrokeOff}

@@ -1,5 +1,5 @@
 -- The words of `farm_jobs`.
-use Rattle.std.specs.Prelude.{◌≡◌, ℕ, ◌+◌, ◌*◌, ◌-◌, List, [], ◌∷◌, length, codes, bytes_eq, nat_lt, nat_le, Bool, true, false, not, ◌&&◌, ◌||◌, ◌==◌, if◌then◌else◌, Option, Some, None, is_some, unwrap_or, option_and_then, option_map, Result, Ok, Err}
+use Rattle.std.specs.Prelude.{◌≡◌, ℕ, ◌+◌, ◌*◌, ◌-◌, List, [], ◌∷◌, length, codes, bytes_eq, nat_lt, nat_le, Bool, false, ◌&&◌, ◌||◌, ◌==◌, if◌then◌else◌, Option, Some, None, is_some, unwrap_or, Result, Ok, Err}
 use Rattle.compile_database.specs.declared.options.OptionName.{OptionName}
 use Rattle.compile_database.specs.declared.options.OptionName.TheVariants.{Folder, From, Count}
 use Rattle.compile_database.specs.Choices.{Choice}

@@ -1,4 +1,4 @@
-use Rattle.std.proofs.Common.{◌≡◌, ◌++◌, map, drop}
+use Rattle.std.proofs.Common.{◌≡◌, map, drop}
 use Rattle.serde_json.specs.View.{view}
 use Rattle.compile_database.specs.Choices.{places, places_from, is_placeless}
 use Rattle.compile_database.proofs.choice.first_placeless.Given as goal

@@ -1,5 +1,4 @@
-use Rattle.std.proofs.Common.{rules, ap, sym, ◌∙◌, subst}
-use Rattle.serde_json.specs.View.{view}
+use Rattle.std.proofs.Common.{rules, ap, sym, ◌∙◌}
 use Rattle.std.specs.Option.{option_copied}
 use Rattle.compile_database.specs.Databases.{no_folder, no_entry, other_folder}
 use Rattle.compile_database.proofs.EntryLemmas.{no_folder_chosen}

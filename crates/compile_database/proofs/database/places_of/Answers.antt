@@ -1,4 +1,4 @@
-use Rattle.std.proofs.Common.{rules, ap, sym, ◌∙◌}
+use Rattle.std.proofs.Common.{ap, sym, ◌∙◌}
 use Rattle.std.specs.List.{slice_get}
 use Rattle.compile_database.specs.Databases.{none_taken, too_many}
 use Rattle.compile_database.proofs.EntryLemmas.{nil_from_test}
