@@ -6,11 +6,11 @@ import subprocess
 import sys
 
 FIXED = [
-    "gcc -c x.c",
-    r"gcc -DNAME=\"value\" -c x.c",
-    r"gcc '-DNAME=\"two words\"' -c 'x y.c'",
-    r'''gcc "-DA=\"b\" \\ \$c \`d\` \e" -c x.c''',
-    "gcc  -I'a b'\"c d\"\\ e -c x.c",
+    "gcc x.c",
+    r"gcc -DNAME=\"value\" x.c",
+    r"gcc '-DNAME=\"two words\"' 'x y.c'",
+    r'''gcc "-DA=\"b\" \\ \$c \`d\` \e" x.c''',
+    "gcc  -I'a b'\"c d\"\\ e x.c",
     "x '' \"\" a''b",
     "x a\\\nb \"c\\\nd\"",
     "\t x \t y ",
