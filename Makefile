@@ -1,14 +1,23 @@
-# Everything that a machine with the toolchain needs: `make demo` runs the main job, `make test` passes the tests.
+# Everything that a machine with the toolchain needs: `make demo` runs the main job, `make test` passes the tests, and
+# `make install` puts the programs in place.
 
-.PHONY: bench bench-jobs bench-wire demo test test-all
+PREFIX ?= /usr/local
+PROGRAMS = farm farmd scc farm_jobs
+bin = $(DESTDIR)$(PREFIX)/bin
+man = $(DESTDIR)$(PREFIX)/share/man/man1
+completions = $(DESTDIR)$(PREFIX)/share/bash-completion/completions
+units = $(DESTDIR)$(PREFIX)/lib/systemd/system
 
-# One job end to end: farm, with a real distccd on loopback where one is installed.
+.PHONY: bench bench-jobs bench-wire build demo install test test-all uninstall
+
+# The farm whole: farm with two farmds on loopback, of which one is killed in the middle of a build.
 demo:
 	tests/demo
 
 # The gate: each crate is proved, each edit that must fail is refused, each test and each stored run passes.
-# Then farm with a real distccd, objects on a real disk, faults of a real machine, runs with an allocation refused, real clients of
-# farmd, and mutated requests for it; each is skipped where what it needs isn't installed.
+# Then farm with a real distccd, in an odd environment, objects on a real disk, faults of a real machine, runs with an allocation
+# refused, real clients of farmd, mutated requests for it, whole projects, and the manual pages and the installation; each is
+# skipped where what it needs isn't installed.
 test:
 	rt ci
 	tests/interop
@@ -18,15 +27,43 @@ test:
 	tests/allocations
 	tests/clients
 	tests/hostile
+	tests/projects
+	tests/database
+	tests/manual
+	tests/install
 
 # The same, with each allocation refused and not some of them.
 test-all: test
 	tests/allocations --every
 
-# What farm and distcc add to gcc -E and gcc -c, per job; and whole builds at 2, 4 and 8 jobs at once.
+# Proves and builds the programs, and all libraries that they stand on.
+build:
+	tests/prove $(PROGRAMS)
+
+# The programs, their manual pages, the completion for bash, and the unit of farmd for systemd, below PREFIX; DESTDIR stands before
+# that where a package is made. What isn't built yet is proved and built.
+install:
+	@for program in $(PROGRAMS); do [ -x crates/$$program/out/$$program ] || exec tests/prove $(PROGRAMS); done
+	install -d $(bin) $(man) $(completions) $(units)
+	for program in $(PROGRAMS); do \
+	  install -m 755 crates/$$program/out/$$program $(bin)/$$program && \
+	  install -m 644 man/$$program.1 $(man)/$$program.1 && \
+	  install -m 644 contrib/completions/farm $(completions)/$$program || exit 1; \
+	done
+	sed 's|/usr/local/bin/farmd|$(PREFIX)/bin/farmd|' contrib/farmd.service >$(units)/farmd.service
+	chmod 644 $(units)/farmd.service
+
+uninstall:
+	for program in $(PROGRAMS); do rm -f $(bin)/$$program $(man)/$$program.1 $(completions)/$$program; done
+	rm -f $(units)/farmd.service
+
+# What farm and distcc add to gcc -E and gcc -c, per job, by itself and within a job list; whole builds at 2, 4 and 8 jobs at once; the
+# transfer of an object of 32 MiB; and the resident size of farm and farmd.
 bench:
 	bench/run
 	bench/builds
+	bench/transfer
+	bench/memory
 
 # How many times as long writing and reading 32 MiB takes as a plain copy of as many bytes.
 bench-wire:

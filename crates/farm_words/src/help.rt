@@ -9,16 +9,13 @@ use crate::name::CommandName;
 pub const VERSION: &[u8] = b"farm 0.1, distcc protocol 1\n";
 
 /// What `farm --help` prints.
-pub const PROGRAM_HELP: &[u8] = b"Usage: farm COMMAND [WORD]...
-Compiles on other machines, by distcc's protocol.
+pub const PROGRAM_HELP: &[u8] = b"Usage: farm build --hosts 'build1/4 build2/4' --workers 8 <jobs
+Compiles each line of the file jobs on build1 and build2, by distcc's protocol.
 
-  farm build --hosts 'red/4 blue/4' <jobs
-                         compiles each line of the file jobs on red and blue
-  farm cc gcc -c x.c     does one compile, on the hosts of DISTCC_HOSTS
-
-Commands:
+Usage: farm COMMAND [WORD]...
   build     do the jobs on standard input, one compile command a line
-  cc        do one compile command
+  cc        do one compile command, on the hosts of DISTCC_HOSTS: as the compiler's
+            launcher, make CC='farm cc gcc'
   hosts     print the host list
   scan      say whether a compile command may be sent
   rehearse  do made-up jobs in memory, without a host or a compiler
@@ -30,6 +27,32 @@ Environment:
   DISTCC_FALLBACK        if it is 0, as --no-fallback
   DISTCC_BACKOFF_PERIOD  for how many seconds a host that failed is left alone,
                          0 to 1000000; 60 where it isn't there
+  TMPDIR                 the folder of farm's own files, in place of /tmp
+
+Exit status:
+  0    everything was done
+  100  standard output or standard error failed
+  101  the words don't fit, or DISTCC_BACKOFF_PERIOD
+  103  there was no link to the host
+  104  a program ended in another way than by an exit code
+  105  no memory
+  106  the host list has a fault
+  107  the input couldn't be read; a send, a receive, a program, a put or the
+       reading of a source failed
+  108  the host's reply was cut off
+  109  the job list, or a host's reply, has a fault
+  116  no host was up, and the job may not be compiled here
+That of a build is that of its first job that wasn't done with status 0. Where
+the compiler said no, it is its own.
+
+Faults by their numbers:
+  host list   1 NAME@HOST, 2 a comma, 3 +zeroconf, 4 a bad port, 5 a bad limit,
+              6 a bad name, 7 more than 16 entries, 8 an option that isn't known
+  job list    1 an open quote, 2 a backslash at the end of a line, 3 no jobs,
+              4 more than 512 jobs, 5 more than 16777216 bytes, 6 an output that
+              an earlier job has, 7 no UTF-8 or a zero byte
+  reply       1 a wrong name of a token, 2 a bad digit, 3 another version, 5 a
+              length above its limit, 6 an object beside a failure
 ";
 
 /// What `farm build --help` prints.
@@ -46,9 +69,15 @@ Options, in any order, each at most once:
   --no-fallback  don't compile here what no host compiled
   --no-retry     don't compile here what failed on a host
 
-The host list: NAME, NAME:PORT or NAME/LIMIT, apart by blanks; localhost is this
-machine. LIMIT is how many jobs the host gets at once: 4 where it isn't given,
-and 2 for localhost.
+The host list: words apart by blanks, 16 hosts at most; # begins a comment.
+  NAME[:PORT][/LIMIT]    a host, at port 3632 and with 4 jobs at once where nothing
+                         else is said
+  localhost[/LIMIT]      this machine, without the network: 2 jobs at once
+  --localslots=N         so many jobs at once here that no host does; 4
+  --localslots_cpp=N     is read, and limits nothing
+  --randomize            jobs begin at different hosts
+farm hosts prints it as it is read. A compile database becomes a job list by
+farm_jobs.
 ";
 
 /// What `farm cc --help` prints.
@@ -70,6 +99,16 @@ pub const SCAN_HELP: &[u8] = b"Usage: farm scan WORD...
 Prints the class of the compile command that the words are: remote, with its
 action, source and output, where it may be sent; or local, with the number and
 the place of the reason, where it has to be done here.
+
+The reasons:
+   1 neither -c nor -S         2 both of them            3 -E
+   4 -M or -MM                 5 no source               6 two sources
+   7 this machine's processor  8 profiles or coverage    9 -frepo
+  10 -specs=                  11 -x                     12 -save-temps
+  13 -d.. or -fdump-..        14 a listing of assembly  15 @FILE
+  16 conftest.*               17 - as a file            18 no operand
+  19 two outputs              20 another word           21 a file of its own
+  22 an output that ends in .farm~
 ";
 
 /// What `farm rehearse --help` prints.

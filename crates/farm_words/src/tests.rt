@@ -239,7 +239,7 @@ fn periods(rt: HostRuntime) -> Result<(), Fail> {
 #[test]
 fn texts(rt: HostRuntime) -> Result<(), Fail> {
     let rows: [(Option<CommandName>, &[u8]); 6] = [
-        (None, b"Usage: farm COMMAND"),
+        (None, b"Usage: farm build --hosts"),
         (Some(CommandName::Build), b"Usage: farm build"),
         (Some(CommandName::Cc), b"Usage: farm cc"),
         (Some(CommandName::Hosts), b"Usage: farm hosts"),

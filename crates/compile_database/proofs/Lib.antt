@@ -1,0 +1,6 @@
+pub mod ItemLists
+pub mod EntryLemmas
+pub mod LineLemmas
+pub mod DatabaseLemmas
+pub mod Telling
+pub mod Listed

@@ -1,0 +1,13 @@
+pub mod Shell
+pub mod Rests
+pub mod Entries
+pub mod Unread
+pub mod Choices
+pub mod Words
+pub mod Selections
+pub mod Databases
+pub mod Parts
+pub mod Listings
+pub mod Helps
+pub mod Programs
+pub mod Refusals

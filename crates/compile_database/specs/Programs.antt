@@ -1,0 +1,68 @@
+-- What `farm_jobs` does.
+use Rattle.std.specs.Prelude.{◌≡◌, ◌<◌, ℕ, List, [], ◌∷◌, ◌++◌, length, codes, None, Some, Err}
+use Rattle.std.specs.Fmt.{decimal}
+use Rattle.edge_traits.specs.Sources.{SourceView}
+use Rattle.input_read.specs.Reads.{AllRead, ReadTo, BrokeOff}
+use Rattle.stream_print.specs.declared.pieces.SinkKind.TheVariants.{Out}
+use Rattle.stream_print.specs.declared.pieces.Piece.{Piece}
+use Rattle.stream_print.specs.Prints.{SinksView}
+use Rattle.stream_print.specs.Ends.{Ends, WantOf, complaint}
+use Rattle.compile_database.specs.declared.fault.DatabaseFault.{DatabaseFault}
+use Rattle.compile_database.specs.declared.help.Ask.{Ask}
+use Rattle.compile_database.specs.Choices.{Choice}
+use Rattle.compile_database.specs.Databases.{FaultStands, ListOf}
+use Rattle.compile_database.specs.Helps.{asked, text_of}
+use Rattle.compile_database.specs.Words.{Chooses, said}
+
+-- ---- the texts
+
+abbrev pub no_memory_text : List ℕ
+no_memory_text = codes "farm_jobs: no memory\n"
+
+abbrev pub unreadable_text : List ℕ
+unreadable_text = codes "farm_jobs: cannot read the database\n"
+
+abbrev pub bad_words_text : ℕ → List ℕ
+bad_words_text place = codes "farm_jobs: bad words at word " ++ decimal place ++ codes "\n"
+
+-- this many bytes are too many
+abbrev pub too_long : ℕ
+too_long = 67_108_864
+
+-- a text for the output
+abbrev pub output : List ℕ → Piece
+output text = record { sink = Out; bytes = text }
+
+-- ---- the endings
+
+-- the text was printed, or printing stopped, or memory was wanting
+abbrev pub Told : List ℕ → SinksView → SinksView → ℕ → Type 0
+Told text sinks sinks_now answer = Ends no_memory_text (output text ∷ []) 0 sinks sinks_now answer
+
+-- this refusal was printed, or printing stopped, or memory was wanting
+abbrev pub Refused : List ℕ → ℕ → SinksView → SinksView → ℕ → Type 0
+Refused message status sinks sinks_now answer = Ends no_memory_text (complaint message ∷ []) status sinks sinks_now answer
+
+-- memory was wanting before anything was printed
+abbrev pub Wanted : SinksView → SinksView → ℕ → Type 0
+Wanted sinks sinks_now answer = WantOf no_memory_text [] sinks sinks_now answer
+
+-- The job list of the text was printed; or the text has this fault, and a message was; or memory was wanting.
+pub data Listed (choice : Choice) (text : List ℕ) (sinks sinks_now : SinksView) (answer : ℕ) : Type 0 where
+  printed_list : (list : List ℕ) → ListOf choice text list → Told list sinks sinks_now answer → Listed choice text sinks sinks_now answer
+  faulty_text : (fault : DatabaseFault) (message : List ℕ) → FaultStands choice text fault → Refused message 109 sinks sinks_now answer → Listed choice text sinks sinks_now answer
+  unlisted : Wanted sinks sinks_now answer → Listed choice text sinks sinks_now answer
+
+-- The input was read to its end, and its text was listed; or it was too long, or couldn't be read; or memory was wanting.
+pub data Reads (choice : Choice) (old new : SourceView) (sinks sinks_now : SinksView) (answer : ℕ) : Type 0 where
+  whole_input : (text : List ℕ) → AllRead old new text → length text < too_long → Listed choice text sinks sinks_now answer → Reads choice old new sinks sinks_now answer
+  long_input : ReadTo too_long old new → Refused unreadable_text 107 sinks sinks_now answer → Reads choice old new sinks sinks_now answer
+  broken_input : BrokeOff too_long old new → Refused unreadable_text 107 sinks sinks_now answer → Reads choice old new sinks sinks_now answer
+  unread : Wanted sinks sinks_now answer → Reads choice old new sinks sinks_now answer
+
+-- The words ask for a text, which was printed; or they don't fit, at this place; or they say which entries are taken; or memory was wanting.
+pub data Does (words : List (List ℕ)) (old new : SourceView) (sinks sinks_now : SinksView) (answer : ℕ) : Type 0 where
+  told : (ask : Ask) → asked words ≡ Some ask → new ≡ old → Told (text_of ask) sinks sinks_now answer → Does words old new sinks sinks_now answer
+  bad_words : (place : ℕ) → asked words ≡ None → said words ≡ Err place → new ≡ old → Refused (bad_words_text place) 101 sinks sinks_now answer → Does words old new sinks sinks_now answer
+  listed : (choice : Choice) → asked words ≡ None → Chooses (said words) choice → Reads choice old new sinks sinks_now answer → Does words old new sinks sinks_now answer
+  unheard : Wanted sinks sinks_now answer → Does words old new sinks sinks_now answer

@@ -1,0 +1,75 @@
+-- The words of a command as a shell splits it.
+use Rattle.std.specs.Prelude.{ℕ, List, [], ◌∷◌, ◌++◌, Bool, ◌||◌, ◌==◌, if◌then◌else◌, Option, Some, None}
+use Rattle.compile_database.specs.declared.shell.Mode.{Mode}
+use Rattle.compile_database.specs.declared.shell.Mode.TheVariants.{Outside, Escaped, Single, Double, DoubleEscaped}
+
+-- ---- bytes
+
+abbrev pub line_feed : ℕ
+line_feed = 10
+
+abbrev pub double_quote : ℕ
+double_quote = 34
+
+abbrev pub single_quote : ℕ
+single_quote = 39
+
+abbrev pub backslash : ℕ
+backslash = 92
+
+-- space, tab and line feed
+abbrev pub is_blank : ℕ → Bool
+is_blank c = c == 32 || c == 9 || c == 10
+
+-- `$`, a back quote, `"` and `\`, before which a backslash between double quotes is dropped
+abbrev pub is_escapable : ℕ → Bool
+is_escapable c = c == 36 || c == 96 || c == 34 || c == 92
+
+-- ---- words
+
+-- the bytes of a word, where one is open
+abbrev pub opened : Option (List ℕ) → List ℕ
+opened None = []
+opened (Some bytes) = bytes
+
+-- the word with one byte more
+abbrev pub grown : Option (List ℕ) → ℕ → Option (List ℕ)
+grown word c = Some (opened word ++ c ∷ [])
+
+-- a word that is open ends
+abbrev pub ended : List (List ℕ) → Option (List ℕ) → List (List ℕ)
+ended done None = done
+ended done (Some bytes) = done ++ bytes ∷ []
+
+-- The words of a text that goes on outside quotes, behind a backslash, between single quotes, between double quotes, or
+-- there behind a backslash, after these words and this open one. None where it ends in a quote or behind a backslash.
+abbrev pub words_from : Mode → List (List ℕ) → Option (List ℕ) → List ℕ → Option (List (List ℕ))
+words_from Outside done word [] = Some (ended done word)
+words_from Escaped done word [] = None
+words_from Single done word [] = None
+words_from Double done word [] = None
+words_from DoubleEscaped done word [] = None
+words_from Outside done word (c ∷ cs) =
+    if is_blank c then words_from Outside (ended done word) None cs
+    else if c == single_quote then words_from Single done (Some (opened word)) cs
+    else if c == double_quote then words_from Double done (Some (opened word)) cs
+    else if c == backslash then words_from Escaped done word cs
+    else words_from Outside done (grown word c) cs
+words_from Escaped done word (c ∷ cs) =
+    if c == line_feed then words_from Outside done word cs
+    else words_from Outside done (grown word c) cs
+words_from Single done word (c ∷ cs) =
+    if c == single_quote then words_from Outside done word cs
+    else words_from Single done (grown word c) cs
+words_from Double done word (c ∷ cs) =
+    if c == double_quote then words_from Outside done word cs
+    else if c == backslash then words_from DoubleEscaped done word cs
+    else words_from Double done (grown word c) cs
+words_from DoubleEscaped done word (c ∷ cs) =
+    if c == line_feed then words_from Double done word cs
+    else if is_escapable c then words_from Double done (grown word c) cs
+    else words_from Double done (grown (grown word backslash) c) cs
+
+-- the words of a command, or None where a quote is open or a backslash stands last
+abbrev pub shell_words : List ℕ → Option (List (List ℕ))
+shell_words text = words_from Outside [] None text

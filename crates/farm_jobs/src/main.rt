@@ -1,0 +1,40 @@
+//! The program `farm_jobs`: the call `farm_jobs` over the standard streams of the system.
+#![tactic(auto)]
+
+use compile_database::farm_jobs;
+use edge_real::{StdSink, StdSource};
+use std::alloc::AllocError;
+use std::env;
+use std::process::ExitCode;
+
+/// The exit status for want of memory.
+const NO_MEMORY: u8 = 105;
+
+// The words of the command line. Where one isn't UTF-8, they are one empty word, which is refused.
+fn words_of(rt: &HostRuntime) -> Result<Vec<String>, AllocError> {
+    let mut words = Vec::new(rt.alloc());
+    match env::args(rt) {
+        Ok(given) => {
+            for word in given.skip(1) {
+                words.push(word)?;
+            }
+        }
+        Err(_) => words.push(String::new(rt.alloc()))?,
+    }
+    Ok(words)
+}
+
+// Runs `farm_jobs` on these words and the standard streams, and answers its exit status.
+fn run(rt: &HostRuntime, words: &[String]) -> u8 {
+    let mut input = StdSource::new(rt.stdin());
+    let mut out = StdSink::new(rt.stdout());
+    let mut err = StdSink::new(rt.stderr());
+    farm_jobs(rt.alloc(), words, &mut input, &mut out, &mut err)
+}
+
+fn main(rt: HostRuntime) -> ExitCode {
+    match words_of(&rt) {
+        Ok(words) => ExitCode::from(run(&rt, words.as_slice())),
+        Err(_) => ExitCode::from(NO_MEMORY),
+    }
+}
