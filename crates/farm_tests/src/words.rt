@@ -283,7 +283,10 @@ const BAD_WORDS: [(&[&str], &str); 19] = [
 
 // What the help of each command begins with.
 const HELP: [(&[&str], &str); 6] = [
-    (&["--help"], "Usage: farm build --hosts 'build1/4 build2/4' --workers 8 <jobs\n"),
+    (
+        &["--help"],
+        "Usage: farm build --hosts 'build1/4 build2/4' --workers 8 <jobs\n",
+    ),
     (&["build", "--help"], "Usage: farm build [OPTION]...\n"),
     (&["cc", "--help"], "Usage: farm cc WORD...\n"),
     (&["hosts", "--help"], "Usage: farm hosts [--hosts LIST]\n"),
