@@ -6,18 +6,21 @@ use crate::{
 use std::alloc::Global;
 use std::test::Fail;
 
+// Wait statuses, and their exit codes.
+const EXIT_CODES: &[(u32, u8)] = &[
+    (0, 0),
+    (256, 1),
+    (65_280, 255),
+    (9, 104),
+    (139, 104),
+    (128, 104),
+    (65_536, 104),
+];
+
 #[test]
 fn exit_codes(rt: HostRuntime) {
-    for (status, code) in [
-        (0, 0),
-        (256, 1),
-        (65_280, 255),
-        (9, 104),
-        (139, 104),
-        (128, 104),
-        (65_536, 104),
-    ] {
-        assert_eq!(rt; exit_code(status), code, "status {status}");
+    for (status, code) in EXIT_CODES {
+        assert_eq!(rt; exit_code(*status), *code, "status {status}");
     }
 }
 
@@ -41,44 +44,51 @@ fn request(alloc: Global, count: usize, len: usize) -> Result<Request, Fail> {
     })
 }
 
+// How many words, of how many bytes each, and whether a request of them is within the limits.
+const REQUESTS: &[(usize, usize, bool)] = &[
+    (0, 1, false),
+    (1, 0, true),
+    (WORDS_MAX, 1, true),
+    (WORDS_MAX + 1, 1, false),
+    (1, WORD_MAX, true),
+    (1, WORD_MAX + 1, false),
+    (WORDS_BYTES_MAX / WORD_MAX, WORD_MAX, true),
+    (WORDS_BYTES_MAX / WORD_MAX + 1, WORD_MAX, false),
+];
+
 #[test]
 fn requests_within_the_limits(rt: HostRuntime) -> Result<(), Fail> {
-    for (count, len, fits) in [
-        (0, 1, false),
-        (1, 0, true),
-        (WORDS_MAX, 1, true),
-        (WORDS_MAX + 1, 1, false),
-        (1, WORD_MAX, true),
-        (1, WORD_MAX + 1, false),
-        (WORDS_BYTES_MAX / WORD_MAX, WORD_MAX, true),
-        (WORDS_BYTES_MAX / WORD_MAX + 1, WORD_MAX, false),
-    ] {
-        assert_eq!(rt;
-            request(rt.alloc(), count, len)?.fits(),
-            fits,
-            "{count} words of {len} bytes"
-        );
+    for (count, len, fits) in REQUESTS {
+        let request = request(rt.alloc(), *count, *len)?;
+        assert_eq!(rt; request.fits(), *fits, "{count} words of {len} bytes");
     }
     Ok(())
 }
 
+fn outcome(alloc: Global, status: u32, err: usize, object: usize) -> Result<Outcome, Fail> {
+    Ok(Outcome {
+        status,
+        err: repeated(alloc, err)?,
+        out: Bytes::new(alloc),
+        object: repeated(alloc, object)?,
+    })
+}
+
+// A status, the bytes of the messages and of the object, and whether the outcome is within the limits.
+const OUTCOMES: &[(u32, usize, usize, bool)] = &[
+    (0, MESSAGES_MAX, 1, true),
+    (0, MESSAGES_MAX + 1, 1, false),
+    (256, 3, 0, true),
+    (256, 3, 1, false),
+];
+
 #[test]
 fn outcomes_within_the_limits(rt: HostRuntime) -> Result<(), Fail> {
-    for (status, err, object, fits) in [
-        (0, MESSAGES_MAX, 1, true),
-        (0, MESSAGES_MAX + 1, 1, false),
-        (256, 3, 0, true),
-        (256, 3, 1, false),
-    ] {
-        let outcome = Outcome {
-            status,
-            err: repeated(rt.alloc(), err)?,
-            out: Bytes::new(rt.alloc()),
-            object: repeated(rt.alloc(), object)?,
-        };
+    for (status, err, object, fits) in OUTCOMES {
+        let outcome = outcome(rt.alloc(), *status, *err, *object)?;
         assert_eq!(rt;
             outcome.fits(),
-            fits,
+            *fits,
             "status {status}, {err} and {object} bytes"
         );
     }
@@ -103,9 +113,16 @@ fn copies(rt: HostRuntime) -> Result<(), Fail> {
     twice.try_extend(&words)?;
     assert_eq!(rt; twice.len(), 6);
     assert!(rt; matches!(twice.get(4), Some(Word::Input(Ext::Ii))));
+    assert_eq!(rt; Ran::nothing(rt.alloc()).copy()?.status, 0);
+    Ok(())
+}
 
+#[test]
+fn copies_of_hosts(rt: HostRuntime) -> Result<(), Fail> {
     let host = Host {
-        name: HostName { text: bytes },
+        name: HostName {
+            text: Bytes::from_slice(rt.alloc(), b"gcc")?,
+        },
         port: 3632,
         limit: 4,
         local: false,
@@ -120,8 +137,6 @@ fn copies(rt: HostRuntime) -> Result<(), Fail> {
             .collect(rt.alloc())?,
     );
     assert_eq!(rt; ports.as_slice(), [3632].as_slice());
-
-    assert_eq!(rt; Ran::nothing(rt.alloc()).copy()?.status, 0);
     Ok(())
 }
 
