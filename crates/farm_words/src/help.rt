@@ -1,6 +1,7 @@
 //! What `--help` and `--version` print (docs/usage.md says the same).
 
 ghost use Rattle.std.specs.Prelude.{◌≡◌};
+ghost use Rattle.farm_words.specs.Help as help;
 ghost use Rattle.farm_words.specs.Help.{help_of, version};
 
 use crate::name::CommandName;
@@ -118,16 +119,34 @@ compiler, without a host, a network or a compiler. Prints how many of them were
 done with status 0, and how many bytes their objects have together.
 ";
 
+fn program_help() -> &'static [u8]
+    ensures { result.now ≡ help.program_help }
+{
+    PROGRAM_HELP
+}
+
+fn build_help() -> &'static [u8]
+    ensures { result.now ≡ help.build_help }
+{
+    BUILD_HELP
+}
+
+fn scan_help() -> &'static [u8]
+    ensures { result.now ≡ help.scan_help }
+{
+    SCAN_HELP
+}
+
 /// The help of a command, or of the program where no command is named.
 pub fn help_text(name: Option<CommandName>) -> &'static [u8]
     ensures { result.now ≡ help_of name }
 {
     match name {
-        None => PROGRAM_HELP,
-        Some(CommandName::Build) => BUILD_HELP,
+        None => program_help(),
+        Some(CommandName::Build) => build_help(),
         Some(CommandName::Cc) => CC_HELP,
         Some(CommandName::Hosts) => HOSTS_HELP,
-        Some(CommandName::Scan) => SCAN_HELP,
+        Some(CommandName::Scan) => scan_help(),
         Some(CommandName::Rehearse) => REHEARSE_HELP,
     }
 }
