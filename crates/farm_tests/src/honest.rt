@@ -1,0 +1,102 @@
+//! A build over the daemon's own service, of which it is proved what each object is.
+
+ghost use Rattle.std.specs.Prelude.{ℕ, List, ◌≤◌, length, All, IfOk};
+ghost use Rattle.farm_types.specs.declared.jobs.JobConfig.{JobConfig};
+ghost use Rattle.edge_traits.specs.Keepers.{IsIdle};
+ghost use Rattle.edge_memory.specs.Clocks.{clock_state, clock_shows};
+ghost use Rattle.edge_memory.specs.Keepers.{keeper_state, keeper_shows};
+ghost use Rattle.farm_program.specs.Builds.{JobsDone};
+ghost use Rattle.job_driver.specs.Jobs.{job_at};
+ghost use Rattle.rehearsal.specs.Loops.{IsLoop, loop_kits, AllCompilers};
+
+use crate::devices::{Page, content_of, empty_keeper, standing_clock, strings};
+use edge_memory::{MemClock, MemKeeper, MemSource};
+use edge_traits::{CallNumbers, Kit};
+use farm_program::{Ended, farm};
+use farm_types::Bytes;
+use loop_link::LoopDialer;
+use rehearsal::{compiler_table, loops_answer_as_the_compiler};
+use sample_compiler::SampleStation;
+use std::alloc::{AllocError, Global};
+use std::sync::Wait;
+use std::test::Fail;
+use std::thread::Threads;
+use workload::make;
+
+type LoopKit = Kit<LoopDialer<SampleStation>, SampleStation, MemKeeper, MemClock>;
+
+// A kit whose loop and station run the compiler over the files of one job of the workload.
+fn loop_kit(alloc: Global) -> Result<LoopKit, AllocError>
+    ensures loops { IfOk result (λ kit. IsLoop kit) }
+    ensures idle { IfOk result (λ kit. IsIdle (keeper_shows (keeper_state kit.keeper))) }
+{
+    let there = SampleStation::new(make(alloc, 1)?.files);
+    let here = SampleStation::new(make(alloc, 1)?.files);
+    Ok(Kit {
+        dialer: LoopDialer::new(there, compiler_table(alloc)?),
+        station: here,
+        keeper: empty_keeper(alloc),
+        clock: standing_clock(alloc),
+    })
+}
+
+fn one_kit(alloc: Global) -> Result<Vec<LoopKit>, AllocError>
+    ensures one { IfOk result (λ kits. length kits.items ≤ 1) }
+    ensures some { IfOk result (λ kits. 1 ≤ length kits.items) }
+    ensures loops { IfOk result (λ kits. All (λ kit. IsLoop kit) kits.items) }
+    ensures idle { IfOk result (λ kits. All (λ kit. IsIdle (keeper_shows (keeper_state kit.keeper))) kits.items) }
+{
+    let mut kits = Vec::new(alloc);
+    kits.push(loop_kit(alloc)?)?;
+    Ok(kits)
+}
+
+// A build over such kits. Each object that a job puts is the sample compiler's, of the job's own preprocessed source and words.
+fn build_over_loops<W: Threads + Wait + Sync>(
+    rt: &W,
+    alloc: Global,
+    kits: &mut Vec<LoopKit>,
+    out: &mut Page,
+    err: &mut Page,
+) -> Result<Ended, Fail>
+    requires one { length kits.old.items ≤ 1 }
+    requires some { 1 ≤ length kits.old.items }
+    requires loops { All (λ kit. IsLoop kit) kits.old.items }
+    requires idle { All (λ kit. IsIdle (keeper_shows (keeper_state kit.keeper))) kits.old.items }
+    ensures { IfOk result (λ ended. (config : JobConfig) (jobs : List (List (List ℕ))) (workers : ℕ)
+        (done : JobsDone (loop_kits (λ k. keeper_shows (keeper_state k)) (λ c. clock_shows (clock_state c))) config jobs workers ended.built kits.old.items kits.new.items)
+        → workers ≤ length kits.old.items
+        → AllCompilers done.one.last.limits (job_at jobs config) done.ran.read.worker done.ran.read.acts kits.old.items) }
+{
+    let words = strings(alloc, &["build", "--hosts", "loop"])?;
+    let text = Bytes::from_slice(alloc, b"scc -c j1.c -o j1.o\n")?;
+    let mut input = MemSource::new(text, CallNumbers::new(alloc), 4_096);
+    loops_answer_as_the_compiler(&kits[0].keeper, &kits[0].clock);
+    Ok(farm(
+        rt,
+        alloc,
+        words.as_slice(),
+        &[],
+        &mut input,
+        kits,
+        out,
+        err,
+    ))
+}
+
+#[test]
+fn a_build_over_loops_puts_what_the_compiler_leaves(rt: HostRuntime) -> Result<(), Fail> {
+    let alloc = rt.alloc();
+    let mut kits = one_kit(alloc)?;
+    let mut out = Page::new(alloc);
+    let mut err = Page::new(alloc);
+    let ended = build_over_loops(&rt, alloc, &mut kits, &mut out, &mut err)?;
+    assert_eq!(rt; ended.status, 0);
+    for kit in kits.iter_mut() {
+        let Some(object) = content_of(alloc, kit, b"j1.o")? else {
+            return Err("the object stands".into());
+        };
+        assert_eq!(rt; object.as_slice(), b"SCO1\ndef j1 496 7 * 1 +\n");
+    }
+    Ok(())
+}
