@@ -5,7 +5,7 @@ ghost use Rattle.edge_traits.specs.Keepers.{IsIdle};
 ghost use Rattle.object_delivery.specs.ScriptedFiles.{files_state, files_shows};
 ghost use Rattle.object_delivery.specs.Staging.{keeper_view};
 
-use crate::judging::{JOBS, Verdict, objects, printed};
+use crate::judging::{JOBS, Verdict, lines_of, objects};
 use edge_memory::{
     LinkScript, LinkScripts, MemClock, MemDialer, MemSink, MemSource, MemStation, Moments, Moves,
     RanList,
@@ -104,7 +104,7 @@ fn all_objects(alloc: Global, kits: Vec<FileKit>) -> Result<Option<u32>, AllocEr
 
 // How a run ended that answered this, printed so, and put so many objects.
 fn judge(status: u8, out: &[u8], err: &[u8], whole: u32) -> Verdict {
-    let Some(seen) = std::str::from_utf8(out).ok().and_then(printed) else {
+    let Some(seen) = std::str::from_utf8(out).ok().and_then(lines_of) else {
         return Verdict::Wrong("a line is none of this run");
     };
     if status == 0 && seen.total && seen.ok == JOBS && whole == JOBS && err.is_empty() {

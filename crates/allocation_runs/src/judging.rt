@@ -64,7 +64,7 @@ fn with_line(printed: Printed, line: &str) -> Option<Printed> {
 }
 
 /// The whole lines that were printed, where each of them is one that a run may print.
-pub fn printed(text: &str) -> Option<Printed> {
+pub fn lines_of(text: &str) -> Option<Printed> {
     let mut seen = Printed {
         lines: 0,
         ok: 0,
@@ -87,7 +87,7 @@ enum Found {
     Other,
 }
 
-fn found(alloc: Global, files: &mut MemFiles, name: &[u8]) -> Result<Found, AllocError> {
+fn look_up(alloc: Global, files: &mut MemFiles, name: &[u8]) -> Result<Found, AllocError> {
     let path = Bytes::from_slice(alloc, name)?;
     match files.load(alloc, &path, 1_000) {
         Ok(bytes) if bytes.as_slice() == OBJECT => Ok(Found::Object),
@@ -103,12 +103,12 @@ pub fn objects(alloc: Global, files: &mut MemFiles) -> Result<Option<u32>, Alloc
     for number in 1..=JOBS {
         let name = format!(in alloc; "f{number}.o")?;
         let staged = format!(in alloc; "f{number}.o.farm~")?;
-        match found(alloc, files, name.as_bytes())? {
+        match look_up(alloc, files, name.as_bytes())? {
             Found::Object => whole = whole.saturating_add(1),
             Found::Nothing => {}
             Found::Other => return Ok(None),
         }
-        if found(alloc, files, staged.as_bytes())? != Found::Nothing {
+        if look_up(alloc, files, staged.as_bytes())? != Found::Nothing {
             return Ok(None);
         }
     }
