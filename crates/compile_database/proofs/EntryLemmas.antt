@@ -92,3 +92,7 @@ utf8_test false word h = by (is_utf8 word) refl
     by : (test : Bool) → is_utf8 word ≡ test → false ≡ is_utf8 word
     by true e = absurd (let f = h.1 (IsUtf8-from_is_utf8 word e) in cc)
     by false e = sym e
+
+pub not_nil_from_test : {X : Type 0} (xs : List X) → false ≡ (length xs == 0) → xs ≡ [] → ⊥
+not_nil_from_test [] h e = cc
+not_nil_from_test (x ∷ xs) h e = cc

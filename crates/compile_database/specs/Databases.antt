@@ -47,11 +47,19 @@ pub record FolderIs (choice : Choice) (entries : List Data) (folder : List ℕ) 
   pub chosen : chosen_folder choice.folder entries ≡ Some folder
   pub only : choice.folder ≡ None → NoneIs (is_out folder) entries
 
--- the entries that are taken, by their places, and their words in order
-pub record JobsOfEntries (choice : Choice) (entries : List Data) (jobs : List (List (List ℕ))) : Type 0 where
+-- these are the places of the entries that are taken, 1 to 512
+pub record ArePlaces (choice : Choice) (entries : List Data) (places : List ℕ) : Type 0 where
   pub folder : List ℕ
   pub of_folder : FolderIs choice entries folder
-  pub each : AreEntries entries (taken choice folder entries) jobs
+  pub are : places ≡ taken choice folder entries
+  pub some : places ≡ [] → ⊥
+  pub few : slice_get places 512 ≡ None
+
+-- the entries that are taken, and their words in order
+pub record JobsOfEntries (choice : Choice) (entries : List Data) (jobs : List (List (List ℕ))) : Type 0 where
+  pub places : List ℕ
+  pub taken : ArePlaces choice entries places
+  pub each : AreEntries entries places jobs
 
 -- ---- the job list
 
@@ -96,14 +104,14 @@ pub record HasListFault (choice : Choice) (entries : List Data) (fault : Databas
 abbrev pub IsEmpty : Choice → List Data → Type 0
 IsEmpty choice entries = (choice.folder ≡ None) × (entries ≡ [])
 
--- the fault of the entries, by the first of these rules that they fall under
+-- the fault of the entries, by the one of these rules that they fall under
 pub data EntriesFault (choice : Choice) (entries : List Data) : DatabaseFault → Type 0 where
   no_folder : {at : ℕ} → IsFirst is_placeless entries at → EntriesFault choice entries (NoFolder at)
   no_entry : IsEmpty choice entries → EntriesFault choice entries NoEntries
   other_folder : {at : ℕ} (folder : List ℕ) → NoneIs is_placeless entries → choice.folder ≡ None → chosen_folder choice.folder entries ≡ Some folder → IsFirst (is_out folder) entries at → EntriesFault choice entries (OtherFolder at)
   none_taken : (folder : List ℕ) → FolderIs choice entries folder → taken choice folder entries ≡ [] → EntriesFault choice entries NoEntries
   too_many : {at : ℕ} (folder : List ℕ) → FolderIs choice entries folder → slice_get (taken choice folder entries) 512 ≡ Some at → EntriesFault choice entries (TooMany at)
-  bad_entry : {fault : DatabaseFault} (folder : List ℕ) → FolderIs choice entries folder → HasBadEntry entries (taken choice folder entries) fault → EntriesFault choice entries fault
+  bad_entry : {fault : DatabaseFault} (places : List ℕ) → ArePlaces choice entries places → HasBadEntry entries places fault → EntriesFault choice entries fault
   list_fault : {fault : DatabaseFault} → HasListFault choice entries fault → EntriesFault choice entries fault
 
 -- why a text gives no job list

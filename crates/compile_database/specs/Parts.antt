@@ -2,14 +2,8 @@
 use Rattle.std.specs.Prelude.{◌≡◌, ℕ, List}
 use Rattle.serde_json.specs.Data.{Data}
 use Rattle.job_list.specs.Jobs.{JobsOf}
-use Rattle.compile_database.specs.Choices.{Choice, taken}
-use Rattle.compile_database.specs.Databases.{FolderIs, JobsOfEntries}
-
--- these are the places of the entries that are taken
-pub record ArePlaces (choice : Choice) (entries : List Data) (places : List ℕ) : Type 0 where
-  pub folder : List ℕ
-  pub of_folder : FolderIs choice entries folder
-  pub are : places ≡ taken choice folder entries
+use Rattle.compile_database.specs.Choices.{Choice}
+use Rattle.compile_database.specs.Databases.{JobsOfEntries}
 
 -- the list is a job list of the entries that are taken
 pub record ListOfEntries (choice : Choice) (entries : List Data) (list : List ℕ) : Type 0 where

@@ -5,8 +5,8 @@ ghost use Rattle.std.specs.Option.{option_copied};
 ghost use Rattle.serde_json.specs.View.{view};
 ghost use Rattle.compile_database.specs.Choices.{taken};
 ghost use Rattle.compile_database.specs.Selections.{choice_of};
-ghost use Rattle.compile_database.specs.Databases.{EntriesFault, FaultStands, FolderIs, IsError, ListOf};
-ghost use Rattle.compile_database.specs.Parts.{ListOfEntries, ArePlaces};
+ghost use Rattle.compile_database.specs.Databases.{ArePlaces, EntriesFault, FaultStands, FolderIs, IsError, ListOf};
+ghost use Rattle.compile_database.specs.Parts.{ListOfEntries};
 
 use crate::choice::{Selection, chosen_folder, first_out, first_placeless, taken};
 use crate::fault::{DatabaseError, DatabaseFault};
