@@ -1,5 +1,5 @@
 -- The entries that are taken, and their job list.
-use Rattle.std.proofs.Common.{ℕ, List, refl, subst}
+use Rattle.std.proofs.Common.{ℕ, List, refl}
 use Rattle.serde_json.specs.Data.{Data}
 use Rattle.compile_database.specs.declared.fault.DatabaseFault.{DatabaseFault}
 use Rattle.compile_database.specs.declared.fault.DatabaseFault.TheVariants.{NotJson, NotArray, NoFolder, OtherFolder, NoEntries, TooMany, NoForm, OpenQuote, NoWords, BadWord, JobList}

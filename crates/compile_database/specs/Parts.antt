@@ -1,5 +1,5 @@
 -- What is known of the entries before they are written.
-use Rattle.std.specs.Prelude.{◌≡◌, ℕ, List}
+use Rattle.std.specs.Prelude.{ℕ, List}
 use Rattle.serde_json.specs.Data.{Data}
 use Rattle.job_list.specs.Jobs.{JobsOf}
 use Rattle.compile_database.specs.Choices.{Choice}
