@@ -96,7 +96,7 @@ fn a_build_over_loops_puts_what_the_compiler_leaves(rt: HostRuntime) -> Result<(
         let Some(object) = content_of(alloc, kit, b"j1.o")? else {
             return Err("the object stands".into());
         };
-        assert_eq!(rt; object.as_slice(), b"SCO1\ndef j1 496 7 * 1 +\n");
+        assert_eq!(rt; object.as_slice(), b"SCO1\ndef j1 496 7 * 1 +\n".as_slice());
     }
     Ok(())
 }

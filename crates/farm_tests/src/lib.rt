@@ -8,6 +8,8 @@ mod faults;
 #[cfg(test)]
 mod gates;
 #[cfg(test)]
+mod honest;
+#[cfg(test)]
 mod jobs;
 #[cfg(test)]
 mod loops;
