@@ -72,16 +72,7 @@ fn build_over_loops<W: Threads + Wait + Sync>(
     let text = Bytes::from_slice(alloc, b"scc -c j1.c -o j1.o\n")?;
     let mut input = MemSource::new(text, CallNumbers::new(alloc), 4_096);
     loops_answer_as_the_compiler(&kits[0].keeper, &kits[0].clock);
-    Ok(farm(
-        rt,
-        alloc,
-        words.as_slice(),
-        &[],
-        &mut input,
-        kits,
-        out,
-        err,
-    ))
+    Ok(farm(rt, alloc, words.as_slice(), &[], &mut input, kits, out, err))
 }
 
 #[test]

@@ -21,7 +21,8 @@ use std::thread::Threads;
 type LoopKit = Kit<LoopDialer<SampleStation>, SampleStation, MemKeeper, MemClock>;
 
 /// The request of the first job: its words and its source.
-const REQUEST: &[u8] = b"DIST00000001ARGC00000006ARGV00000003sccARGV00000003-O2ARGV00000002-cARGV00000004f1.cARGV00000002-oARGV00000004f1.oDOTI0000000cint f1 = 3;\n";
+const REQUEST: &[u8] =
+    b"DIST00000001ARGC00000006ARGV00000003sccARGV00000003-O2ARGV00000002-cARGV00000004f1.cARGV00000002-oARGV00000004f1.oDOTI0000000cint f1 = 3;\n";
 
 // Twelve sources, each with an item of its own.
 fn sources(alloc: Global) -> Result<FileMap, AllocError> {
@@ -114,7 +115,11 @@ fn is_sent(exchanges: &[Exchange], request: &[u8]) -> bool {
     false
 }
 
-fn is_sent_by_any(alloc: Global, mut kits: Vec<LoopKit>, request: &[u8]) -> Result<bool, AllocError> {
+fn is_sent_by_any(
+    alloc: Global,
+    mut kits: Vec<LoopKit>,
+    request: &[u8],
+) -> Result<bool, AllocError> {
     let mut sent = false;
     'looking: while let Some(kit) = kits.pop() {
         let Kit { dialer, .. } = kit;
@@ -137,19 +142,16 @@ fn build_twelve<W: Threads + Wait + Sync>(
 {
     let words = strings(
         alloc,
-        &["build", "--hosts", "127.0.0.1:3632/4 localhost/2", "--workers", "4"],
+        &[
+            "build",
+            "--hosts",
+            "127.0.0.1:3632/4 localhost/2",
+            "--workers",
+            "4",
+        ],
     )?;
     let mut input = MemSource::new(job_list(alloc)?, CallNumbers::new(alloc), 4_096);
-    Ok(farm(
-        rt,
-        alloc,
-        words.as_slice(),
-        &[],
-        &mut input,
-        kits,
-        out,
-        err,
-    ))
+    Ok(farm(rt, alloc, words.as_slice(), &[], &mut input, kits, out, err))
 }
 
 #[test]
