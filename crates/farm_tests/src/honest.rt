@@ -72,16 +72,7 @@ fn build_over_loops<W: Threads + Wait + Sync>(
     let text = Bytes::from_slice(alloc, b"scc -c j1.c -o j1.o\n")?;
     let mut input = MemSource::new(text, CallNumbers::new(alloc), 4_096);
     loops_answer_as_the_compiler(&kits[0].keeper, &kits[0].clock);
-    Ok(farm(
-        rt,
-        alloc,
-        words.as_slice(),
-        &[],
-        &mut input,
-        kits,
-        out,
-        err,
-    ))
+    Ok(farm(rt, alloc, words.as_slice(), &[], &mut input, kits, out, err))
 }
 
 #[test]
@@ -96,7 +87,7 @@ fn a_build_over_loops_puts_what_the_compiler_leaves(rt: HostRuntime) -> Result<(
         let Some(object) = content_of(alloc, kit, b"j1.o")? else {
             return Err("the object stands".into());
         };
-        assert_eq!(rt; object.as_slice(), b"SCO1\ndef j1 496 7 * 1 +\n");
+        assert_eq!(rt; object.as_slice(), b"SCO1\ndef j1 496 7 * 1 +\n".as_slice());
     }
     Ok(())
 }

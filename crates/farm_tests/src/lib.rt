@@ -10,6 +10,8 @@ mod files;
 #[cfg(test)]
 mod gates;
 #[cfg(test)]
+mod honest;
+#[cfg(test)]
 mod jobs;
 #[cfg(test)]
 mod loops;
