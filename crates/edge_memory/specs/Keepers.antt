@@ -7,7 +7,8 @@ use Rattle.edge_traits.specs.declared.faults.EdgeFault.{EdgeFault}
 use Rattle.edge_traits.specs.declared.faults.FetchFault.{FetchFault}
 use Rattle.edge_traits.specs.declared.faults.FetchFault.TheVariants.{Failed, Absent, TooMuch, Memory}
 use Rattle.edge_traits.specs.Told.{told}
-use Rattle.edge_traits.specs.FileMaps.{Files, files_after}
+use Rattle.file_map.specs.FileMaps.{Files}
+use Rattle.edge_traits.specs.FileMaps.{files_after}
 use Rattle.edge_traits.specs.Keepers.{PendingPut, KeeperView, HasLength, put_entries, fetch_entries}
 use Rattle.edge_memory.specs.declared.keeper.MemKeeper.{MemKeeper}
 use Rattle.edge_traits.specs.Calls.{names_next, one_more, failed_calls}

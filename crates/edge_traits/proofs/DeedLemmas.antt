@@ -3,7 +3,7 @@ use Rattle.std.proofs.Common.{◌≡◌, List, [], ◌∷◌, ◌++◌, ◌∙�
 use Rattle.std.proofs.lemmas.Grind.{flat_map-append}
 use Rattle.edge_traits.specs.declared.entries.Put.{Put}
 use Rattle.std.specs.FinMap.{insert}
-use Rattle.edge_traits.specs.FileMaps.{Files}
+use Rattle.file_map.specs.FileMaps.{Files}
 use Rattle.edge_traits.specs.Kits.{KitView}
 use Rattle.edge_traits.specs.Deeds.{Deed, run_of, fetch_of, exchange_of, put_of, moment_of, puts_in, files_put, DidIn}
 use Rattle.edge_traits.proofs.ToldLemmas.{Grew-join, Grew-refl}

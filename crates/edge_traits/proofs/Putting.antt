@@ -4,7 +4,8 @@ use Rattle.std.proofs.lemmas.List.{append-nil}
 use Rattle.std.specs.Prelude.{Result, Option, Some, None, IsSome}
 use Rattle.edge_traits.specs.declared.entries.Put.{Put}
 use Rattle.edge_traits.specs.Told.{Told, Grew, Became}
-use Rattle.edge_traits.specs.FileMaps.{Files, files_after}
+use Rattle.file_map.specs.FileMaps.{Files}
+use Rattle.edge_traits.specs.FileMaps.{files_after}
 use Rattle.edge_traits.specs.Keepers.{PendingPut, KeeperView, IsPutOf, HasPending, IsPending, put_entries}
 
 some_put : (path bytes : List ℕ) (put : Option PendingPut) → IsPutOf path bytes put → IsSome put

@@ -7,7 +7,7 @@ use Rattle.edge_traits.specs.declared.entries.Run.{Run}
 use Rattle.edge_traits.specs.declared.entries.Put.{Put}
 use Rattle.edge_traits.specs.declared.entries.Fetch.{Fetch}
 use Rattle.edge_traits.specs.Told.{Grew, Became}
-use Rattle.edge_traits.specs.FileMaps.{Files}
+use Rattle.file_map.specs.FileMaps.{Files}
 use Rattle.edge_traits.specs.Kits.{KitView}
 
 -- one thing that was done: an entry of one of the lists that a kit tells, or a look at its clock

@@ -7,7 +7,7 @@ use Rattle.edge_traits.specs.declared.faults.FetchFault.{FetchFault}
 use Rattle.edge_traits.specs.declared.faults.FetchFault.TheVariants.{Failed, Absent, TooMuch, Memory}
 use Rattle.edge_traits.specs.Told.{Told}
 use Rattle.edge_traits.specs.Causes.{Rose, Still}
-use Rattle.edge_traits.specs.FileMaps.{Files}
+use Rattle.file_map.specs.FileMaps.{Files}
 
 -- a put that was begun: the path, and the bytes so far
 pub record PendingPut : Type 0 where

@@ -7,8 +7,8 @@ use Rattle.std.specs.declared.cmp.Ordering.TheVariants.{Less, Equal, Greater}
 use Rattle.std.specs.Cmp.{eq_by_cmp_equiv}
 use Rattle.std.specs.Cmp.Lexicographic.{slice_cmp, nat_list_cmp_total, texts_ties}
 use Rattle.std.specs.FinMap.{get, insert, remove, retain_keys, get-insert, get-remove, get-retain_keys, slice_cmp-IsAntisymmetric, nat_cmp-IsAntisymmetric}
-use Rattle.edge_traits.specs.FileMaps.{Files}
-use Rattle.edge_traits.proofs.FileLemmas.{same_files, put-put}
+use Rattle.file_map.specs.FileMaps.{Files}
+use Rattle.file_map.proofs.FileLemmas.{same_files, put-put}
 use Rattle.object_delivery.specs.FileViews.{content_of, appended, with_moved, moved_file}
 use Rattle.object_delivery.specs.Staging.{HasFile}
 

@@ -6,7 +6,7 @@ use Rattle.std.specs.FinMap.{insert, remove}
 use Rattle.edge_traits.specs.declared.faults.EdgeFault.{EdgeFault}
 use Rattle.edge_traits.specs.Causes.{Still}
 use Rattle.edge_traits.specs.Told.{Told, Became}
-use Rattle.edge_traits.specs.FileMaps.{Files}
+use Rattle.file_map.specs.FileMaps.{Files}
 use Rattle.object_delivery.specs.FileViews.{FilesView, Appends, appended}
 use Rattle.object_delivery.specs.Staging.{HasFile, ChangesOnly}
 use Rattle.object_delivery.proofs.FileMapLemmas.{remove-insert, remove-remove, appended-nil, appended-appended}

@@ -4,9 +4,10 @@ use Rattle.std.specs.Prelude.{Option, Some, None}
 use Rattle.std.proofs.lemmas.Slice.Eq.{ends_is}
 use Rattle.std.proofs.lemmas.Bool.Decides.{Decides-eqb}
 use Rattle.std.specs.FinMap.{get, insert, remove}
-use Rattle.edge_traits.specs.FileMaps.{Files, IsStaged}
+use Rattle.file_map.specs.FileMaps.{Files}
+use Rattle.edge_traits.specs.FileMaps.{IsStaged}
 use Rattle.object_delivery.specs.Staging.{staged, ending, is_staged, finished, delivered}
-use Rattle.edge_traits.proofs.FileLemmas.{same_files}
+use Rattle.file_map.proofs.FileLemmas.{same_files}
 use Rattle.object_delivery.proofs.FileMapLemmas.{is_name, unless, one_name, at_insert, at_remove, at_retain}
 
 pub is_staged-staged : (path : List ℕ) → is_staged (staged path) ≡ true

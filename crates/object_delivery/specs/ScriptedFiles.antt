@@ -6,7 +6,8 @@ use Rattle.edge_traits.specs.declared.faults.FetchFault.{FetchFault}
 use Rattle.edge_traits.specs.declared.faults.FetchFault.TheVariants.{Failed, Absent, TooMuch, Memory}
 use Rattle.edge_traits.specs.Told.{told}
 use Rattle.edge_traits.specs.Calls.{names_next, one_more, failed_calls}
-use Rattle.edge_traits.specs.FileMaps.{Files, files_after}
+use Rattle.file_map.specs.FileMaps.{Files}
+use Rattle.edge_traits.specs.FileMaps.{files_after}
 use Rattle.edge_traits.specs.Keepers.{HasLength}
 use Rattle.object_delivery.specs.declared.mem_files.MemFiles.{MemFiles}
 use Rattle.object_delivery.specs.FileViews.{FilesView, appended, files_renamed, files_without}

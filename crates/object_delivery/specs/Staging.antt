@@ -7,7 +7,8 @@ use Rattle.edge_traits.specs.declared.faults.EdgeFault.{EdgeFault}
 use Rattle.edge_traits.specs.declared.faults.EdgeFault.TheVariants.{Failed, Memory}
 use Rattle.edge_traits.specs.Told.{Told, Became}
 use Rattle.edge_traits.specs.Causes.{Rose, RoseBy}
-use Rattle.edge_traits.specs.FileMaps.{Files, IsStaged}
+use Rattle.file_map.specs.FileMaps.{Files}
+use Rattle.edge_traits.specs.FileMaps.{IsStaged}
 use Rattle.edge_traits.specs.Keepers.{PendingPut, KeeperView}
 use Rattle.object_delivery.specs.FileViews.{FilesView, as_keeper, content_of}
 use Rattle.object_delivery.specs.declared.keeper.Staged.{Staged}

@@ -5,7 +5,7 @@ use Rattle.edge_traits.specs.Told.{told, untold}
 use Rattle.edge_traits.specs.Keepers.{KeeperView}
 use Rattle.edge_traits.specs.Stations.{StationView}
 use Rattle.edge_memory.specs.Keepers.{pending_of}
-use Rattle.sample_lang.specs.FileMaps.{Files}
+use Rattle.file_map.specs.FileMaps.{Files}
 use Rattle.sample_compiler.specs.Stations.{station_files, station_shows}
 use Rattle.rehearsal.specs.declared.keeper.StillKeeper.{StillKeeper}
 use Rattle.rehearsal.specs.declared.station.StillStation.{StillStation}

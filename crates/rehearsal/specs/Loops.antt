@@ -19,7 +19,7 @@ use Rattle.loop_link.specs.Dialers.{dialer_state, dialer_shows, held_of, DialerG
 use Rattle.loop_link.specs.Replies.{AreOwnNames}
 use Rattle.sample_compiler.specs.declared.station.SampleStation.{SampleStation}
 use Rattle.sample_compiler.specs.Stations.{StationRan, station_files, station_shows}
-use Rattle.sample_lang.specs.FileMaps.{Files}
+use Rattle.file_map.specs.FileMaps.{Files}
 
 -- a kit whose dialer is a loop over the sample compiler, and whose station is the sample compiler
 abbrev pub LoopKit : Type 0 → Type 0 → Type 0

@@ -18,7 +18,7 @@ use Rattle.job_driver.specs.Driven.{Devices, devices, JobsRan, is_done_or_wanted
 use Rattle.job_driver.specs.Jobs.{job_at}
 use Rattle.loop_link.specs.Dialers.{dialer_state, dialer_shows, DialerGives}
 use Rattle.report_text.specs.Pieces.{is_done_well}
-use Rattle.sample_lang.specs.FileMaps.{Files}
+use Rattle.file_map.specs.FileMaps.{Files}
 use Rattle.sample_compiler.specs.Samples.{SampleOf}
 use Rattle.sample_compiler.specs.Stations.{StationRan, station_files}
 use Rattle.workload.specs.Loads.{jobs_of, files_of}

@@ -5,7 +5,7 @@ use Rattle.std.proofs.lemmas.List.{append-nil}
 use Rattle.edge_traits.specs.Told.{Told, Grew, Became}
 use Rattle.edge_traits.specs.Causes.{Rose}
 use Rattle.edge_traits.specs.Keepers.{KeeperView, IsIdle}
-use Rattle.sample_lang.specs.FileMaps.{Files}
+use Rattle.file_map.specs.FileMaps.{Files}
 use Rattle.sample_compiler.specs.declared.loading.LoadFault.{LoadFault}
 use Rattle.sample_compiler.specs.declared.loading.LoadFault.TheVariants.{Failed, TooMuch, Memory}
 use Rattle.sample_compiler.specs.Lookups.{Agrees}

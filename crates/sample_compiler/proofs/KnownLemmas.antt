@@ -10,7 +10,7 @@ use Rattle.std.proofs.lemmas.Bool.{cases_Bool}
 use Rattle.edge_traits.specs.Told.{Told, Grew}
 use Rattle.edge_traits.specs.declared.entries.Fetch.{Fetch}
 use Rattle.edge_traits.specs.Keepers.{KeeperView}
-use Rattle.sample_lang.specs.FileMaps.{Files}
+use Rattle.file_map.specs.FileMaps.{Files}
 use Rattle.sample_compiler.specs.declared.loading.LoadFault.{LoadFault}
 use Rattle.sample_compiler.specs.declared.loading.LoadFault.TheVariants.{Failed, TooMuch, Memory}
 use Rattle.sample_compiler.specs.Lookups.{is_listed}

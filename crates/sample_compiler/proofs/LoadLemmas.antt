@@ -12,7 +12,7 @@ use Rattle.std.proofs.lemmas.Cmp.{nat_list_eq_equiv}
 use lib.Pointwise.{pointwise}
 use Rattle.farm_types.specs.declared.ran.Ran.{Ran}
 use Rattle.arg_scan.specs.Names.{is_reserved}
-use Rattle.sample_lang.specs.FileMaps.{Files}
+use Rattle.file_map.specs.FileMaps.{Files}
 use Rattle.sample_compiler.specs.declared.stops.ExpandFault.{ExpandFault}
 use Rattle.sample_compiler.specs.declared.stops.ExpandStop.{ExpandStop}
 use Rattle.sample_compiler.specs.declared.stops.ExpandStop.TheVariants.{Fault}

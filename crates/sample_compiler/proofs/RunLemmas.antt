@@ -3,7 +3,7 @@ use Rattle.std.proofs.Common.{◌≡◌, ℕ, List, Bool, true, false, ap, sym, 
 use Rattle.std.specs.Prelude.{◌⊎◌, Option, Some, None, Result, Ok, Err, IfOk}
 use Rattle.farm_types.specs.declared.ran.Ran.{Ran}
 use Rattle.sample_lang.specs.declared.program.Item.{Item}
-use Rattle.sample_lang.specs.FileMaps.{Files}
+use Rattle.file_map.specs.FileMaps.{Files}
 use Rattle.sample_lang.specs.Sources.{SourceOf, FaultStands}
 use Rattle.sample_compiler.specs.declared.stops.ExpandFault.{ExpandFault}
 use Rattle.sample_compiler.specs.declared.stops.ExpandStop.{ExpandStop}

@@ -4,8 +4,8 @@ use Rattle.std.specs.Prelude.{Option}
 use Rattle.farm_types.specs.declared.ran.Ran.{Ran}
 use Rattle.farm_types.specs.declared.placed.Word.{Word}
 use Rattle.edge_traits.specs.Told.{SameRelation3}
-use Rattle.sample_lang.specs.FileMaps.{Files}
-use Rattle.sample_lang.proofs.FileLemmas.{put-put}
+use Rattle.file_map.specs.FileMaps.{Files}
+use Rattle.file_map.proofs.FileLemmas.{put-put}
 use Rattle.sample_compiler.specs.declared.task.Task.{Task}
 use Rattle.sample_compiler.specs.Samples.{LeavesAsked}
 use Rattle.sample_compiler.specs.Stations.{own_input, with_input, asked_by, as_left, StationRan}

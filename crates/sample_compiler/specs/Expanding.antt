@@ -1,7 +1,7 @@
 -- What the preprocessor makes of a text.
 use Rattle.std.specs.Prelude.{ℕ, zero, suc, ◌+◌, List, [], ◌∷◌, ◌++◌, codes, ◌==◌, if◌then◌else◌, Option, Some, None, Result, Ok, Err}
 use Rattle.std.specs.FinMap.{get}
-use Rattle.sample_lang.specs.FileMaps.{Files}
+use Rattle.file_map.specs.FileMaps.{Files}
 use Rattle.sample_compiler.specs.declared.defines.Define.{Define}
 use Rattle.sample_compiler.specs.declared.stops.ExpandFault.{ExpandFault}
 use Rattle.sample_compiler.specs.declared.stops.ExpandFault.TheVariants.{BadDirective, NoFile, TooDeep}

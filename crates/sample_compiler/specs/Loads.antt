@@ -8,7 +8,7 @@ use Rattle.edge_traits.specs.declared.entries.Fetch.{Fetch}
 use Rattle.edge_traits.specs.Causes.{Rose}
 use Rattle.edge_traits.specs.Keepers.{KeeperView, IsIdle, HasLength}
 use Rattle.arg_scan.specs.Names.{is_reserved}
-use Rattle.sample_lang.specs.FileMaps.{Files}
+use Rattle.file_map.specs.FileMaps.{Files}
 use Rattle.sample_compiler.specs.declared.loading.LoadFault.{LoadFault}
 use Rattle.sample_compiler.specs.declared.loading.LoadFault.TheVariants.{Failed, TooMuch, Memory}
 use Rattle.sample_compiler.specs.Lookups.{is_listed}

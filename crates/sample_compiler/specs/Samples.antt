@@ -13,7 +13,7 @@ use Rattle.sample_compiler.specs.declared.task.Task.{Task}
 use Rattle.sample_compiler.specs.declared.stops.ExpandFault.{ExpandFault}
 use Rattle.sample_compiler.specs.declared.stops.ExpandFault.TheVariants.{BadDirective, NoFile, TooDeep}
 use Rattle.sample_compiler.specs.Objects.{object_of}
-use Rattle.sample_lang.specs.FileMaps.{Files}
+use Rattle.file_map.specs.FileMaps.{Files}
 use Rattle.sample_compiler.specs.Expanding.{Outcome, expanded}
 use Rattle.sample_compiler.specs.Tasks.{task_of}
 

@@ -1,7 +1,7 @@
 -- Which names are looked up, in order.
 use Rattle.std.specs.Prelude.{ℕ, zero, suc, ◌≡◌, ◌+◌, ◌==◌, ◌||◌, List, [], ◌∷◌, ◌++◌, codes, if◌then◌else◌, Bool, Option, Some, None, is_some, Result, Ok, Err}
 use Rattle.std.specs.FinMap.{get}
-use Rattle.sample_lang.specs.FileMaps.{Files}
+use Rattle.file_map.specs.FileMaps.{Files}
 use Rattle.sample_compiler.specs.declared.defines.Define.{Define}
 use Rattle.sample_compiler.specs.declared.stops.ExpandStop.{ExpandStop}
 use Rattle.sample_compiler.specs.declared.stops.ExpandStop.TheVariants.{Fault, Unknown, Memory}

@@ -7,7 +7,7 @@ use Rattle.farm_types.specs.declared.placed.Word.{Word}
 use Rattle.farm_types.specs.declared.placed.Word.TheVariants.{Text, Input, Output}
 use Rattle.edge_traits.specs.Told.{told}
 use Rattle.edge_traits.specs.Stations.{StationView, has_output}
-use Rattle.sample_lang.specs.FileMaps.{Files}
+use Rattle.file_map.specs.FileMaps.{Files}
 use Rattle.sample_compiler.specs.declared.station.SampleStation.{SampleStation}
 use Rattle.sample_compiler.specs.declared.task.Product.{Product}
 use Rattle.sample_compiler.specs.declared.task.Product.TheVariants as product

@@ -2,7 +2,7 @@
 
 ghost use Rattle.std.specs.Prelude.{ℕ, ◌≡◌, List, true, false, Some, IfOk};
 ghost use Rattle.farm_types.specs.declared.ran.Ran.{Ran};
-ghost use Rattle.sample_lang.specs.FileMaps.{Files};
+ghost use Rattle.file_map.specs.FileMaps.{Files};
 ghost use Rattle.sample_compiler.specs.Lookups.{Agrees};
 ghost use Rattle.sample_compiler.specs.Came.{CameText};
 ghost use Rattle.sample_compiler.specs.Seeking as seeking;

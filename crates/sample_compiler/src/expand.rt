@@ -5,7 +5,7 @@ ghost use Rattle.sample_compiler.specs.Expanding as expanding;
 ghost use Rattle.sample_compiler.specs.Expanding.{expand_lines, expand_line, include, directive, other_directive};
 ghost use Rattle.sample_compiler.specs.Lines.{lines_of};
 ghost use Rattle.sample_compiler.specs.Directives as directives;
-ghost use Rattle.sample_lang.specs.FileMaps.{Files};
+ghost use Rattle.file_map.specs.FileMaps.{Files};
 ghost use Rattle.sample_compiler.specs.Lookups.{Agrees};
 ghost use Rattle.sample_compiler.specs.Came.{Came};
 ghost use Rattle.sample_compiler.specs.Seeking as seeking;

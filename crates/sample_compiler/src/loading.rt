@@ -3,7 +3,7 @@
 ghost use Rattle.std.specs.Prelude.{ℕ, ◌≡◌, ◌||◌, ◌∷◌, [], List, false, IsTrue, IfOk, IfErr, IfNone, OnOk, OnErr};
 ghost use Rattle.std.specs.Str.{bytes_eq};
 ghost use Rattle.edge_traits.specs.Told.{Grew};
-ghost use Rattle.sample_lang.specs.FileMaps.{Files};
+ghost use Rattle.file_map.specs.FileMaps.{Files};
 ghost use Rattle.sample_compiler.specs.Lookups.{Agrees};
 ghost use Rattle.sample_compiler.specs.Samples.{task_text};
 ghost use Rattle.edge_traits.specs.Keepers.{IsIdle};

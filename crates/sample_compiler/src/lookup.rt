@@ -2,7 +2,7 @@
 
 ghost use Rattle.std.specs.Prelude.{◌≡◌, ◌++◌, ◌∷◌, [], codes, false, IfOk};
 ghost use Rattle.std.specs.Option.{option_copied};
-ghost use Rattle.sample_lang.specs.FileMaps.{Files};
+ghost use Rattle.file_map.specs.FileMaps.{Files};
 ghost use Rattle.std.specs.FinMap.{get};
 ghost use Rattle.sample_compiler.specs.Expanding as expanding;
 ghost use Rattle.sample_compiler.specs.Lookups as lookups;

@@ -5,7 +5,7 @@ use Rattle.std.proofs.lemmas.List.{append-nil}
 use Rattle.farm_types.specs.declared.ran.Ran.{Ran}
 use Rattle.edge_traits.specs.declared.entries.Put.{Put}
 use Rattle.edge_traits.specs.Causes.{Rose}
-use Rattle.edge_traits.specs.FileMaps.{Files}
+use Rattle.file_map.specs.FileMaps.{Files}
 use Rattle.edge_traits.specs.Keepers.{KeeperView, IsIdle}
 use Rattle.sample_compiler.specs.declared.task.Task.{Task}
 use Rattle.sample_compiler.specs.Tasks.{task_of}

@@ -6,7 +6,7 @@ use Rattle.farm_types.specs.Exits.{exit_code_of}
 use Rattle.edge_traits.specs.declared.entries.Put.{Put}
 use Rattle.edge_traits.specs.Told.{Grew, Became}
 use Rattle.edge_traits.specs.Causes.{Rose}
-use Rattle.edge_traits.specs.FileMaps.{Files}
+use Rattle.file_map.specs.FileMaps.{Files}
 use Rattle.edge_traits.specs.Keepers.{KeeperView, IsIdle}
 use Rattle.stream_print.specs.declared.pieces.SinkKind.TheVariants.{Out, Err as ErrSink}
 use Rattle.stream_print.specs.declared.pieces.Piece.{Piece}

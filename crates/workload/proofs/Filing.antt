@@ -12,7 +12,7 @@ use Rattle.std.proofs.lemmas.Fmt.{decimal_injective}
 use Rattle.std.proofs.lemmas.List.FromFn.{map-range_with_len_more}
 use mathlib.Core.List.{append_cancel_left, append_cancel_right}
 use lib.Pointwise.{pointwise}
-use Rattle.sample_lang.specs.FileMaps.{Files}
+use Rattle.file_map.specs.FileMaps.{Files}
 use Rattle.workload.specs.Loads.{next_state, state_after, source_name, file_of}
 
 -- two jobs have two names

@@ -10,7 +10,7 @@ use Rattle.farm_types.specs.declared.placed.Word.{Word}
 use Rattle.farm_types.specs.declared.placed.Word.TheVariants.{Text, Input, Output}
 use Rattle.farm_types.specs.declared.placed.Ext.TheVariants.{I}
 use Rattle.arg_strip.specs.Words.{stripped, placed_words, preprocessing_words}
-use Rattle.sample_lang.specs.FileMaps.{Files}
+use Rattle.file_map.specs.FileMaps.{Files}
 use Rattle.sample_compiler.specs.declared.task.Product.{Product}
 use Rattle.sample_compiler.specs.declared.task.Product.TheVariants as product
 use Rattle.sample_compiler.specs.declared.task.Task.{Task}

@@ -1,5 +1,5 @@
 use Rattle.std.proofs.Common.{◌≡◌, false, ◌+◌, ◌*◌, ◌≤◌, length}
-use Rattle.sample_lang.specs.FileMaps.{Files}
+use Rattle.file_map.specs.FileMaps.{Files}
 use Rattle.sample_compiler.specs.Lookups.{Agrees}
 use Rattle.sample_compiler.specs.Expanding as expanding
 use Rattle.sample_compiler.specs.Lines.{lines_of}

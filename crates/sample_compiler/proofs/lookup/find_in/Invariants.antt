@@ -1,5 +1,5 @@
 use Rattle.std.proofs.Common.{◌≡◌, length, false}
-use Rattle.sample_lang.specs.FileMaps.{Files}
+use Rattle.file_map.specs.FileMaps.{Files}
 use Rattle.sample_compiler.specs.Expanding.{find_in}
 use Rattle.sample_compiler.specs.Lookups.{Agrees}
 use Rattle.sample_compiler.specs.Seeking.{sought_in, first_unknown}

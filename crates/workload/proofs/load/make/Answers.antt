@@ -2,7 +2,7 @@ use Rattle.std.proofs.Common.{◌≡◌, ℕ, ◌+◌, List, ◌++◌, ◌∷◌
 use Rattle.std.specs.List.{range_with_len}
 use Rattle.std.specs.FinMap.{insert, from_entries}
 use Rattle.std.proofs.lemmas.List.FromFn.{map-range_with_len_more}
-use Rattle.sample_lang.specs.FileMaps.{Files}
+use Rattle.file_map.specs.FileMaps.{Files}
 use Rattle.workload.specs.Loads.{next_state, state_after, factor_of, source_name, source_text, job_words, file_of}
 use Rattle.workload.proofs.Filing.{one_more_file, state_step}
 use Rattle.workload.proofs.load.make.Goals as goal

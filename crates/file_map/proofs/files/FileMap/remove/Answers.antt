@@ -1,7 +1,7 @@
 use Rattle.std.proofs.Common.{rules, ◌∙◌, ap}
 use Rattle.std.specs.FinMap.{remove}
-use Rattle.edge_traits.proofs.Removing.{removed, once_left}
-use Rattle.edge_traits.proofs.files.FileList.remove.Goals as goal
+use Rattle.file_map.proofs.Removing.{removed, once_left}
+use Rattle.file_map.proofs.files.FileMap.remove.Goals as goal
 
 pub returns : goal.returns
 returns c =

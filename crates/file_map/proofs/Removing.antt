@@ -8,7 +8,7 @@ use Rattle.std.specs.FinMap.{from_entries, get, remove, same_map, find, get-from
 use Rattle.std.specs.FinMap.Entries.{where_key, find-where_key}
 use Rattle.std.specs.List.Retain.{IsFiltered}
 use Rattle.std.specs.List.{filter, IsDistinct, AllByRecursion}
-use Rattle.edge_traits.specs.FileMaps.{EachOnce}
+use Rattle.file_map.specs.FileMaps.{EachOnce}
 use lib.Pointwise.{pointwise}
 use Rattle.std.proofs.lemmas.Fn.{filter_same}
 
