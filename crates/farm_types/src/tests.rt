@@ -97,23 +97,44 @@ fn outcomes_within_the_limits(rt: HostRuntime) -> Result<(), Fail> {
 
 // Each list and value is copied once.
 #[test]
-fn copies(rt: HostRuntime) -> Result<(), Fail> {
+fn copies_of_bytes(rt: HostRuntime) -> Result<(), Fail> {
     let mut bytes = Bytes::from_slice(rt.alloc(), b"gc")?;
     bytes.try_extend(b"cc")?;
     bytes.truncate(3);
-    assert_eq!(rt; bytes.copy()?.as_slice(), b"gcc".as_slice());
-    assert_eq!(rt; bytes.get(1), Some(b'c'));
-    assert_eq!(rt; bytes.get(3), None);
+    let copied = bytes.copy()?;
+    assert_eq!(rt; copied.as_slice(), b"gcc".as_slice());
+    for (at, byte) in [(1, Some(b'c')), (3, None)] {
+        assert_eq!(rt; bytes.get(at), byte, "byte {at}");
+    }
+    Ok(())
+}
 
-    let mut words = PlacedWords::new(rt.alloc());
-    words.try_push(Word::Text(bytes.copy()?))?;
+fn placed_words(alloc: Global) -> Result<PlacedWords, Fail> {
+    let mut words = PlacedWords::new(alloc);
+    words.try_push(Word::Text(Bytes::from_slice(alloc, b"gcc")?))?;
     words.try_push(Word::Input(Ext::Ii))?;
     words.try_push(Word::Output)?;
+    Ok(words)
+}
+
+fn copied_twice(words: &PlacedWords) -> Result<PlacedWords, Fail> {
     let mut twice = words.copy()?;
-    twice.try_extend(&words)?;
+    twice.try_extend(words)?;
+    Ok(twice)
+}
+
+#[test]
+fn copies_of_words(rt: HostRuntime) -> Result<(), Fail> {
+    let twice = copied_twice(&placed_words(rt.alloc())?)?;
     assert_eq!(rt; twice.len(), 6);
     assert!(rt; matches!(twice.get(4), Some(Word::Input(Ext::Ii))));
-    assert_eq!(rt; Ran::nothing(rt.alloc()).copy()?.status, 0);
+    Ok(())
+}
+
+#[test]
+fn a_copy_of_a_run(rt: HostRuntime) -> Result<(), Fail> {
+    let copied = Ran::nothing(rt.alloc()).copy()?;
+    assert_eq!(rt; copied.status, 0);
     Ok(())
 }
 
@@ -140,13 +161,19 @@ fn copies_of_hosts(rt: HostRuntime) -> Result<(), Fail> {
     Ok(())
 }
 
+fn trail_of(alloc: Global, entries: &[u8]) -> Result<Trail<u8>, Fail> {
+    let mut trail = Trail::new();
+    for entry in entries {
+        trail.add(Room::new(alloc)?, *entry);
+    }
+    Ok(trail)
+}
+
 #[test]
 fn a_trail_keeps_its_entries(rt: HostRuntime) -> Result<(), Fail> {
-    let mut trail: Trail<u8> = Trail::new();
-    trail.add(Room::new(rt.alloc())?, 1);
-    trail.add(Room::new(rt.alloc())?, 2);
-    trail.add(Room::new(rt.alloc())?, 3);
+    let mut trail = trail_of(rt.alloc(), &[1, 2, 3])?;
     assert_eq!(rt; trail.take_last(), Some(3));
-    assert_eq!(rt; trail.into_items(rt.alloc())?.as_slice(), [1, 2].as_slice());
+    let items = trail.into_items(rt.alloc())?;
+    assert_eq!(rt; items.as_slice(), [1, 2].as_slice());
     Ok(())
 }
