@@ -14,8 +14,6 @@ mod script;
 mod sink;
 mod source;
 mod station;
-#[cfg(test)]
-mod tests;
 
 pub use clock::{MemClock, MemNeverClock, Moments};
 pub use dialer::MemDialer;

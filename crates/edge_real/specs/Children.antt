@@ -1,5 +1,5 @@
 -- What a program is given, and what a run of it that came to nothing may answer.
-use Rattle.std.specs.Prelude.{◌≡◌, ℕ, ◌<◌, ◌==◌, false, List, [], ◌∷◌, map, Option, None, Some, codes, if◌then◌else◌}
+use Rattle.std.specs.Prelude.{◌≡◌, ℕ, ◌<◌, ◌==◌, false, List, [], ◌∷◌, map, Option, None, Some, Result, Ok, Err, codes, if◌then◌else◌}
 use Rattle.std.specs.List.{list_any}
 use Rattle.std.specs.Option.{option_map}
 use Rattle.std.specs.Str.{IsUtf8}
@@ -13,7 +13,11 @@ use Rattle.edge_traits.specs.declared.faults.Bounds.{Bounds}
 use Rattle.edge_traits.specs.declared.faults.Stream.{Stream}
 use Rattle.edge_traits.specs.declared.faults.StationFault.{StationFault}
 use Rattle.edge_traits.specs.declared.faults.StationFault.TheVariants.{Failed, TooMuch, Memory}
+use Rattle.edge_traits.specs.declared.faults.FetchFault.{FetchFault}
+use Rattle.edge_traits.specs.declared.faults.FetchFault.TheVariants as fetch
 use Rattle.edge_traits.specs.Stations.{bound_of, has_output}
+use Rattle.edge_real.specs.declared.reading.Reading.{Reading}
+use Rattle.edge_real.specs.declared.reading.Reading.TheVariants as reading
 use Rattle.edge_real.specs.OwnNames.{NamesView, own_name}
 
 -- a stream that is named is above its bound
@@ -33,6 +37,20 @@ abbrev pub NamesNoStream : StationFault → Type 0
 NamesNoStream Failed = Unit {0}
 NamesNoStream (TooMuch stream bytes) = ⊥
 NamesNoStream Memory = Unit {0}
+
+-- what is taken of a stream, by what its reading gave
+abbrev pub taken_of : Stream → Reading → Result (List ℕ) StationFault
+taken_of stream (reading.Whole bytes) = Ok bytes
+taken_of stream (reading.Over bytes) = Err (TooMuch stream bytes)
+taken_of stream reading.Failed = Err Failed
+
+-- what a program left in a file, by the load of it: one that isn't there holds nothing
+abbrev pub left_by : Stream → Result (List ℕ) FetchFault → Result (List ℕ) StationFault
+left_by stream (Ok bytes) = Ok bytes
+left_by stream (Err fetch.Absent) = Ok []
+left_by stream (Err (fetch.TooMuch bytes)) = Err (TooMuch stream bytes)
+left_by stream (Err fetch.Failed) = Err Failed
+left_by stream (Err fetch.Memory) = Err Memory
 
 -- a word as the program is given it: its text, or the name of the file that it stands for
 abbrev pub given_word : List ℕ → List ℕ → Word → List ℕ

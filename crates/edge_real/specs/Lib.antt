@@ -6,3 +6,4 @@ pub mod OwnNames
 pub mod Staging
 pub mod Views
 pub mod Kits
+pub mod Environment

@@ -1,5 +1,5 @@
 -- What reading a stream to its end gave.
-use Rattle.std.specs.Prelude.{◌≡◌, ℕ, ◌-◌, ◌^◌, ◌<◌, ◌≤◌, min, List, length, Option, IfSome}
+use Rattle.std.specs.Prelude.{◌≡◌, ℕ, ◌-◌, ◌^◌, ◌<◌, ◌≤◌, min, List, length, Option, IfSome, Result, Ok, Err}
 use Rattle.edge_traits.specs.declared.faults.FetchFault.{FetchFault}
 use Rattle.edge_traits.specs.declared.faults.FetchFault.TheVariants.{Failed as LoadFailed, Absent, TooMuch, Memory}
 use Rattle.edge_real.specs.declared.reading.Reading.{Reading}
@@ -16,6 +16,12 @@ abbrev pub IsReadOf : Option (List ℕ) → Reading → Type 0
 IsReadOf known (Whole bytes) = IfSome known (λ all. bytes ≡ all)
 IsReadOf known (Over bytes) = IfSome known (λ all. bytes ≡ min (length all) (2 ^ 64 - 1))
 IsReadOf known Failed = Unit {0}
+
+-- what a load is by what its reading gave
+abbrev pub load_of : Reading → Result (List ℕ) FetchFault
+load_of (Whole bytes) = Ok bytes
+load_of (Over bytes) = Err (TooMuch bytes)
+load_of Failed = Err LoadFailed
 
 -- a load that came to nothing for the file's length names one above the bound
 abbrev pub IsLoadFault : ℕ → FetchFault → Type 0

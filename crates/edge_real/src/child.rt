@@ -1,9 +1,10 @@
-ghost use Rattle.std.specs.Prelude.{◌≡◌, ◌≤◌, ◌∷◌, ◌++◌, [], ⊤, false, length, map, IfSome, IfOk, IfErr, OnOk, MatchResult, All, string_bytes};
+ghost use Rattle.std.specs.Prelude.{◌≡◌, ◌≢◌, ℕ, ◌≤◌, List, ◌∷◌, ◌++◌, [], ⊤, false, length, map, Option, None, Err, IfSome, IfOk, IfErr, OnOk, MatchResult, All, string_bytes};
 ghost use Rattle.std.specs.Option.{unwrap_or};
 ghost use Rattle.std.specs.Process.{command_program, command_args, SameEnv, SameDir};
 ghost use Rattle.edge_traits.specs.Stations.{IsWithin, has_output};
 ghost use Rattle.edge_real.specs.Counts.{run_faults, run_overruns};
-ghost use Rattle.edge_real.specs.Children.{IsRunFault, IsStreamFault, NamesNoStream, given_word, CanBeGiven, IsCommandOf, first_input, ending_text, input_name, output_name};
+ghost use Rattle.edge_real.specs.Children.{IsRunFault, IsStreamFault, NamesNoStream, given_word, CanBeGiven, IsCommandOf, first_input, ending_text, input_name, output_name, taken_of, left_by};
+ghost use Rattle.edge_real.specs.Reading.{IsReadWithin, IsReadOf, IsLoadFault};
 ghost use Rattle.edge_real.specs.OwnNames.{names_view, first_names, name_if, SameOwner};
 ghost use Rattle.edge_real.specs.Views.{station_view, counted_station, names_of};
 
@@ -137,8 +138,17 @@ fn input_file<'a, R: rt::Files + Eprint>(
         return Ok(None);
     };
     let (source, mut file) = OwnFile::create(rt, names, alloc, ending_of(ext))?;
+    fill(&mut file, input)?;
+    Ok(Some(source))
+}
+
+/// Writes the whole input. It takes no memory.
+fn fill<F: Write>(file: &mut F, input: &[u8]) -> Result<(), StationFault>
+    ensures fault { IfErr result NamesNoStream }
+    ensures memory { result ≢ Err StationFault.Memory }
+{
     match file.write_all(input) {
-        Ok(()) => Ok(Some(source)),
+        Ok(()) => Ok(()),
         Err(_) => Err(StationFault::Failed),
     }
 }
@@ -213,6 +223,7 @@ fn command_of(
 ) -> Result<Command, StationFault>
     ensures command { IfOk result (IsCommandOf words.now source.now object.now) }
     ensures given { OnOk result (All CanBeGiven words.now) }
+    ensures empty { words.now ≡ [] → result ≡ Err StationFault.Failed }
     ensures fault { IfErr result NamesNoStream }
 {
     let Some((program, arguments)) = words.split_first() else {
@@ -250,6 +261,7 @@ fn give(command: &mut Command, word: &Word, source: &str, object: &str) -> Resul
     ensures environment { OnOk result (SameEnv command.old command.new) }
     ensures folder { OnOk result (SameDir command.old command.new) }
     ensures given { OnOk result (CanBeGiven word.now) }
+    ensures refused { ¬ (CanBeGiven word.now) → result ≡ Err StationFault.Failed }
     ensures fault { IfErr result NamesNoStream }
 {
     let text = text_of(word, source, object)?;
@@ -284,6 +296,7 @@ fn start<R: Processes + Eprint>(
     messages: &File,
 ) -> Result<Child<R::Started>, StationFault>
     ensures fault { IfErr result NamesNoStream }
+    ensures memory { result ≢ Err StationFault.Memory }
 {
     let Ok(errors) = messages.try_clone() else {
         return Err(StationFault::Failed);
@@ -303,6 +316,7 @@ fn start<R: Processes + Eprint>(
 }
 
 /// Runs a program to its end. Its standard output is read here, so it doesn't hold the program up.
+#[tactic(auto, using(crate::proofs::ChildLemmas::unnamed_in))]
 fn run_to_end<P: OpenProcess + Drop>(
     mut child: Child<P>,
     alloc: Global,
@@ -312,10 +326,19 @@ fn run_to_end<P: OpenProcess + Drop>(
     ensures fault { IfErr result (IsStreamFault Stream.Out bound) }
 {
     let out = read_pipe(child.stdout.take(), alloc, bound);
-    let Ok(status) = child.wait() else {
-        return Err(StationFault::Failed);
-    };
-    Ok((status.into_raw().cast_unsigned(), out?))
+    let status = wait_for(&mut child)?;
+    Ok((status, out?))
+}
+
+/// The wait status of a program, once it has ended.
+fn wait_for<P: OpenProcess + Drop>(child: &mut Child<P>) -> Result<u32, StationFault>
+    ensures fault { IfErr result NamesNoStream }
+    ensures memory { result ≢ Err StationFault.Memory }
+{
+    match child.wait() {
+        Ok(status) => Ok(status.into_raw().cast_unsigned()),
+        Err(_) => Err(StationFault::Failed),
+    }
 }
 
 fn read_pipe<S: Read + Drop>(
@@ -325,6 +348,7 @@ fn read_pipe<S: Read + Drop>(
 ) -> Result<Bytes, StationFault>
     ensures within { IfOk result (λ bytes. length bytes ≤ bound) }
     ensures fault { IfErr result (IsStreamFault Stream.Out bound) }
+    ensures none { pipe ≡ None → result ≡ Err StationFault.Failed }
     ensures read { IfOk result (λ bytes. IfSome pipe (λ stream. IfSome (S.remaining stream) (λ all. bytes ≡ all))) }
 {
     let Some(mut pipe) = pipe else {
@@ -334,14 +358,23 @@ fn read_pipe<S: Read + Drop>(
 }
 
 /// What was written into a file that is open still.
+#[tactic(auto, using(crate::proofs::ChildLemmas::unnamed_in))]
 fn read_again(file: &mut File, alloc: Global, bound: u32) -> Result<Bytes, StationFault>
     ensures within { IfOk result (λ bytes. length bytes ≤ bound) }
     ensures fault { IfErr result (IsStreamFault Stream.Err bound) }
 {
-    if file.rewind().is_err() {
-        return Err(StationFault::Failed);
-    }
+    to_its_start(file)?;
     read_stream(file, alloc, bound, Stream::Err)
+}
+
+fn to_its_start(file: &mut File) -> Result<(), StationFault>
+    ensures fault { IfErr result NamesNoStream }
+    ensures memory { result ≢ Err StationFault.Memory }
+{
+    match file.rewind() {
+        Ok(()) => Ok(()),
+        Err(_) => Err(StationFault::Failed),
+    }
 }
 
 fn read_stream<S: Read>(
@@ -354,7 +387,17 @@ fn read_stream<S: Read>(
     ensures fault { IfErr result (IsStreamFault which bound) }
     ensures read { IfOk result (λ bytes. IfSome (S.remaining stream.old) (λ all. bytes ≡ all)) }
 {
-    match read_to_end(stream, alloc, bound)? {
+    taken(read_to_end(stream, alloc, bound)?, which)
+}
+
+/// What is taken of a stream, by what its reading gave.
+fn taken(reading: Reading, which: Stream) -> Result<Bytes, StationFault>
+    ensures taken { result ≡ taken_of which reading }
+    ensures within { (bound : ℕ) → IsReadWithin bound reading → IfOk result (λ bytes. length bytes ≤ bound) }
+    ensures fault { (bound : ℕ) → IsReadWithin bound reading → IfErr result (IsStreamFault which bound) }
+    ensures read { (known : Option (List ℕ)) → IsReadOf known reading → IfOk result (λ bytes. IfSome known (λ all. bytes ≡ all)) }
+{
+    match reading {
         Reading::Whole(bytes) => Ok(bytes),
         Reading::Over(bytes) => Err(StationFault::TooMuch {
             stream: which,
@@ -375,7 +418,20 @@ fn load_own<R: rt::Files>(
     ensures within { IfOk result (λ bytes. length bytes ≤ bound) }
     ensures fault { IfErr result (IsStreamFault stream bound) }
 {
-    match load(rt, alloc, path, bound) {
+    left_by(alloc, load(rt, alloc, path, bound), stream)
+}
+
+/// What a program left in a file, by the load of it.
+fn left_by(
+    alloc: Global,
+    loaded: Result<Bytes, FetchFault>,
+    stream: Stream,
+) -> Result<Bytes, StationFault>
+    ensures left { result ≡ left_by stream loaded }
+    ensures within { (bound : ℕ) → IfOk loaded (λ bytes. length bytes ≤ bound) → IfOk result (λ bytes. length bytes ≤ bound) }
+    ensures fault { (bound : ℕ) → IfErr loaded (IsLoadFault bound) → IfErr result (IsStreamFault stream bound) }
+{
+    match loaded {
         Ok(bytes) => Ok(bytes),
         Err(FetchFault::Absent) => Ok(Bytes::new(alloc)),
         Err(FetchFault::TooMuch { bytes }) => Err(StationFault::TooMuch { stream, bytes }),

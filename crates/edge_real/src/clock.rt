@@ -1,10 +1,10 @@
-ghost use Rattle.std.specs.Prelude.{◌≡◌, ◌/◌};
+ghost use Rattle.std.specs.Prelude.{◌≡◌, ◌/◌, MatchResult};
 ghost use Rattle.std.specs.Time.{system_time_nanos};
 ghost use Rattle.edge_real.specs.Views.{clock_view, runtime_of};
 
 use edge_traits::Clock;
 use std::time::{Duration, SystemTime, UNIX_EPOCH};
-use std::{rt, thread};
+use std::{io, rt, thread};
 
 /// The system's clock, in seconds since 1970. Where it can't be read, or stands before 1970, it gives 0.
 #[derive(Drop)]
@@ -25,11 +25,21 @@ impl<R: rt::Clock> Clock for WallClock<R> {
     ghost shows = { clock_view };
 
     fn now(&mut self) -> u64 {
-        SystemTime::now(&self.rt).map_or(0, seconds_since_1970)
+        moment_of(SystemTime::now(&self.rt))
     }
 
     fn pause(&mut self) {
         thread::sleep(&self.rt, Duration::from_millis(PAUSE_MILLIS));
+    }
+}
+
+/// The seconds of a time that was read, and 0 where none was.
+fn moment_of(read: io::Result<SystemTime>) -> u64
+    ensures { MatchResult read (λ time. result ≡ system_time_nanos time / 1_000_000_000) (λ error. result ≡ 0) }
+{
+    match read {
+        Ok(time) => seconds_since_1970(time),
+        Err(_) => 0,
     }
 }
 

@@ -1,8 +1,9 @@
-ghost use Rattle.std.specs.Prelude.{◌≡◌, ◌≢◌, ◌≤◌, length, IfOk, IfErr, OnOk, OnErr, MatchResult, None, Err, string_bytes};
+ghost use Rattle.std.specs.Prelude.{◌≡◌, ◌≢◌, ℕ, ◌≤◌, length, IfOk, IfErr, OnOk, OnErr, MatchResult, None, Err, string_bytes};
+ghost use Rattle.std.specs.IoError.{error_kind};
 ghost use Rattle.std.specs.Str.{IsUtf8};
 ghost use Rattle.edge_real.specs.Counts.{call_faults, append_faults, load_faults, load_overruns};
 ghost use Rattle.edge_real.specs.OwnNames.{first_names, SameOwner};
-ghost use Rattle.edge_real.specs.Reading.{IsLoadFault};
+ghost use Rattle.edge_real.specs.Reading.{IsReadWithin, IsLoadFault, load_of};
 ghost use Rattle.edge_real.specs.Views.{files_view, counted_files, files_names};
 
 use crate::counting::raise;
@@ -74,6 +75,7 @@ impl<R: rt::Files<File = File>> Files for DiskFiles<R> {
     fn append(&mut self, _alloc: Global, name: &Bytes, piece: &[u8]) -> Result<usize, EdgeFault>
         ensures bound { IfOk result (λ n. n ≤ length piece.now) }
         ensures names { files_names self.new ≡ files_names self.old }
+        ensures memory { result ≢ Err EdgeFault.Memory }
         ensures overruns { (files_view self.new).overruns ≡ (files_view self.old).overruns }
         ensures faults { (files_view self.new).faults ≡ append_faults result piece.now (files_view self.old).faults }
     {
@@ -228,15 +230,32 @@ pub fn load<R: rt::Files>(
     ensures cause { IfErr result (IsLoadFault bound) }
 {
     match File::open(rt, path) {
-        Ok(mut file) => match read_to_end(&mut file, alloc, bound)? {
-            Reading::Whole(bytes) => Ok(bytes),
-            Reading::Over(bytes) => Err(FetchFault::TooMuch { bytes }),
-            Reading::Failed => Err(FetchFault::Failed),
-        },
-        Err(error) => Err(if error.kind() == ErrorKind::NotFound {
-            FetchFault::Absent
-        } else {
-            FetchFault::Failed
-        }),
+        Ok(mut file) => loaded(read_to_end(&mut file, alloc, bound)?),
+        Err(error) => Err(why_unopened(&error)),
     }
+}
+
+/// What a load is by what its reading gave.
+fn loaded(reading: Reading) -> Result<Bytes, FetchFault>
+    ensures loaded { result ≡ load_of reading }
+    ensures within { (bound : ℕ) → IsReadWithin bound reading → IfOk result (λ bytes. length bytes ≤ bound) }
+    ensures cause { (bound : ℕ) → IsReadWithin bound reading → IfErr result (IsLoadFault bound) }
+{
+    match reading {
+        Reading::Whole(bytes) => Ok(bytes),
+        Reading::Over(bytes) => Err(FetchFault::TooMuch { bytes }),
+        Reading::Failed => Err(FetchFault::Failed),
+    }
+}
+
+/// Why a file can't be opened: it isn't there, or the system says anything else.
+fn why_unopened(error: &io::Error) -> FetchFault
+    ensures absent { error_kind error.now ≡ ErrorKind.NotFound → result ≡ FetchFault.Absent }
+    ensures failed { error_kind error.now ≢ ErrorKind.NotFound → result ≡ FetchFault.Failed }
+    ensures cause { (bound : ℕ) → IsLoadFault bound result }
+{
+    if error.kind() == ErrorKind::NotFound {
+        return FetchFault::Absent;
+    }
+    FetchFault::Failed
 }

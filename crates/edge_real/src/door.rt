@@ -114,6 +114,7 @@ where
         ensures new { IfOk result (λ accepted. IsNew (link_view accepted.0)) }
         ensures listener { is_listening self.new ≡ is_listening self.old }
         ensures closed { is_listening self.old ≡ false → result ≡ Err EdgeFault.Failed }
+        ensures memory { result ≢ Err EdgeFault.Memory }
         ensures faults { (door_view self.new).faults ≡ call_faults result (door_view self.old).faults }
     {
         match self.accept_one() {

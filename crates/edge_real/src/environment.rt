@@ -1,4 +1,6 @@
 //! What a program's `main` reads of its environment.
+ghost use Rattle.std.specs.Prelude.{◌≡◌, codes, IfOk, string_bytes};
+ghost use Rattle.edge_real.specs.Environment.{IsValueOf, IsFolderOf};
 
 use std::alloc::{AllocError, Global};
 use std::env::{self, Env, VarError};
@@ -26,23 +28,42 @@ pub fn command_words<R: Env + AllocGlobal>(rt: &R) -> Result<Option<Vec<String>>
 /// The value of a variable, None where it isn't set. One that isn't UTF-8 is the replacement character, which is no
 /// number, no host and no switch, so that such a value is refused where it matters and not passed over.
 pub fn variable<R: Env + AllocGlobal>(rt: &R, name: &str) -> Result<Option<String>, AllocError> {
-    match env::var(rt, name) {
+    value_of(rt.alloc(), env::var(rt, name))
+}
+
+fn value_of(alloc: Global, found: Result<String, VarError>) -> Result<Option<String>, AllocError>
+    ensures { IfOk result (IsValueOf found) }
+{
+    match found {
         Ok(value) => Ok(Some(value)),
         Err(VarError::NotPresent) => Ok(None),
-        Err(VarError::NotUnicode) => Ok(Some(String::from_str(rt.alloc(), "\u{FFFD}")?)),
+        Err(VarError::NotUnicode) => Ok(Some(String::from_str(alloc, "\u{FFFD}")?)),
         Err(VarError::OutOfMemory) => Err(AllocError),
     }
 }
 
 /// The folder for files of a process's own: `TMPDIR`, or `/tmp` where that isn't set, is empty or isn't UTF-8.
 pub fn own_folder<R: Env + AllocGlobal>(rt: &R) -> Result<String, AllocError> {
-    match env::var(rt, "TMPDIR") {
-        Ok(folder) if !folder.is_empty() => Ok(folder),
+    folder_of(rt.alloc(), env::var(rt, "TMPDIR"))
+}
+
+fn folder_of(alloc: Global, found: Result<String, VarError>) -> Result<String, AllocError>
+    ensures { IfOk result (IsFolderOf found) }
+{
+    match found {
+        Ok(folder) => {
+            if folder.is_empty() {
+                return folder_for_all(alloc);
+            }
+            Ok(folder)
+        }
         Err(VarError::OutOfMemory) => Err(AllocError),
-        _ => folder_for_all(rt.alloc()),
+        Err(VarError::NotPresent | VarError::NotUnicode) => folder_for_all(alloc),
     }
 }
 
-fn folder_for_all(alloc: Global) -> Result<String, AllocError> {
+fn folder_for_all(alloc: Global) -> Result<String, AllocError>
+    ensures { IfOk result (λ folder. string_bytes folder ≡ codes "/tmp") }
+{
     String::from_str(alloc, "/tmp")
 }

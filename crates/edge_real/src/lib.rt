@@ -25,6 +25,3 @@ pub use environment::{command_words, own_folder, variable};
 pub use kits::{SystemKit, system_kits};
 pub use stream::{StdSink, StdSource};
 pub use tcp::{TcpDialer, TcpLink};
-
-#[cfg(test)]
-mod tests;

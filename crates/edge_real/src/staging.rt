@@ -1,5 +1,7 @@
 // New files that are written beside those whose names they get.
-ghost use Rattle.std.specs.Prelude.{◌≡◌, ◌≤◌, length, IfOk, OnOk};
+ghost use Rattle.std.specs.Prelude.{◌≡◌, ◌≢◌, ◌≤◌, length, IfOk, IfErr, OnOk};
+ghost use Rattle.std.specs.Fs.{IsFile};
+ghost use Rattle.std.specs.IoError.{error_kind};
 ghost use Rattle.std.specs.Str.{IsUtf8, bytes_eq};
 ghost use Rattle.edge_real.specs.OwnNames.{names_view, SameOwner};
 ghost use Rattle.edge_real.specs.Staging.{staged_as, staged_at};
@@ -10,7 +12,7 @@ use crate::retrying::write_once;
 use edge_traits::EdgeFault;
 use farm_types::Bytes;
 use std::alloc::{AllocError, Global};
-use std::fs::{File, OpenOptions};
+use std::fs::{File, FileType, OpenOptions};
 use std::io::ErrorKind;
 use std::os::unix::fs::FileTypeExt;
 use std::{fs, io, rt};
@@ -57,19 +59,26 @@ enum Standing {
     Other,
 }
 
-fn look_at<R: rt::Files>(rt: &R, path: &str) -> io::Result<Standing> {
+/// What stands there by its kind. Only a regular file may be replaced.
+fn standing_of(kind: FileType) -> Standing
+    ensures file { IsFile kind → result ≡ Standing.Free }
+    ensures kept { ¬ (IsFile kind) → result ≢ Standing.Free }
+{
+    if kind.is_file() {
+        return Standing::Free;
+    }
+    if kind.is_char_device() {
+        return Standing::Device;
+    }
+    Standing::Other
+}
+
+/// What stands at the path. Nothing does where the system says that it isn't there.
+fn look_at<R: rt::Files>(rt: &R, path: &str) -> io::Result<Standing>
+    ensures { IfErr result (λ error. error_kind error ≢ ErrorKind.NotFound) }
+{
     match fs::metadata(rt, path) {
-        Ok(metadata) => {
-            let kind = metadata.file_type();
-            if kind.is_file() {
-                return Ok(Standing::Free);
-            }
-            Ok(if kind.is_char_device() {
-                Standing::Device
-            } else {
-                Standing::Other
-            })
-        }
+        Ok(metadata) => Ok(standing_of(metadata.file_type())),
         Err(error) => {
             if error.kind() == ErrorKind::NotFound {
                 Ok(Standing::Free)

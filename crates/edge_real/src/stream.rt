@@ -1,4 +1,4 @@
-ghost use Rattle.std.specs.Prelude.{◌≡◌, ◌<◌, ◌≤◌, ◌||◌, false, length, IfOk};
+ghost use Rattle.std.specs.Prelude.{◌≡◌, ◌≢◌, ◌<◌, ◌≤◌, ◌||◌, false, Err, length, IfOk};
 ghost use Rattle.std.specs.Io.KnownBytes.{ReadConsumes, WriteAppends};
 ghost use Rattle.edge_traits.specs.Links.{moved_none};
 ghost use Rattle.edge_real.specs.Counts.{call_faults};
@@ -39,6 +39,7 @@ impl<R: Read> Source for StdSource<R> {
         ensures bound { IfOk result (λ n. n ≤ length room.old) }
         ensures bytes { ReadConsumes (R.remaining (reader_of self.old)) (R.remaining (reader_of self.new)) result room.new }
         ensures ended { (source_view self.new).ended ≡ ((source_view self.old).ended || moved_none result) }
+        ensures memory { result ≢ Err EdgeFault.Memory }
         ensures faults { (source_view self.new).faults ≡ call_faults result (source_view self.old).faults }
     {
         match read_once(&mut self.reader, room) {
@@ -84,6 +85,7 @@ impl<W: Write> Sink for StdSink<W> {
         ensures bound { IfOk result (λ n. n ≤ length piece.now) }
         ensures bytes { WriteAppends (W.contents (writer_of self.old)) (W.contents (writer_of self.new)) result piece.now }
         ensures stopped { (sink_view self.new).stopped ≡ ((sink_view self.old).stopped || moved_none result) }
+        ensures memory { result ≢ Err EdgeFault.Memory }
         ensures faults { (sink_view self.new).faults ≡ call_faults result (sink_view self.old).faults }
     {
         match write_once(&mut self.writer, piece) {

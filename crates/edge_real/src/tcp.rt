@@ -1,4 +1,4 @@
-ghost use Rattle.std.specs.Prelude.{◌≡◌, ◌<◌, ◌≤◌, ◌||◌, ⊤, refl, length, IfOk};
+ghost use Rattle.std.specs.Prelude.{◌≡◌, ◌≢◌, ◌<◌, ◌≤◌, ◌||◌, ⊤, Err, refl, length, IfOk, OnOk};
 ghost use Rattle.std.specs.Str.{IsUtf8};
 ghost use Rattle.std.specs.Io.KnownBytes.{ReadConsumes, WriteAppends};
 ghost use Rattle.std.proofs.Common.{◌∙◌, sym};
@@ -96,6 +96,7 @@ impl<S: Read + Write> Link for TcpLink<S> {
         ensures origin { (link_view self.new).origin ≡ (link_view self.old).origin }
         ensures stopped { (link_view self.new).stopped ≡ ((link_view self.old).stopped || moved_none result) }
         ensures ended { (link_view self.new).ended ≡ (link_view self.old).ended }
+        ensures memory { result ≢ Err EdgeFault.Memory }
         ensures faults { (link_view self.new).faults ≡ call_faults result (link_view self.old).faults }
     {
         match write_once(&mut self.stream, piece) {
@@ -117,6 +118,7 @@ impl<S: Read + Write> Link for TcpLink<S> {
         ensures origin { (link_view self.new).origin ≡ (link_view self.old).origin }
         ensures ended { (link_view self.new).ended ≡ ((link_view self.old).ended || moved_none result) }
         ensures stopped { (link_view self.new).stopped ≡ (link_view self.old).stopped }
+        ensures memory { result ≢ Err EdgeFault.Memory }
         ensures faults { (link_view self.new).faults ≡ call_faults result (link_view self.old).faults }
     {
         match read_once(&mut self.stream, room) {
@@ -147,13 +149,26 @@ impl<R: Net> TcpDialer<R> {
         TcpDialer { rt, faults: 0 }
     }
 
+    /// A stream to the host. It takes no memory.
+    fn reach(&self, host: &HostName, port: u16) -> Result<R::Stream, EdgeFault>
+        ensures name { OnOk result (IsUtf8 host.now.text) }
+        ensures memory { result ≢ Err EdgeFault.Memory }
+    {
+        let Ok(text) = str::from_utf8(host.text.as_slice()) else {
+            return Err(EdgeFault::Failed);
+        };
+        match TcpStream::connect(&self.rt, (text, port)) {
+            Ok(stream) => Ok(stream),
+            Err(_) => Err(EdgeFault::Failed),
+        }
+    }
+
     fn connect(&self, host: &HostName, port: u16) -> Result<TcpLink<R::Stream>, EdgeFault>
         ensures fresh { IfOk result (λ link. IsFresh host.now port (link_view link)) }
         ensures name { IfOk result (λ link. IsUtf8 host.now.text) }
     {
         let name = host.copy()?;
-        let text = str::from_utf8(host.text.as_slice()).map_err(|_| EdgeFault::Failed)?;
-        let stream = TcpStream::connect(&self.rt, (text, port)).map_err(|_| EdgeFault::Failed)?;
+        let stream = self.reach(host, port)?;
         Ok(TcpLink::new(stream, name, port))
     }
 }

@@ -5,7 +5,8 @@ use Rattle.slot_table.specs.declared.mask.Mask.{Mask}
 use Rattle.slot_table.specs.Mask.{in_mask}
 use Rattle.farm_types.specs.declared.ran.Outcome.{Outcome}
 use Rattle.edge_traits.specs.Causes.{Rose}
-use Rattle.edge_traits.specs.Keepers.{KeeperView, IsIdle, IsPending, HasPending, put_entries}
+use Rattle.edge_traits.specs.declared.faults.FetchFault.{FetchFault}
+use Rattle.edge_traits.specs.Keepers.{KeeperView, IsIdle, IsPending, HasPending, put_entries, Fetched, FetchCause}
 use Rattle.edge_traits.specs.FileMaps.{files_after}
 use Rattle.edge_traits.specs.Told.{Grew, Became}
 use Rattle.reply_stream.specs.Objects.{with_object}
@@ -28,12 +29,18 @@ use Rattle.job_run.specs.declared.sending.Asked.{Asked}
 use Rattle.job_run.specs.declared.sending.Asked.TheVariants as asked
 use Rattle.job_run.specs.declared.step.Step.{Step}
 use Rattle.job_run.specs.declared.step.Step.TheVariants as step
+use Rattle.job_run.specs.Failures.{fetch_failure}
 use Rattle.job_run.specs.Worlds.{World, WentOn, Ended}
 
 -- the source is there, or the job has its end
 abbrev pub PreparedIs : {h : ℕ} → Job → Limits h → ℕ → ℕ → World → World → Prepared → Type 0
 PreparedIs j l caller number old new (prepared.Ready source note) = WentOn j l caller number old new Start (Send source note [])
 PreparedIs j l caller number old new (prepared.Over end) = Ended j l caller number old new Start end
+
+-- the whole file is there, within the bound, and no note; or the job has failed by the fault of a fetch within the bound
+abbrev pub FetchedIs : List ℕ → ℕ → KeeperView → KeeperView → Prepared → Type 0
+FetchedIs name bound old new (prepared.Ready source note) = Fetched name bound new source × (note ≡ [])
+FetchedIs name bound old new (prepared.Over end) = (fault : FetchFault) × FetchCause name bound old new fault × (end ≡ Failed (fetch_failure fault))
 
 -- the job is to be compiled here: where it stands for that, or where its request is past the limits
 abbrev pub IsForHere : Job → List ℕ → List ℕ → At → Type 0

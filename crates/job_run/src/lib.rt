@@ -17,8 +17,3 @@ mod waiting;
 pub use job::run_job;
 pub use limits::limits_of;
 pub use room::{EVENTS_MAX, EventRoom};
-
-#[cfg(test)]
-mod scripted;
-#[cfg(test)]
-mod tests;

@@ -10,7 +10,7 @@ ghost use Rattle.edge_traits.specs.Kits.{kit_view};
 ghost use Rattle.slot_table.specs.declared.limits.Limits.{Limits};
 ghost use Rattle.slot_table.specs.declared.calls.CallEntry.{CallEntry};
 ghost use Rattle.farm_machine.specs.Jobs.{Job, job_of, may_be_sent, is_source_ready, source_name};
-ghost use Rattle.job_run.specs.Stages.{PreparedIs};
+ghost use Rattle.job_run.specs.Stages.{PreparedIs, FetchedIs};
 ghost use Rattle.job_run.specs.Worlds.{world};
 
 use crate::journal::Journal;
@@ -51,6 +51,7 @@ fn fetch_source<D: Dialer, S: Station, K: Keeper, C: Clock>(
     ensures left { journal.old.left ≤ journal.new.left + 1 }
     ensures fell { journal.new.left ≤ journal.old.left }
     ensures idle { IsIdle (K.shows kit.new.keeper) }
+    ensures fetched { FetchedIs name.now 41_943_040 (K.shows kit.old.keeper) (K.shows kit.new.keeper) result }
     ensures prepared { (h : ℕ) (l : Limits h) (caller number : ℕ) (mine : List CallEntry) (j : Job) → may_be_sent j ≡ true → is_source_ready j ≡ true → source_name j ≡ name.now →
         PreparedIs j l caller number
         (world (kit_view D.shows S.shows K.shows C.shows kit.old) (D.may_give kit.old.dialer) (S.ran kit.old.station) mine journal.old.events.items journal.old.places)

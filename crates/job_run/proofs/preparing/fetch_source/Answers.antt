@@ -36,3 +36,6 @@ returns-in-Err-clause-prepared g c = λ h l caller number mine j sent ready name
       cause = not-fetched-cause _ _ c.in-Err.fault _ _ _ c.why_not_fetched.ensures got.cause;
       station = stands-by (Failed c.why_not_fetched.result) (g.S.Station.shows c.args.kit.now.station) _ (none-rose _);
     }
+
+pub returns-in-Err-clause-fetched : goal.returns-in-Err-clause-fetched
+returns-in-Err-clause-fetched g c = (c.in-Err.fault, c.in-Err.ensures.cause, ap (λ why. Failed why) c.why_not_fetched.ensures)

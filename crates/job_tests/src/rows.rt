@@ -4,7 +4,7 @@ use crate::scripted::{
     Ended, Left, Passed, Row, done, expect_end, expect_over, files, kit, numbers,
 };
 use edge_memory::{MemKeeper, MemStation, RanList};
-use edge_traits::{Cause, FetchFault};
+use edge_traits::{Cause, FetchFault, FileList};
 use farm_machine::{By, End, Event, Why5};
 use farm_types::{Bytes, Ran};
 use object_delivery::{FileKeeper, Files, MemFiles};
@@ -123,6 +123,14 @@ fn expect_row<R: Wait + Abort>(rt: &R, alloc: Global, row: &Row) -> Result<(), F
     Ok(())
 }
 
+/// Does the job of each row.
+fn expect_rows<R: Wait + Abort>(rt: &R, alloc: Global, rows: &[Row]) -> Result<(), Fail> {
+    for row in rows {
+        expect_row(rt, alloc, row)?;
+    }
+    Ok(())
+}
+
 /// One job, for which there is one host.
 const BY_ONE_HOST: &[Row] = &[
     FIRST,
@@ -182,11 +190,7 @@ const BY_ONE_HOST: &[Row] = &[
 
 #[test]
 fn a_host_compiles(rt: HostRuntime) -> Result<(), Fail> {
-    let alloc = rt.alloc();
-    for row in BY_ONE_HOST {
-        expect_row(&rt, alloc, row)?;
-    }
-    Ok(())
+    expect_rows(&rt, rt.alloc(), BY_ONE_HOST)
 }
 
 /// One job, whose object goes into a file.
@@ -217,23 +221,53 @@ const INTO_A_FILE: &[Row] = &[
     },
 ];
 
+fn no_file<F: Files>(alloc: Global, files: &mut F, name: &[u8]) -> Result<bool, Fail> {
+    let name = Bytes::from_slice(alloc, name)?;
+    Ok(matches!(
+        files.load(alloc, &name, 100),
+        Err(FetchFault::Absent)
+    ))
+}
+
+/// Nothing is left under the name that the file has while it is written.
+fn expect_file<R: Wait + Abort>(rt: &R, alloc: Global, row: &Row) -> Result<(), Fail> {
+    let made = MemFiles::new(files(alloc)?, numbers(alloc, row.keeper_fails)?, 1_000);
+    let keeper = expect_over(rt, alloc, row, FileKeeper::new(made))?;
+    let mut made = keeper.into_files();
+    assert!(rt; no_file(alloc, &mut made, b"x.o.farm~")?);
+    Ok(())
+}
+
+fn expect_files<R: Wait + Abort>(rt: &R, alloc: Global, rows: &[Row]) -> Result<(), Fail> {
+    for row in rows {
+        expect_file(rt, alloc, row)?;
+    }
+    Ok(())
+}
+
 // The object goes into a file while it comes, in pieces of 5 bytes: the file is made, and has three appends.
 #[test]
 fn an_object_goes_straight_into_its_file(rt: HostRuntime) -> Result<(), Fail> {
-    let alloc = rt.alloc();
-    let staged = Bytes::from_slice(alloc, b"x.o.farm~")?;
-    for row in INTO_A_FILE {
-        let made = MemFiles::new(files(alloc)?, numbers(alloc, row.keeper_fails)?, 1_000);
-        let keeper = expect_over(&rt, alloc, row, FileKeeper::new(made))?;
-        let mut made = keeper.into_files();
-        assert!(rt; matches!(made.load(alloc, &staged, 100), Err(FetchFault::Absent)));
-    }
-    Ok(())
+    expect_files(&rt, rt.alloc(), INTO_A_FILE)
 }
 
 /// One job, for which there is this machine.
 const BY_THIS_MACHINE: &[Row] = &[
     HERE,
+    // The object can't be put.
+    Row {
+        keeper_fails: &[1],
+        events: &[
+            Event::Ran(0),
+            Event::Down,
+            Event::TookLocal,
+            Event::Ran(1),
+            Event::GaveLocal,
+        ],
+        end: Ended::Failed(Why5::Put),
+        object: b"old",
+        ..HERE
+    },
     Row {
         fallback: false,
         events: &[Event::Ran(0), Event::Down],
@@ -264,6 +298,16 @@ const BY_THIS_MACHINE: &[Row] = &[
             Event::Put(0),
         ],
         runs: &[COMPILED],
+        ..HERE
+    },
+    // It isn't there, or can't be read.
+    Row {
+        line: "scc -c a.i -o x.o",
+        keeper_fails: &[1],
+        events: &[],
+        end: Ended::Failed(Why5::Fetch),
+        runs: &[],
+        object: b"old",
         ..HERE
     },
     Row {
@@ -309,11 +353,7 @@ const BY_THIS_MACHINE: &[Row] = &[
 
 #[test]
 fn this_machine_compiles(rt: HostRuntime) -> Result<(), Fail> {
-    let alloc = rt.alloc();
-    for row in BY_THIS_MACHINE {
-        expect_row(&rt, alloc, row)?;
-    }
-    Ok(())
+    expect_rows(&rt, rt.alloc(), BY_THIS_MACHINE)
 }
 
 /// A command that stays here.
@@ -346,11 +386,7 @@ const STAYING: &[Row] = &[
 
 #[test]
 fn a_command_that_stays_here_runs_in_place(rt: HostRuntime) -> Result<(), Fail> {
-    let alloc = rt.alloc();
-    for row in STAYING {
-        expect_row(&rt, alloc, row)?;
-    }
-    Ok(())
+    expect_rows(&rt, rt.alloc(), STAYING)
 }
 
 /// Two hosts, of which neither can be dialed.
@@ -443,11 +479,7 @@ const BY_TWO_HOSTS: &[Row] = &[
 
 #[test]
 fn several_tries(rt: HostRuntime) -> Result<(), Fail> {
-    let alloc = rt.alloc();
-    for row in BY_TWO_HOSTS {
-        expect_row(&rt, alloc, row)?;
-    }
-    Ok(())
+    expect_rows(&rt, rt.alloc(), BY_TWO_HOSTS)
 }
 
 /// The first dial fails, and two jobs are done.
@@ -474,18 +506,26 @@ const LEFT_ALONE: &[Row] = &[
     },
 ];
 
+/// Does the job of a row twice, and compares the end of the second one.
+fn expect_second_end<R: Wait + Abort>(rt: &R, alloc: Global, row: &Row) -> Result<(), Fail> {
+    let keeper = MemKeeper::new(files(alloc)?, numbers(alloc, &[])?);
+    let mut kit = kit(alloc, row, keeper)?;
+    let report = done(rt, alloc, row, true, &mut kit)?;
+    expect_end(rt, &report, row)
+}
+
+fn expect_second_ends<R: Wait + Abort>(rt: &R, alloc: Global, rows: &[Row]) -> Result<(), Fail> {
+    for row in rows {
+        expect_second_end(rt, alloc, row)?;
+    }
+    Ok(())
+}
+
 // A host that broke an exchange is left alone for the period: the next job finds it down a second before its end, and gets it
 // at its end. With no period the next job gets it at once.
 #[test]
 fn a_host_is_left_alone(rt: HostRuntime) -> Result<(), Fail> {
-    let alloc = rt.alloc();
-    for row in LEFT_ALONE {
-        let keeper = MemKeeper::new(files(alloc)?, numbers(alloc, &[])?);
-        let mut kit = kit(alloc, row, keeper)?;
-        let report = done(&rt, alloc, row, true, &mut kit)?;
-        expect_end(&rt, &report, row)?;
-    }
-    Ok(())
+    expect_second_ends(&rt, rt.alloc(), LEFT_ALONE)
 }
 
 /// Pieces are as long as they come.
@@ -537,17 +577,91 @@ fn long_rans(alloc: Global, length: usize) -> Result<RanList, Fail> {
     Ok(rans)
 }
 
+/// Does the job of a row whose preprocessor leaves so many bytes.
+fn expect_length<R: Wait + Abort>(
+    rt: &R,
+    alloc: Global,
+    length: usize,
+    row: &Row,
+) -> Result<(), Fail> {
+    let keeper = MemKeeper::new(files(alloc)?, numbers(alloc, &[])?);
+    let mut kit = kit(alloc, row, keeper)?;
+    kit.station = MemStation::new(long_rans(alloc, length)?, numbers(alloc, &[])?);
+    let report = done(rt, alloc, row, false, &mut kit)?;
+    expect_end(rt, &report, row)
+}
+
+fn expect_lengths<R: Wait + Abort>(
+    rt: &R,
+    alloc: Global,
+    rows: &[(usize, Row)],
+) -> Result<(), Fail> {
+    for (length, row) in rows {
+        expect_length(rt, alloc, *length, row)?;
+    }
+    Ok(())
+}
+
 // A source of the greatest length is sent, and one byte more is compiled here. A preprocessor's output of the greatest length
 // is a source, and one byte more is a failure of the station.
 #[test]
 fn sources_at_their_limits(rt: HostRuntime) -> Result<(), Fail> {
-    let alloc = rt.alloc();
-    for (length, row) in LENGTHS {
-        let keeper = MemKeeper::new(files(alloc)?, numbers(alloc, &[])?);
-        let mut kit = kit(alloc, row, keeper)?;
-        kit.station = MemStation::new(long_rans(alloc, *length)?, numbers(alloc, &[])?);
-        let report = done(&rt, alloc, row, false, &mut kit)?;
-        expect_end(&rt, &report, row)?;
+    expect_lengths(&rt, rt.alloc(), LENGTHS)
+}
+
+const FETCHED: Row = Row {
+    line: "scc -c a.i -o x.o",
+    rans: &[MADE],
+    ..HERE
+};
+
+const FETCHED_LENGTHS: &[(usize, Row)] = &[
+    (41_943_040, FETCHED),
+    (
+        41_943_041,
+        Row {
+            end: Ended::Failed(Why5::Fetch),
+            ..FETCHED
+        },
+    ),
+];
+
+/// The file `a.i` has so many blanks.
+fn long_file(alloc: Global, length: usize) -> Result<FileList, Fail> {
+    let mut files = FileList::new(alloc);
+    files.try_put(
+        Bytes::from_slice(alloc, b"a.i")?,
+        Bytes::from_vec(vec![in alloc; b' '; length]?),
+    )?;
+    Ok(files)
+}
+
+/// Does the job of a row whose source has so many bytes.
+fn expect_fetched<R: Wait + Abort>(
+    rt: &R,
+    alloc: Global,
+    length: usize,
+    row: &Row,
+) -> Result<(), Fail> {
+    let keeper = MemKeeper::new(long_file(alloc, length)?, numbers(alloc, &[])?);
+    let mut kit = kit(alloc, row, keeper)?;
+    let report = done(rt, alloc, row, false, &mut kit)?;
+    expect_end(rt, &report, row)
+}
+
+fn expect_all_fetched<R: Wait + Abort>(
+    rt: &R,
+    alloc: Global,
+    rows: &[(usize, Row)],
+) -> Result<(), Fail> {
+    for (length, row) in rows {
+        expect_fetched(rt, alloc, *length, row)?;
     }
     Ok(())
+}
+
+// A source that is preprocessed already has the greatest length, and one byte more can't be fetched.
+#[test]
+fn fetched_sources_at_their_limits(rt: HostRuntime) -> Result<(), Fail> {
+    expect_all_fetched(&rt, rt.alloc(), FETCHED_LENGTHS)
 }

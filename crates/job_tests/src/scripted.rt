@@ -1,13 +1,20 @@
 //! Jobs by rows: what the devices do, and what becomes of the job.
+ghost use Rattle.std.specs.Prelude.{◌≡◌, ◌+◌, ◌*◌, ◌<◌, ◌≤◌, [], length, IfOk};
+ghost use Rattle.edge_traits.specs.Keepers.{IsIdle};
+ghost use Rattle.slot_table.specs.History.{outstanding};
+ghost use Rattle.slot_table.specs.Grants.{cost};
+ghost use Rattle.farm_machine.specs.Jobs.{AreLimitsOf};
 
-use crate::{EventRoom, limits_of, run_job};
 use edge_memory::{
     LinkScript, LinkScripts, MemClock, MemDialer, MemStation, Moments, Moves, RanList,
 };
-use edge_traits::{CallNumbers, Exchange, FileList, Keeper, Kit, Run, is_staged};
+use edge_traits::{
+    CallNumbers, Clock, Dialer, Exchange, FileList, Keeper, Kit, Run, Station, is_staged,
+};
 use farm_machine::{By, End, Event, Places, Report, Why5};
 use farm_types::{Bytes, Ext, Host, HostName, HostVec, Hosts, Items, JobConfig, Ran, Word, Words};
-use slot_table::OneThread;
+use job_run::{EventRoom, limits_of, run_job};
+use slot_table::{Grants, OneThread};
 use std::alloc::Global;
 use std::process::Abort;
 use std::sync::Wait;
@@ -175,6 +182,60 @@ const NOWHERE: Places = Places {
     puts: 0,
 };
 
+/// Does this job. It says only what the next job over the same slots needs.
+fn job_at<R: Wait, D: Dialer, S: Station, K: Keeper, C: Clock, G: Grants>(
+    rt: &R,
+    alloc: Global,
+    words: &Words,
+    number: u32,
+    config: &JobConfig,
+    grants: &mut G,
+    kit: &mut Kit<D, S, K, C>,
+) -> Result<Report, Fail>
+    requires word { 0 < length words.now }
+    requires hosts { AreLimitsOf (G.limits grants.old) config.now.hosts }
+    requires entries { length config.now.hosts.list ≤ 16 }
+    requires some { 1 ≤ config.now.tries }
+    requires tries { config.now.tries ≤ 16 }
+    requires ready { G.ready grants.old }
+    requires spare { 64 * cost G.alone ≤ G.spare grants.old }
+    requires none { outstanding (G.mine grants.old) ≡ [] }
+    requires pending { IsIdle (K.shows kit.old.keeper) }
+    ensures ready { G.ready grants.new }
+    ensures limits { G.limits grants.new ≡ G.limits grants.old }
+    ensures none { outstanding (G.mine grants.new) ≡ [] }
+    ensures spare { G.spare grants.old ≤ G.spare grants.new + 64 * cost G.alone }
+    ensures pending { IsIdle (K.shows kit.new.keeper) }
+{
+    let mut places = NOWHERE;
+    let room = EventRoom::new(alloc)?;
+    Ok(run_job(
+        rt,
+        alloc,
+        words,
+        number,
+        config,
+        grants,
+        kit,
+        &mut places,
+        room,
+    ))
+}
+
+/// The slots of one thread for these entries, with room for two jobs.
+fn slots_of(alloc: Global, hosts: &Hosts) -> Result<OneThread<16>, Fail>
+    requires { length hosts.now.list ≤ 16 }
+    ensures limits { IfOk result (λ slots. AreLimitsOf slots.limits hosts.now) }
+    ensures mine { IfOk result (λ slots. slots.mine ≡ []) }
+    ensures spare { IfOk result (λ slots. 128 ≤ slots.spare) }
+{
+    let limits = limits_of(hosts, 8);
+    if !limits.are_valid() {
+        return Err("the limits are valid".into());
+    }
+    Ok(OneThread::new(alloc, limits, 256)?)
+}
+
 /// Does the job of a row, with slots of one thread, and where it is to be done again a second one with the same slots.
 pub(crate) fn done<R: Wait, K: Keeper>(
     rt: &R,
@@ -183,7 +244,6 @@ pub(crate) fn done<R: Wait, K: Keeper>(
     again: bool,
     kit: &mut Scripted<K>,
 ) -> Result<Report, Fail> {
-    let mut places = NOWHERE;
     let words = words(alloc, row.line)?;
     let config = config(alloc, row)?;
     if words.is_empty() || kit.keeper.is_pending() {
@@ -192,40 +252,12 @@ pub(crate) fn done<R: Wait, K: Keeper>(
     if config.hosts.list.len() > 16 || config.tries == 0 || config.tries > 16 {
         return Err("there are at most 16 entries, and 1 to 16 tries".into());
     }
-    let limits = limits_of(&config.hosts, 8);
-    if !limits.are_valid() {
-        return Err("the limits are valid".into());
-    }
-    let mut slots = OneThread::new(alloc, limits, 256)?;
-    let room = EventRoom::new(alloc)?;
-    let report = run_job(
-        rt,
-        alloc,
-        &words,
-        0,
-        &config,
-        &mut slots,
-        kit,
-        &mut places,
-        room,
-    );
+    let mut slots = slots_of(alloc, &config.hosts)?;
+    let report = job_at(rt, alloc, &words, 0, &config, &mut slots, kit)?;
     if !again {
         return Ok(report);
     }
-    let mut places = NOWHERE;
-    let room = EventRoom::new(alloc)?;
-    let report = run_job(
-        rt,
-        alloc,
-        &words,
-        1,
-        &config,
-        &mut slots,
-        kit,
-        &mut places,
-        room,
-    );
-    Ok(report)
+    job_at(rt, alloc, &words, 1, &config, &mut slots, kit)
 }
 
 /// What a file holds, which is nothing where it isn't there.
@@ -308,6 +340,26 @@ fn expect_runs<R: Abort>(rt: &R, alloc: Global, runs: &[Run], row: &Row) -> Resu
     Ok(())
 }
 
+/// Compares what the devices kept with the row, and gives the keeper back.
+fn expect_kept<R: Abort, K: Keeper + Drop>(
+    rt: &R,
+    alloc: Global,
+    row: &Row,
+    kit: Scripted<K>,
+) -> Result<K, Fail> {
+    let Kit {
+        dialer,
+        station,
+        keeper,
+        ..
+    } = kit;
+    let exchanges: Items<Exchange> = dialer.into_exchanges().into_items(alloc)?;
+    expect_exchanges(rt, exchanges.as_slice(), row);
+    let runs: Items<Run> = station.into_runs().into_items(alloc)?;
+    expect_runs(rt, alloc, runs.as_slice(), row)?;
+    Ok(keeper)
+}
+
 /// Does the job of a row over this keeper, compares all but its files with the row, and gives the keeper back.
 pub(crate) fn expect_over<R: Wait + Abort, K: Keeper + Drop>(
     rt: &R,
@@ -321,15 +373,5 @@ pub(crate) fn expect_over<R: Wait + Abort, K: Keeper + Drop>(
     expect_end(rt, &report, row)?;
     let object = content(alloc, &mut kit.keeper, b"x.o")?;
     assert_eq!(rt; object.as_slice(), row.object, "{}", row.line);
-    let Kit {
-        dialer,
-        station,
-        keeper,
-        ..
-    } = kit;
-    let exchanges: Items<Exchange> = dialer.into_exchanges().into_items(alloc)?;
-    expect_exchanges(rt, exchanges.as_slice(), row);
-    let runs: Items<Run> = station.into_runs().into_items(alloc)?;
-    expect_runs(rt, alloc, runs.as_slice(), row)?;
-    Ok(keeper)
+    expect_kept(rt, alloc, row, kit)
 }

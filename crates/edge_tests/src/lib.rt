@@ -1,0 +1,13 @@
+//! Tests of the devices: those in memory by their scripts, and those of the system against a peer, a file or a child of their own.
+#![tactic(auto)]
+
+#[cfg(test)]
+mod children;
+#[cfg(test)]
+mod disk;
+#[cfg(test)]
+mod scripted;
+#[cfg(test)]
+mod sockets;
+#[cfg(test)]
+mod streams;

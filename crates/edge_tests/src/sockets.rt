@@ -1,0 +1,168 @@
+//! Sockets, each against a peer in another thread.
+
+use edge_real::{TcpDialer, TcpDoor};
+use edge_traits::{Dialer, Door, EdgeFault, Link};
+use farm_types::{Bytes, HostName};
+use std::alloc::{AllocError, Global};
+use std::test::Fail;
+use std::thread;
+use std::time::{Duration, Instant};
+
+const LOCALHOST: u32 = 0x7f00_0001;
+
+fn host(alloc: Global, name: &[u8]) -> Result<HostName, AllocError> {
+    Ok(HostName {
+        text: Bytes::from_slice(alloc, name)?,
+    })
+}
+
+/// Sends one byte, and answers the one that comes back and whether the link ended behind it.
+fn ask<D: Dialer>(alloc: Global, dialer: &mut D, host: &HostName, port: u16) -> (u8, bool) {
+    let Ok(mut link) = dialer.dial(alloc, host, port) else {
+        return (0, false);
+    };
+    let _ = link.send(b"a");
+    let mut room = [0u8; 4];
+    let _ = link.recv(&mut room);
+    let ended = matches!(link.recv(&mut [0u8; 4]), Ok(0));
+    dialer.hang_up(link);
+    (room[0], ended)
+}
+
+/// Answers one byte by another, and tells the one that came and whose it is.
+fn answer<D: Door>(alloc: Global, door: &mut D) -> (u8, u32) {
+    let Ok((mut link, peer)) = door.accept(alloc) else {
+        return (0, 0);
+    };
+    let mut room = [0u8; 4];
+    let _ = link.recv(&mut room);
+    let _ = link.send(b"b");
+    door.leave(link);
+    (room[0], peer)
+}
+
+#[test]
+fn a_dialer_and_a_door_carry_bytes_both_ways(rt: HostRuntime) -> Result<(), Fail> {
+    let alloc = rt.alloc();
+    let mut door = TcpDoor::open(&rt, LOCALHOST, 0);
+    let port = door.port().ok_or("port")?;
+    let mut dialer = TcpDialer::new(rt);
+    let name = host(alloc, b"localhost")?;
+    let (near, far) = thread::join(
+        &rt,
+        move || ask(alloc, &mut dialer, &name, port),
+        || answer(alloc, &mut door),
+    );
+    assert_eq!(rt; near, (b'b', true));
+    assert_eq!(rt; far, (b'a', LOCALHOST));
+    Ok(())
+}
+
+/// Sends 1,000 bytes over and over, and answers how many were taken in all.
+fn send_often<L: Link>(link: &mut L, times: u32) -> u64 {
+    let mut sent = 0u64;
+    for _ in 0..times {
+        if let Ok(count) = link.send(&[b'r'; 1000]) {
+            sent = sent.saturating_add(count as u64);
+        }
+    }
+    sent
+}
+
+/// How many bytes the link gives until its end.
+fn count_given<L: Link>(link: &mut L) -> u64 {
+    let mut given = 0u64;
+    for _ in 0..1_000_000 {
+        match link.recv(&mut [0u8; 1000]) {
+            Ok(count) if count > 0 => given = given.saturating_add(count as u64),
+            _ => return given,
+        }
+    }
+    given
+}
+
+/// Sends more than the peer reads, and answers how many bytes came back.
+fn send_too_much<D: Dialer>(alloc: Global, dialer: &mut D, host: &HostName, port: u16) -> u64 {
+    let Ok(mut link) = dialer.dial(alloc, host, port) else {
+        return 0;
+    };
+    send_often(&mut link, 100);
+    let first = link.recv(&mut [0u8; 1]);
+    send_often(&mut link, 100);
+    let given = count_given(&mut link).saturating_add(u64::from(matches!(first, Ok(1))));
+    dialer.hang_up(link);
+    given
+}
+
+/// Reads one byte, and answers how many bytes were sent back.
+fn read_little<D: Door>(alloc: Global, door: &mut D) -> u64 {
+    let Ok((mut link, _)) = door.accept(alloc) else {
+        return 0;
+    };
+    let _ = link.recv(&mut [0u8; 1]);
+    let sent = send_often(&mut link, 8000);
+    door.leave(link);
+    sent
+}
+
+#[test]
+fn a_client_that_sends_too_much_gets_the_whole_reply(rt: HostRuntime) -> Result<(), Fail> {
+    let alloc = rt.alloc();
+    let mut door = TcpDoor::open(&rt, LOCALHOST, 0);
+    let port = door.port().ok_or("port")?;
+    let mut dialer = TcpDialer::new(rt);
+    let name = host(alloc, b"127.0.0.1")?;
+    let (given, sent) = thread::join(
+        &rt,
+        move || send_too_much(alloc, &mut dialer, &name, port),
+        || read_little(alloc, &mut door),
+    );
+    assert!(rt; sent > 7_000_000);
+    assert_eq!(rt; given, sent);
+    Ok(())
+}
+
+// The client neither sends nor ends, so it is left once it has sent nothing for a second.
+#[test]
+fn a_silent_client_is_left_after_a_second(rt: HostRuntime) -> Result<(), Fail> {
+    let alloc = rt.alloc();
+    let mut door = TcpDoor::open(&rt, LOCALHOST, 0);
+    let port = door.port().ok_or("port")?;
+    let mut dialer = TcpDialer::new(rt);
+    let name = host(alloc, b"127.0.0.1")?;
+    let silent = dialer.dial(alloc, &name, port)?;
+    let (link, _) = door.accept(alloc)?;
+    let before = Instant::now(&rt)?;
+    door.leave(link);
+    let waited = before.elapsed(&rt)?;
+    assert!(rt; Duration::from_millis(900) <= waited && waited < Duration::from_secs(20));
+    dialer.hang_up(silent);
+    Ok(())
+}
+
+#[test]
+fn a_host_that_is_not_there_is_a_fault(rt: HostRuntime) -> Result<(), Fail> {
+    let alloc = rt.alloc();
+    let mut dialer = TcpDialer::new(rt);
+    for name in [b"127.0.0.1".as_slice(), b"red.invalid", b"\xff"] {
+        let name = host(alloc, name)?;
+        assert!(rt; matches!(dialer.dial(alloc, &name, 1), Err(EdgeFault::Failed)));
+    }
+    Ok(())
+}
+
+#[test]
+fn an_address_of_another_machine_gives_no_listener(rt: HostRuntime) {
+    let mut closed = TcpDoor::open(&rt, 0x0102_0304, 1);
+    assert!(rt; !closed.is_open() && !closed.share().is_open());
+    assert_eq!(rt; closed.port(), None);
+    assert!(rt; matches!(closed.accept(rt.alloc()), Err(EdgeFault::Failed)));
+}
+
+#[test]
+fn a_shared_door_is_at_the_same_port(rt: HostRuntime) {
+    let door = TcpDoor::open(&rt, LOCALHOST, 0);
+    let shared = door.share();
+    assert!(rt; door.is_open() && shared.is_open());
+    assert_eq!(rt; shared.port(), door.port());
+}
