@@ -1,8 +1,10 @@
-//! Tests of the sample language, its compiler, the compiler as a station, and the program `scc`.
+//! Tests of the sample language, its compiler, the compiler as a station, the program `scc`, and the generated workload.
 #![tactic(auto)]
 
 #[cfg(test)]
 mod files;
+#[cfg(test)]
+mod loads;
 #[cfg(test)]
 mod programs;
 #[cfg(test)]

@@ -6,7 +6,8 @@ ghost use Rattle.edge_memory.specs.Sinks.{sink_state, sink_shows};
 use crate::files::{Listed, numbers};
 use crate::stations::keeper_of;
 use edge_memory::{MemSink, Moves};
-use farm_types::Bytes;
+use edge_traits::Put;
+use farm_types::Items;
 use sample_program::scc;
 use std::alloc::{AllocError, Global};
 use std::process::Abort;
@@ -119,7 +120,7 @@ struct Done {
     status: u8,
     out: MemSink,
     err: MemSink,
-    objects: Vec<Bytes>,
+    puts: Items<Put>,
 }
 
 fn do_row(alloc: Global, row: &Row) -> Result<Done, AllocError> {
@@ -128,15 +129,12 @@ fn do_row(alloc: Global, row: &Row) -> Result<Done, AllocError> {
     let mut out = sink_of(alloc, row.zeros)?;
     let mut err = sink_of(alloc, &[])?;
     let status = scc(alloc, words.as_slice(), &mut keeper, &mut out, &mut err);
-    let mut objects = Vec::new(alloc);
-    for put in keeper.into_puts().into_items(alloc)?.into_vec() {
-        objects.push(put.bytes)?;
-    }
+    let puts = keeper.into_puts().into_items(alloc)?;
     Ok(Done {
         status,
         out,
         err,
-        objects,
+        puts,
     })
 }
 
@@ -144,8 +142,11 @@ fn compare(rt: &impl Abort, done: &Done, row: &Row) {
     assert_eq!(rt; done.status, row.status);
     assert_eq!(rt; done.out.written(), row.out);
     assert_eq!(rt; done.err.written(), row.err);
-    assert_eq!(rt; done.objects.first().map(|object| object.as_slice()), row.object);
-    assert!(rt; done.objects.len() < 2);
+    assert_eq!(rt;
+        done.puts.get(0).map(|put| put.bytes.as_slice()),
+        row.object
+    );
+    assert!(rt; done.puts.len() < 2);
 }
 
 #[test]

@@ -42,7 +42,10 @@ const BAD: Left = (512, b"", b"scc: bad words\n", b"");
 
 // Words behind the compiler's name, and what they leave.
 const RUNS: &[(&[&str], Left)] = &[
-    (&["-c", "a.c", "-o", "a.o"], (0, b"", b"", b"SCO1\ndef a 1\n")),
+    (
+        &["-c", "a.c", "-o", "a.o"],
+        (0, b"", b"", b"SCO1\ndef a 1\n"),
+    ),
     (
         &["-c", "o.c"],
         (0, b"", b"", b"SCO1\nneed b\ndef a @b 2 @b + *\n"),
@@ -85,7 +88,10 @@ const RUNS: &[(&[&str], Left)] = &[
         &["-O2", "-MD", "-", "-c", "a.c"],
         (0, b"", b"", b"SCO1\ndef a 1\n"),
     ),
-    (&["-c", "a.h", "-o", "a.o"], (0, b"", b"", b"SCO1\ndef a 1\n")),
+    (
+        &["-c", "a.h", "-o", "a.o"],
+        (0, b"", b"", b"SCO1\ndef a 1\n"),
+    ),
     (&[], BAD),
     (&["a.c"], BAD),
     (&["-c"], BAD),
