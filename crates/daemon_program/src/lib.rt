@@ -9,6 +9,3 @@ mod top;
 
 pub use daemon_words::{DoorPlace, door_place};
 pub use top::farmd;
-
-#[cfg(test)]
-mod tests;

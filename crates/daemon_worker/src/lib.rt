@@ -13,6 +13,3 @@ pub use door::serve_door;
 pub use laws::calm_doors_answer_rightly;
 pub use log::{DaemonConfig, DaemonLog, DoorKit, Entry, Met};
 pub use serving::{serve, serve_first};
-
-#[cfg(test)]
-mod tests;

@@ -18,6 +18,8 @@ mod loops;
 #[cfg(test)]
 mod rehearsals;
 #[cfg(test)]
+mod services;
+#[cfg(test)]
 mod words;
 #[cfg(test)]
 mod workers;

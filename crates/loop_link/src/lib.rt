@@ -12,6 +12,3 @@ mod serving;
 pub use dialer::LoopDialer;
 pub use exchange::attempt_over_loop;
 pub use link::LoopLink;
-
-#[cfg(test)]
-mod tests;

@@ -1,5 +1,5 @@
 -- How files become known one by one.
-use Rattle.std.proofs.Common.{◌≡◌, ⊎_elim, ℕ, Bool, true, false, cond, not, List, [], ◌∷◌, ◌++◌, Option, Some, None, refl, ap, sym, ◌∙◌, subst, arith}
+use Rattle.std.proofs.Common.{◌≡◌, ⊎_elim, ℕ, Bool, true, false, cond, not, List, [], ◌∷◌, ◌++◌, Option, Some, None, refl, ap, sym, ◌∙◌, subst, length, ◌≤◌, arith}
 use Rattle.std.specs.Prelude.{nat_eq, ◌||◌, Result, Ok, Err}
 use Rattle.std.specs.Ordering.{nat_cmp}
 use Rattle.std.specs.declared.cmp.Ordering.TheVariants.{Equal}
@@ -19,7 +19,7 @@ use Rattle.sample_compiler.specs.declared.stops.ExpandStop.TheVariants.{Fault}
 use Rattle.sample_compiler.specs.declared.task.Task.{Task}
 use Rattle.sample_compiler.specs.Lookups.{Agrees, Stopped, is_listed}
 use Rattle.sample_compiler.specs.Samples.{task_text, LeavesAsked, LeftBy}
-use Rattle.sample_compiler.specs.Loads.{unstaged}
+use Rattle.sample_compiler.specs.Loads.{unstaged, fetch_max, AreShort}
 
 same_name : (a b : List ℕ) → slice_cmp nat_cmp a b ≡ Equal → a ≡ b
 same_name = slice_cmp-IsAntisymmetric nat_cmp-IsAntisymmetric
@@ -96,6 +96,21 @@ there_agrees known now files absent path content grown is a = record {
   where
     at_q : (q : List ℕ) → get now q ≡ cond (pointwise nat_eq q path) (Some content) (get known q)
     at_q q = ap (λ m. get m q) grown ∙ put_at known path content q
+
+-- no file is fetched yet
+pub none_short : (known : Files) → known ≡ empty → AreShort known
+none_short known none = λ path content is. let gone : get known path ≡ None = ap (λ m. get m path) none ∙ get-empty (slice_cmp nat_cmp) path in absurd (cc)
+
+-- one file more, of few bytes
+pub one_short : (known now : Files) (path content : List ℕ) → now ≡ insert known path content → length content ≤ fetch_max → AreShort known → AreShort now
+one_short known now path content grown few short = λ q bytes at.
+    let at_q : get now q ≡ cond (pointwise nat_eq q path) (Some content) (get known q) = ap (λ m. get m q) grown ∙ put_at known path content q in
+    ⊎_elim
+    (λ same. let here : get now q ≡ Some content = at_q ∙ ap (λ test. cond test (Some content) (get known q)) same in
+    let one : content ≡ bytes = cc in
+    subst (λ b. length b ≤ fetch_max) one few)
+    (λ other. let before : get now q ≡ get known q = at_q ∙ ap (λ test. cond test (Some content) (get known q)) other in short q bytes (sym before ∙ at))
+    (cases_Bool (pointwise nat_eq q path))
 
 -- a text is left in the same way over both
 pub same_left : (files others : Files) (asked : Option Task) (ran : Ran) → ((task : Task) → asked ≡ Some task → task_text files task ≡ task_text others task) → LeavesAsked files asked ran → LeavesAsked others asked ran

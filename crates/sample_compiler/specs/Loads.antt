@@ -1,5 +1,5 @@
 -- What a load of files leaves, and when it may fail.
-use Rattle.std.specs.Prelude.{ℕ, ◌≡◌, ◌<◌, ◌≤◌, not, true, List, [], ◌∷◌, ◌++◌, Option, Some, None, IsTrue}
+use Rattle.std.specs.Prelude.{ℕ, ◌≡◌, ◌<◌, ◌≤◌, not, true, List, [], ◌∷◌, ◌++◌, length, Option, Some, None, IsTrue}
 use Rattle.std.specs.List.{flat_map}
 use Rattle.std.specs.FinMap.{get, retain_keys}
 use Rattle.farm_types.specs.declared.ran.Ran.{Ran}
@@ -23,6 +23,10 @@ unstaged files = retain_keys files (λ path. not (is_reserved path))
 -- the most bytes of a file that is fetched
 abbrev pub fetch_max : ℕ
 fetch_max = 33554432
+
+-- each file has at most as many bytes as are fetched
+abbrev pub AreShort : Files → Type 0
+AreShort files = (path content : List ℕ) → get files path ≡ Some content → length content ≤ fetch_max
 
 -- the keeper's files are as they were, nothing was put, and the counts haven't fallen
 pub record OnlyFetched (old now : KeeperView) : Type 0 where

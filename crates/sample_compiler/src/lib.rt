@@ -21,6 +21,3 @@ pub use loading::{LoadFault, load};
 pub use object::object_of;
 pub use station::SampleStation;
 pub use task::{Product, Task, task_of};
-
-#[cfg(test)]
-mod tests;

@@ -7,7 +7,7 @@ ghost use Rattle.file_map.specs.FileMaps.{Files};
 ghost use Rattle.sample_compiler.specs.Lookups.{Agrees};
 ghost use Rattle.sample_compiler.specs.Samples.{task_text};
 ghost use Rattle.edge_traits.specs.Keepers.{IsIdle};
-ghost use Rattle.sample_compiler.specs.Loads.{unstaged, entry_at, entries_at, names_for, FetchedFront, LongNamed, OnlyFetched, LoadCause, SameRuns};
+ghost use Rattle.sample_compiler.specs.Loads.{unstaged, AreShort, entry_at, entries_at, names_for, FetchedFront, LongNamed, OnlyFetched, LoadCause, SameRuns};
 ghost use Rattle.sample_compiler.specs.Seeking.{asked_names, first_unknown, firsts_after, is_known, task_names};
 ghost use Rattle.sample_compiler.specs.Tasks.{task_of};
 
@@ -86,6 +86,7 @@ fn learn<K: Keeper>(
         → Agrees known.old.files known.old.absent false (unstaged (K.shows keeper.new).files.value)
         → Agrees known.new.files known.new.absent false (unstaged (K.shows keeper.new).files.value)) }
     ensures knows { OnOk result ((name : List ℕ) → is_known known.new.files known.new.absent name ≡ (is_known known.old.files known.old.absent name || bytes_eq path name)) }
+    ensures short { OnOk result (AreShort known.old.files → AreShort known.new.files) }
     ensures fetched { OnOk result (IsTrue (K.shows keeper.new).files.known
         → Grew (K.shows keeper.old).fetches (K.shows keeper.new).fetches (entry_at (unstaged (K.shows keeper.new).files.value) path)) }
     ensures tried { OnErr result (IsTrue (K.shows keeper.new).files.known
@@ -118,6 +119,7 @@ fn load_task<K: Keeper>(alloc: Global, task: &Task, keeper: &mut K) -> Result<Fi
     requires { IsIdle (K.shows keeper.old) }
     ensures same { IfOk result (λ files. IsTrue (K.shows keeper.new).files.known
         → task_text (unstaged (K.shows keeper.new).files.value) task.now ≡ task_text files task.now) }
+    ensures short { IfOk result AreShort }
     ensures fetched { OnOk result (IsTrue (K.shows keeper.new).files.known
         → Grew (K.shows keeper.old).fetches (K.shows keeper.new).fetches (entries_at (unstaged (K.shows keeper.new).files.value) (firsts_after [] (task_names (unstaged (K.shows keeper.new).files.value) task.now)))) }
     ensures tried { OnErr result (IsTrue (K.shows keeper.new).files.known
@@ -142,11 +144,12 @@ fn load_task<K: Keeper>(alloc: Global, task: &Task, keeper: &mut K) -> Result<Fi
 
 /// Fetches the files that the compiler looks up for these words, in the order in which it looks them up first, each once, and no others. A name is left out
 /// where its fetch answered that it isn't there, and where it ends in `.farm~`, which isn't fetched. So the words leave the
-/// same over these files as over all of the keeper's, but for those names. It puts nothing.
+/// same over these files as over all of the keeper's, but for those names. A file has at most 33,554,432 bytes. It puts nothing.
 pub fn load<K: Keeper>(alloc: Global, words: &Words, keeper: &mut K) -> Result<FileMap, LoadFault>
     requires idle { IsIdle (K.shows keeper.old) }
     ensures same { IfOk result (λ files. IsTrue (K.shows keeper.new).files.known
         → SameRuns words.now (unstaged (K.shows keeper.new).files.value) files) }
+    ensures short { IfOk result AreShort }
     ensures fetched { OnOk result (IsTrue (K.shows keeper.new).files.known
         → Grew (K.shows keeper.old).fetches (K.shows keeper.new).fetches (entries_at (unstaged (K.shows keeper.new).files.value) (names_for (unstaged (K.shows keeper.new).files.value) words.now))) }
     ensures tried { OnErr result (IsTrue (K.shows keeper.new).files.known

@@ -7,6 +7,3 @@ mod top;
 
 pub use help::{HELP, VERSION};
 pub use top::scc;
-
-#[cfg(test)]
-mod tests;

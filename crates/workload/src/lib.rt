@@ -8,6 +8,3 @@ mod texts;
 
 pub use laws::one_file_for_each_job;
 pub use load::{Load, make};
-
-#[cfg(test)]
-mod tests;

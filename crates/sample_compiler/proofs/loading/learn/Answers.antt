@@ -4,7 +4,7 @@ use Rattle.std.specs.Prelude.{None, Some}
 use Rattle.std.specs.FinMap.{get}
 use Rattle.arg_scan.specs.Names.{is_reserved}
 use Rattle.sample_compiler.specs.Loads.{unstaged}
-use Rattle.sample_compiler.proofs.LoadLemmas.{get_reserved, get_plain, absent_agrees, there_agrees}
+use Rattle.sample_compiler.proofs.LoadLemmas.{get_reserved, get_plain, absent_agrees, there_agrees, one_short}
 use Rattle.sample_compiler.proofs.KnownLemmas.{learned_there, entry_absent, entry_there, front_one, grew_nothing}
 use Rattle.sample_compiler.proofs.loading.learn.Goals as goal
 
@@ -65,3 +65,6 @@ returns-in_ok-try_push-in-Err-Absent-clause-fetched g c told =
     let cause = rw c.in-Err-Absent.field-0-is at c.in-Err-Absent.ensures.cause in
     let gone : get after.files.value c.args.path ≡ None = cause.absent told in
     entry_absent (unstaged after.files.value) c.args.path before.fetches after.fetches (get_plain after.files.value c.args.path plain ∙ gone) (rw c.in-Err-Absent.is at c.fetch.ensures.fetches)
+
+pub returns-in_ok-try_put-in-Ok-clause-short : goal.returns-in_ok-try_put-in-Ok-clause-short
+returns-in_ok-try_put-in-Ok-clause-short g c short = one_short c.args.known.now.files c.try_put.new.self c.args.path c.in-Ok.content c.in_ok-try_put-in-Ok.ensures.ok c.in-Ok.ensures.whole.within short

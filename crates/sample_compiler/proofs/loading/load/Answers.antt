@@ -3,6 +3,7 @@ use Rattle.std.specs.Prelude.{IfErr}
 use Rattle.sample_compiler.specs.Loads.{unstaged, LongNamed}
 use Rattle.sample_compiler.specs.Seeking.{asked_names}
 use Rattle.sample_compiler.specs.Tasks.{task_of}
+use Rattle.sample_compiler.proofs.LoadLemmas.{none_short}
 use Rattle.sample_compiler.proofs.loading.load.Goals as goal
 
 pub returns-in-Some-clause-named : goal.returns-in-Some-clause-named
@@ -10,3 +11,6 @@ returns-in-Some-clause-named g c =
     let after = g.K.Keeper.shows c.load_task.new.keeper in
     let asked : task_of c.args.words.now ≡ Some c.in-Some.task = ap task_of (sym c.as_slice.ensures) ∙ sym c.in_ok-task.ensures.task ∙ c.in-Some.is in
     subst (λ o. IfErr c.load_task.result (LongNamed after (asked_names (unstaged after.files.value) o))) (sym asked) c.load_task.ensures.named
+
+pub returns-in-None-clause-short : goal.returns-in-None-clause-short
+returns-in-None-clause-short g c = none_short c.new.result c.new.ensures

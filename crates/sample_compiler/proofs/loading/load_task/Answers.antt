@@ -3,7 +3,7 @@ use Rattle.std.proofs.lemmas.Result.{err_from_is_err_and}
 use Rattle.sample_compiler.specs.Lookups.{is_listed}
 use Rattle.sample_compiler.specs.Seeking.{task_names}
 use Rattle.sample_compiler.specs.Loads.{unstaged}
-use Rattle.sample_compiler.proofs.LoadLemmas.{nothing_agrees}
+use Rattle.sample_compiler.proofs.LoadLemmas.{nothing_agrees, none_short}
 use Rattle.sample_compiler.proofs.Fetching.{only_none, only_then, cause_then, agrees_on, agrees_then}
 use Rattle.sample_compiler.proofs.KnownLemmas.{nothing_loaded, loading_on, loading_more, loading_done, loading_failed, long_among, next_listed}
 use Rattle.sample_compiler.proofs.loading.load_task.Goals as goal
@@ -12,6 +12,7 @@ pub loop-turn-init : goal.loop-turn-init
 loop-turn-init g c = record {
   only = only_none (g.K.Keeper.shows c.args.keeper.now) c.requires;
   agrees = λ told. nothing_agrees c.new.result (unstaged (g.K.Keeper.shows c.args.keeper.now).files.value) c.new-2.result c.new.ensures c.new-2.ensures;
+  short = none_short c.new.result c.new.ensures;
   loading = λ told. nothing_loaded (unstaged (g.K.Keeper.shows c.args.keeper.now).files.value) c.new.result c.new-2.result (task_names (unstaged (g.K.Keeper.shows c.args.keeper.now).files.value) c.args.task.now) (g.K.Keeper.shows c.args.keeper.now).fetches c.new.ensures c.new-2.ensures;
 }
 
@@ -66,6 +67,7 @@ loop-turn-preserved g c =
     record {
       only = only_then start before after c.loop-turn.invariant.only c.learn.ensures.only;
       agrees = agrees_then before after c.loop-turn.known.files c.learn.new.known.files c.loop-turn.known.absent c.learn.new.known.absent c.learn.ensures.only c.loop-turn.invariant.agrees c.in_ok-learn-in-Some.ensures.known;
+      short = c.in_ok-learn-in-Some.ensures.short c.loop-turn.invariant.short;
       loading = λ told.
           let files = unstaged after.files.value in
           let earlier = c.learn.ensures.only.files.known told in

@@ -1,8 +1,9 @@
-use crate::farmd;
+//! Rows of the program `farmd`.
+
+use crate::scripts::{links, numbers};
+use daemon_program::farmd;
 use daemon_worker::DoorKit;
-use edge_memory::{
-    GateStation, LinkScript, LinkScripts, MemDoor, MemSink, MemStation, Moves, Peers, RanList,
-};
+use edge_memory::{GateStation, MemDoor, MemSink, MemStation, Moves, Peers, RanList};
 use edge_traits::{CallNumbers, Station};
 use farm_types::{Bytes, Ran};
 use std::alloc::Global;
@@ -141,29 +142,6 @@ const ROWS: &[Row] = &[
         ..ONE
     },
 ];
-
-fn numbers(alloc: Global, list: &[u64]) -> Result<CallNumbers, Fail> {
-    let mut numbers = CallNumbers::new(alloc);
-    for number in list {
-        numbers.try_push(*number)?;
-    }
-    Ok(numbers)
-}
-
-fn links(alloc: Global, gives: &[&[u8]]) -> Result<LinkScripts, Fail> {
-    let mut links = LinkScripts::new(alloc);
-    for text in gives {
-        links.try_push(LinkScript {
-            gives: Bytes::from_slice(alloc, text)?,
-            moves: Moves {
-                fails: CallNumbers::new(alloc),
-                zeros: CallNumbers::new(alloc),
-                most: 50,
-            },
-        })?;
-    }
-    Ok(links)
-}
 
 fn door(alloc: Global, row: &Row, gives: &[&[u8]]) -> Result<MemDoor, Fail> {
     let mut peers = Peers::new(alloc);

@@ -1,7 +1,9 @@
-use crate::{Load, make};
+//! Jobs of the workload, with their sources.
+
 use farm_types::{Bytes, Words};
 use std::alloc::Global;
 use std::test::Fail;
+use workload::{Load, make};
 
 // The number of jobs, the place of one of them, its words with a blank behind each, and its source.
 const LOADS: &[(u32, usize, &[u8], &[u8])] = &[

@@ -1,6 +1,8 @@
-use crate::{Compiler, CompilerVec, Compilers, Served, fault_number, serve_connection};
+//! The service's answer to one connection.
+
+use crate::scripts::numbers;
+use daemon_service::{Compiler, CompilerVec, Compilers, Served, fault_number, serve_connection};
 use edge_memory::{LinkScript, MemLink, MemStation, Moves, RanList};
-use edge_traits::CallNumbers;
 use farm_types::{Bytes, Ran, Word};
 use std::alloc::Global;
 use std::test::Fail;
@@ -13,14 +15,6 @@ const REQUEST: [u8; 120] =
 // The reply of success, 73 bytes with an object of 13.
 const REPLY: [u8; 73] =
     *b"DONE00000001STAT00000000SERR00000000SOUT00000000DOTO0000000dSCO1\ndef a 1\n";
-
-fn numbers(alloc: Global, list: &[u64]) -> Result<CallNumbers, Fail> {
-    let mut numbers = CallNumbers::new(alloc);
-    for number in list {
-        numbers.try_push(*number)?;
-    }
-    Ok(numbers)
-}
 
 fn ran(alloc: Global, status: u32, err: &[u8], object: &[u8]) -> Result<Ran, Fail> {
     Ok(Ran {

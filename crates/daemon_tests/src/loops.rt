@@ -1,11 +1,13 @@
+//! A loop to the daemon's service: what its links give, and how exchanges over it go.
+
 ghost use Rattle.std.specs.Prelude.{IfOk};
 ghost use Rattle.loop_link.specs.Replies.{AreOwnNames};
 
-use crate::{LoopDialer, attempt_over_loop};
 use daemon_service::{Compiler, CompilerVec, Compilers};
 use edge_memory::{MemStation, RanList};
 use edge_traits::{CallNumbers, Cause, Dialer, EdgeFault, Link};
 use farm_types::{Bytes, Host, HostName, Ran, Request, Words};
+use loop_link::{LoopDialer, attempt_over_loop};
 use remote_transfer::Attempt;
 use std::alloc::Global;
 use std::test::Fail;

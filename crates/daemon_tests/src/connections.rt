@@ -1,7 +1,10 @@
-use crate::{DaemonConfig, DoorKit, Entry, Met, serve};
+//! The connections of doors, one after the other at each, and their log.
+
+use crate::scripts::{links, numbers};
 use access_list::{AccessList, RuleVec, parse_rule};
 use daemon_service::{Compiler, CompilerVec, Compilers, Served};
-use edge_memory::{LinkScript, LinkScripts, MemDoor, MemStation, Moves, Peers, RanList};
+use daemon_worker::{DaemonConfig, DoorKit, Entry, Met, serve};
+use edge_memory::{LinkScripts, MemDoor, MemStation, Peers, RanList};
 use edge_traits::CallNumbers;
 use farm_types::{Bytes, Items, Ran};
 use std::alloc::Global;
@@ -118,29 +121,6 @@ const ROWS: &[Row] = &[
         ],
     },
 ];
-
-fn numbers(alloc: Global, list: &[u64]) -> Result<CallNumbers, Fail> {
-    let mut numbers = CallNumbers::new(alloc);
-    for number in list {
-        numbers.try_push(*number)?;
-    }
-    Ok(numbers)
-}
-
-fn links(alloc: Global, gives: &[&[u8]]) -> Result<LinkScripts, Fail> {
-    let mut links = LinkScripts::new(alloc);
-    for text in gives {
-        links.try_push(LinkScript {
-            gives: Bytes::from_slice(alloc, text)?,
-            moves: Moves {
-                fails: CallNumbers::new(alloc),
-                zeros: CallNumbers::new(alloc),
-                most: 50,
-            },
-        })?;
-    }
-    Ok(links)
-}
 
 fn kit(alloc: Global, side: &Side) -> Result<DoorKit<MemDoor, MemStation>, Fail> {
     let mut peers = Peers::new(alloc);

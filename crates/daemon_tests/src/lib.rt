@@ -1,0 +1,13 @@
+//! Tests of the daemon: its answer to a connection, its doors side by side, the program `farmd`, and a loop to it.
+#![tactic(auto)]
+
+#[cfg(test)]
+mod connections;
+#[cfg(test)]
+mod loops;
+#[cfg(test)]
+mod programs;
+#[cfg(test)]
+mod scripts;
+#[cfg(test)]
+mod services;

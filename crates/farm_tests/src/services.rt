@@ -1,0 +1,59 @@
+//! Requests to the daemon's service, whose station is the sample compiler.
+
+use daemon_service::{Served, serve_connection};
+use edge_memory::{LinkScript, MemLink, Moves};
+use edge_traits::CallNumbers;
+use farm_types::Bytes;
+use rehearsal::compiler_table;
+use sample_compiler::SampleStation;
+use sample_lang::FileMap;
+use std::alloc::{AllocError, Global};
+use std::test::Fail;
+
+// What a client sends, `scc -c a.i -o a.o` on one line of source; the status; and the reply.
+const SERVED: &[(&[u8], u32, &[u8])] = &[
+    (
+        b"DIST00000001ARGC00000005ARGV00000003sccARGV00000002-cARGV00000003a.iARGV00000002-oARGV00000003a.oDOTI0000000bint a = 1;\n",
+        0,
+        b"DONE00000001STAT00000000SERR00000000SOUT00000000DOTO0000000dSCO1\ndef a 1\n",
+    ),
+    (
+        b"DIST00000001ARGC00000005ARGV00000003sccARGV00000002-cARGV00000003a.iARGV00000002-oARGV00000003a.oDOTI0000000bint a = b;\n",
+        256,
+        b"DONE00000001STAT00000100SERR00000017line 1: unknown name b\nSOUT00000000DOTO00000000",
+    ),
+];
+
+// A link that gives this, and moves at most so many bytes by one call.
+fn script(alloc: Global, gives: &[u8], most: u32) -> Result<LinkScript, AllocError> {
+    Ok(LinkScript {
+        gives: Bytes::from_slice(alloc, gives)?,
+        moves: Moves {
+            fails: CallNumbers::new(alloc),
+            zeros: CallNumbers::new(alloc),
+            most,
+        },
+    })
+}
+
+// Serves one connection that gives this, and answers what was written too.
+fn serve(alloc: Global, gives: &[u8], most: u32) -> Result<(Served, Bytes), AllocError> {
+    let script = script(alloc, gives, most)?;
+    let table = compiler_table(alloc)?;
+    let mut link = MemLink::new(alloc, script);
+    let mut station = SampleStation::new(FileMap::new(alloc));
+    let served = serve_connection(alloc, &mut link, &mut station, &table);
+    Ok((served, link.into_sent()))
+}
+
+#[test]
+fn the_service_answers_with_what_the_compiler_leaves(rt: HostRuntime) -> Result<(), Fail> {
+    for (gives, status, reply) in SERVED {
+        for most in [7, 1_000] {
+            let (served, written) = serve(rt.alloc(), gives, most)?;
+            assert_eq!(rt; served, Served::Answered(*status));
+            assert_eq!(rt; written.as_slice(), *reply);
+        }
+    }
+    Ok(())
+}

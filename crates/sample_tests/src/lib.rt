@@ -1,0 +1,15 @@
+//! Tests of the sample language, its compiler, the compiler as a station, the program `scc`, and the generated workload.
+#![tactic(auto)]
+
+#[cfg(test)]
+mod files;
+#[cfg(test)]
+mod loads;
+#[cfg(test)]
+mod programs;
+#[cfg(test)]
+mod runs;
+#[cfg(test)]
+mod sources;
+#[cfg(test)]
+mod stations;
