@@ -8,6 +8,3 @@ mod rule;
 pub use address::{place_of, read_address, read_number};
 pub use decision::{AccessList, Decision};
 pub use rule::{AccessFault, Rule, RuleVec, parse_rule};
-
-#[cfg(test)]
-mod tests;

@@ -6,8 +6,6 @@ mod command;
 mod names;
 mod part;
 mod seen;
-#[cfg(test)]
-mod tests;
 mod verdict;
 mod why;
 

@@ -5,8 +5,6 @@ mod cpp;
 mod placing;
 mod push;
 mod sent;
-#[cfg(test)]
-mod tests;
 
 pub use cpp::cpp_words;
 pub use placing::placed;

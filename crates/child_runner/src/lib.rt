@@ -6,6 +6,3 @@ mod running;
 mod texts;
 
 pub use running::{compile, in_place, preprocess};
-
-#[cfg(test)]
-mod tests;

@@ -17,6 +17,3 @@ pub use database::job_list_of;
 pub use fault::{DatabaseError, DatabaseFault};
 pub use help::{HELP, VERSION};
 pub use program::farm_jobs;
-
-#[cfg(test)]
-mod tests;

@@ -7,9 +7,6 @@ ghost use Rattle.course_laws.specs.Returns.{OwnEndLaw, UnbrokenLaw};
 ghost use Rattle.farm_machine.specs.Numbered.{NumberedLaw};
 ghost use Rattle.farm_machine.specs.Table.{MemoryLaw, TableLaw};
 
-#[cfg(test)]
-mod tests;
-
 use edge_traits::{Dialer, Station};
 
 /// The slot events of a course come in their turn: a job takes where it has nothing out, gives back what it has out,

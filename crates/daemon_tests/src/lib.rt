@@ -11,3 +11,5 @@ mod programs;
 mod scripts;
 #[cfg(test)]
 mod services;
+#[cfg(test)]
+mod words;

@@ -16,6 +16,3 @@ pub use laws::one_reading;
 pub use name::OptionName;
 pub use options::Options;
 pub use tables::{compilers_of, rules_of};
-
-#[cfg(test)]
-mod tests;

@@ -3,5 +3,3 @@
 mod count;
 pub(crate) mod dialer;
 pub(crate) mod station;
-#[cfg(test)]
-mod tests;

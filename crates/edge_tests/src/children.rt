@@ -49,11 +49,7 @@ fn run_script<S: Station>(
 }
 
 /// Runs the program of this name alone.
-fn run_name<S: Station>(
-    alloc: Global,
-    station: &mut S,
-    name: &[u8],
-) -> Result<Ran, StationFault> {
+fn run_name<S: Station>(alloc: Global, station: &mut S, name: &[u8]) -> Result<Ran, StationFault> {
     let words = [text(alloc, name)?];
     station.run(alloc, &words, b"", &BOUNDS)
 }

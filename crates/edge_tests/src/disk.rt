@@ -52,11 +52,7 @@ fn expect_fetches<R: Abort, K: Keeper>(rt: &R, alloc: Global, keeper: &mut K, al
 }
 
 /// A name, a bound, and what the fetch gives.
-type Fetch = (
-    &'static [u8],
-    u32,
-    Result<&'static [u8], FetchFault>,
-);
+type Fetch = (&'static [u8], u32, Result<&'static [u8], FetchFault>);
 
 const FETCHES: &[Fetch] = &[
     (b"x.o", 4, Err(FetchFault::TooMuch { bytes: 5 })),
@@ -73,11 +69,7 @@ fn expect_puts<R: Abort, K: Keeper>(rt: &R, alloc: Global, keeper: &mut K, all: 
 }
 
 /// A name, the bytes, and what the put answers.
-type Put = (
-    &'static [u8],
-    &'static [u8],
-    Result<(), EdgeFault>,
-);
+type Put = (&'static [u8], &'static [u8], Result<(), EdgeFault>);
 
 const PUTS: &[Put] = &[
     (b"x.o", b"old", Ok(())),

@@ -2,9 +2,15 @@
 #![tactic(auto)]
 
 #[cfg(test)]
+mod calls;
+#[cfg(test)]
 mod children;
 #[cfg(test)]
+mod delivery;
+#[cfg(test)]
 mod disk;
+#[cfg(test)]
+mod gates;
 #[cfg(test)]
 mod scripted;
 #[cfg(test)]

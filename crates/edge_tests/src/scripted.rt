@@ -145,12 +145,7 @@ fn dials(rt: HostRuntime) -> Result<(), Fail> {
 fn door(alloc: Global) -> Result<MemDoor, AllocError> {
     let mut peers = Peers::new(alloc);
     peers.try_push(7)?;
-    Ok(MemDoor::new(
-        alloc,
-        one_script(alloc)?,
-        peers,
-        numbers(alloc, &[2])?,
-    ))
+    Ok(MemDoor::new(alloc, one_script(alloc)?, peers, numbers(alloc, &[2])?))
 }
 
 /// Receives at most three bytes over a new link, and answers whose it is.

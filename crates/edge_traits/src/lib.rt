@@ -16,8 +16,6 @@ mod sink;
 mod source;
 mod staged;
 mod station;
-#[cfg(test)]
-mod tests;
 
 pub use calls::{CallNumbers, Calls, none_of, raised};
 pub use cause::Cause;

@@ -15,6 +15,3 @@ pub use refuse::{
 };
 pub use scan::answer_scan;
 pub use tell::{answer_help, answer_rehearsal, answer_version};
-
-#[cfg(test)]
-mod tests;

@@ -10,6 +10,3 @@ mod reports;
 
 pub use checks::{are_numbered, check_run};
 pub use reports::{By, End, Event, EventList, Places, Report, ReportList, Why5};
-
-#[cfg(test)]
-mod tests;

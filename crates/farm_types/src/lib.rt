@@ -11,8 +11,6 @@ pub mod limits;
 mod placed;
 mod ran;
 mod request;
-#[cfg(test)]
-mod tests;
 mod trail;
 
 pub use bytes::Bytes;

@@ -15,6 +15,3 @@ pub use help::{help_text, version_text};
 pub use laws::{one_period, one_reading};
 pub use name::CommandName;
 pub use options::Options;
-
-#[cfg(test)]
-mod tests;

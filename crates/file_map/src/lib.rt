@@ -4,6 +4,3 @@
 mod files;
 
 pub use files::FileMap;
-
-#[cfg(test)]
-mod tests;

@@ -19,6 +19,3 @@ pub use meaning::Meaning;
 pub use number::read_port;
 pub use printing::print;
 pub use word::read_word;
-
-#[cfg(test)]
-mod tests;

@@ -14,6 +14,3 @@ pub use fault::{JobError, JobFault};
 pub use laws::{one_reading_of_lines, one_reading_of_texts};
 pub use list::parse;
 pub use printing::{are_printable, print_words};
-
-#[cfg(test)]
-mod tests;

@@ -2,6 +2,12 @@
 #![tactic(auto)]
 
 #[cfg(test)]
+mod children;
+#[cfg(test)]
+mod exchanges;
+#[cfg(test)]
+mod laws;
+#[cfg(test)]
 mod rows;
 #[cfg(test)]
 mod scripted;

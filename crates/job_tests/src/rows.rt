@@ -223,10 +223,7 @@ const INTO_A_FILE: &[Row] = &[
 
 fn no_file<F: Files>(alloc: Global, files: &mut F, name: &[u8]) -> Result<bool, Fail> {
     let name = Bytes::from_slice(alloc, name)?;
-    Ok(matches!(
-        files.load(alloc, &name, 100),
-        Err(FetchFault::Absent)
-    ))
+    Ok(matches!(files.load(alloc, &name, 100), Err(FetchFault::Absent)))
 }
 
 /// Nothing is left under the name that the file has while it is written.

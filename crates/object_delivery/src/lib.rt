@@ -8,6 +8,3 @@ mod mem_files;
 pub use files::Files;
 pub use keeper::FileKeeper;
 pub use mem_files::MemFiles;
-
-#[cfg(test)]
-mod tests;

@@ -10,8 +10,6 @@ mod scc;
 mod search;
 mod spelling;
 mod table;
-#[cfg(test)]
-mod tests;
 
 pub use fault::TableFault;
 pub use gcc::gcc_table;

@@ -10,6 +10,3 @@ mod sending;
 
 pub use answers::{Attempt, Landed, Landing};
 pub use exchange::{attempt, attempt_into};
-
-#[cfg(test)]
-mod tests;

@@ -8,6 +8,3 @@ mod reader;
 
 pub use answers::{Part, Span};
 pub use reader::ReplyReader;
-
-#[cfg(test)]
-mod tests;

@@ -7,6 +7,3 @@ mod pieces;
 
 pub use numbers::status;
 pub use pieces::{Printed, command_lines, lines, total};
-
-#[cfg(test)]
-mod tests;

@@ -25,6 +25,3 @@ pub use mask::Mask;
 pub use one_thread::OneThread;
 pub use slots::Slots;
 pub use state::SlotState;
-
-#[cfg(test)]
-mod tests;

@@ -1,0 +1,179 @@
+use farm_types::limits::{MESSAGES_MAX, WORD_MAX, WORDS_BYTES_MAX, WORDS_MAX};
+use farm_types::{
+    Bytes, Ext, Host, HostName, Items, Outcome, PlacedWords, Ran, Request, Room, Trail, Word,
+    Words, exit_code,
+};
+use std::alloc::Global;
+use std::test::Fail;
+
+// Wait statuses, and their exit codes.
+const EXIT_CODES: &[(u32, u8)] = &[
+    (0, 0),
+    (256, 1),
+    (65_280, 255),
+    (9, 104),
+    (139, 104),
+    (128, 104),
+    (65_536, 104),
+];
+
+#[test]
+fn exit_codes(rt: HostRuntime) {
+    for (status, code) in EXIT_CODES {
+        assert_eq!(rt; exit_code(*status), *code, "status {status}");
+    }
+}
+
+fn repeated(alloc: Global, len: usize) -> Result<Bytes, Fail> {
+    let mut bytes = Bytes::new(alloc);
+    for _ in 0..len {
+        bytes.try_push(b'w')?;
+    }
+    Ok(bytes)
+}
+
+fn request(alloc: Global, count: usize, len: usize) -> Result<Request, Fail> {
+    let word = repeated(alloc, len)?;
+    let mut words = Words::new(alloc);
+    for _ in 0..count {
+        words.try_push(word.copy()?)?;
+    }
+    Ok(Request {
+        words,
+        source: Bytes::from_slice(alloc, b"int a;")?,
+    })
+}
+
+// How many words, of how many bytes each, and whether a request of them is within the limits.
+const REQUESTS: &[(usize, usize, bool)] = &[
+    (0, 1, false),
+    (1, 0, true),
+    (WORDS_MAX, 1, true),
+    (WORDS_MAX + 1, 1, false),
+    (1, WORD_MAX, true),
+    (1, WORD_MAX + 1, false),
+    (WORDS_BYTES_MAX / WORD_MAX, WORD_MAX, true),
+    (WORDS_BYTES_MAX / WORD_MAX + 1, WORD_MAX, false),
+];
+
+#[test]
+fn requests_within_the_limits(rt: HostRuntime) -> Result<(), Fail> {
+    for (count, len, fits) in REQUESTS {
+        let request = request(rt.alloc(), *count, *len)?;
+        assert_eq!(rt; request.fits(), *fits, "{count} words of {len} bytes");
+    }
+    Ok(())
+}
+
+fn outcome(alloc: Global, status: u32, err: usize, object: usize) -> Result<Outcome, Fail> {
+    Ok(Outcome {
+        status,
+        err: repeated(alloc, err)?,
+        out: Bytes::new(alloc),
+        object: repeated(alloc, object)?,
+    })
+}
+
+// A status, the bytes of the messages and of the object, and whether the outcome is within the limits.
+const OUTCOMES: &[(u32, usize, usize, bool)] = &[
+    (0, MESSAGES_MAX, 1, true),
+    (0, MESSAGES_MAX + 1, 1, false),
+    (256, 3, 0, true),
+    (256, 3, 1, false),
+];
+
+#[test]
+fn outcomes_within_the_limits(rt: HostRuntime) -> Result<(), Fail> {
+    for (status, err, object, fits) in OUTCOMES {
+        let outcome = outcome(rt.alloc(), *status, *err, *object)?;
+        assert_eq!(rt;
+            outcome.fits(),
+            *fits,
+            "status {status}, {err} and {object} bytes"
+        );
+    }
+    Ok(())
+}
+
+// Each list and value is copied once.
+#[test]
+fn copies_of_bytes(rt: HostRuntime) -> Result<(), Fail> {
+    let mut bytes = Bytes::from_slice(rt.alloc(), b"gc")?;
+    bytes.try_extend(b"cc")?;
+    bytes.truncate(3);
+    let copied = bytes.copy()?;
+    assert_eq!(rt; copied.as_slice(), b"gcc".as_slice());
+    for (at, byte) in [(1, Some(b'c')), (3, None)] {
+        assert_eq!(rt; bytes.get(at), byte, "byte {at}");
+    }
+    Ok(())
+}
+
+fn placed_words(alloc: Global) -> Result<PlacedWords, Fail> {
+    let mut words = PlacedWords::new(alloc);
+    words.try_push(Word::Text(Bytes::from_slice(alloc, b"gcc")?))?;
+    words.try_push(Word::Input(Ext::Ii))?;
+    words.try_push(Word::Output)?;
+    Ok(words)
+}
+
+fn copied_twice(words: &PlacedWords) -> Result<PlacedWords, Fail> {
+    let mut twice = words.copy()?;
+    twice.try_extend(words)?;
+    Ok(twice)
+}
+
+#[test]
+fn copies_of_words(rt: HostRuntime) -> Result<(), Fail> {
+    let twice = copied_twice(&placed_words(rt.alloc())?)?;
+    assert_eq!(rt; twice.len(), 6);
+    assert!(rt; matches!(twice.get(4), Some(Word::Input(Ext::Ii))));
+    Ok(())
+}
+
+#[test]
+fn a_copy_of_a_run(rt: HostRuntime) -> Result<(), Fail> {
+    let copied = Ran::nothing(rt.alloc()).copy()?;
+    assert_eq!(rt; copied.status, 0);
+    Ok(())
+}
+
+#[test]
+fn copies_of_hosts(rt: HostRuntime) -> Result<(), Fail> {
+    let host = Host {
+        name: HostName {
+            text: Bytes::from_slice(rt.alloc(), b"gcc")?,
+        },
+        port: 3632,
+        limit: 4,
+        local: false,
+    };
+    let hosts = Items::from_slice(rt.alloc(), &[host])?;
+    let copied = hosts.copy()?;
+    let ports: Items<u16> = Items::from_vec(
+        copied
+            .as_slice()
+            .iter()
+            .map(|h| h.port)
+            .collect(rt.alloc())?,
+    );
+    assert_eq!(rt; ports.as_slice(), [3632].as_slice());
+    Ok(())
+}
+
+fn trail_of(alloc: Global, entries: &[u8]) -> Result<Trail<u8>, Fail> {
+    let mut trail = Trail::new();
+    for entry in entries {
+        trail.add(Room::new(alloc)?, *entry);
+    }
+    Ok(trail)
+}
+
+#[test]
+fn a_trail_keeps_its_entries(rt: HostRuntime) -> Result<(), Fail> {
+    let mut trail = trail_of(rt.alloc(), &[1, 2, 3])?;
+    assert_eq!(rt; trail.take_last(), Some(3));
+    let items = trail.into_items(rt.alloc())?;
+    assert_eq!(rt; items.as_slice(), [1, 2].as_slice());
+    Ok(())
+}

@@ -1,0 +1,11 @@
+//! Tests of the wire: tokens, requests and replies, whole and in pieces.
+#![tactic(auto)]
+
+#[cfg(test)]
+mod replies;
+#[cfg(test)]
+mod requests;
+#[cfg(test)]
+mod streams;
+#[cfg(test)]
+mod tokens;

@@ -1,0 +1,54 @@
+use farm_types::Bytes;
+use std::test::Fail;
+use wire_tokens::{
+    ARGC, DIST, DONE, DOTI, DOTO, Name4, SERR, STAT, TokenFault, one_reading_of_replies,
+    one_reading_of_requests, push_body, push_token, read_token, write_token,
+};
+
+const READ: [(&[u8; 12], Name4, Result<u32, TokenFault>); 12] = [
+    (b"DOTI0000000B", DOTI, Ok(11)),
+    (b"DOTI0000000b", DOTI, Ok(11)),
+    (b"STAT00006e00", STAT, Ok(28_160)),
+    (b"DOTIffffFFFF", DOTI, Ok(4_294_967_295)),
+    (b"ARGC00000000", ARGC, Ok(0)),
+    (b"DOTI+000000b", DOTI, Err(TokenFault::BadDigit { at: 4 })),
+    (b"DOTI 000000b", DOTI, Err(TokenFault::BadDigit { at: 4 })),
+    (b"DOTI00x0000b", DOTI, Err(TokenFault::BadDigit { at: 6 })),
+    (b"DOTI0000000g", DOTI, Err(TokenFault::BadDigit { at: 11 })),
+    (b"DOTO0000000b", DOTI, Err(TokenFault::WrongName { at: 3 })),
+    (b"doti0000000b", DOTI, Err(TokenFault::WrongName { at: 0 })),
+    (b"DATI+000000b", DOTI, Err(TokenFault::WrongName { at: 1 })),
+];
+
+const WRITTEN: [(Name4, u32, &[u8; 12]); 4] = [
+    (DOTI, 11, b"DOTI0000000b"),
+    (STAT, 28_160, b"STAT00006e00"),
+    (DIST, 1, b"DIST00000001"),
+    (DOTO, 4_294_967_295, b"DOTOffffffff"),
+];
+
+#[test]
+fn reads_tokens(rt: HostRuntime) {
+    for (text, expected, answer) in READ {
+        assert_eq!(rt; read_token(text, expected), answer);
+    }
+}
+
+#[test]
+fn writes_tokens(rt: HostRuntime) -> Result<(), Fail> {
+    for (name, number, text) in WRITTEN {
+        let mut room = [0; 12];
+        write_token(name, number, &mut room);
+        assert_eq!(rt; room.as_slice(), text.as_slice());
+    }
+    let mut text = Bytes::new(rt.alloc());
+    push_token(&mut text, DONE, 1)?;
+    push_body(&mut text, SERR, &Bytes::from_slice(rt.alloc(), b"bad\n")?)?;
+    assert_eq!(rt;
+        text.as_slice(),
+        b"DONE00000001SERR00000004bad\n".as_slice()
+    );
+    one_reading_of_requests();
+    one_reading_of_replies();
+    Ok(())
+}

@@ -1,0 +1,256 @@
+//! Command lines with what they ask for, or the place of the first word that doesn't fit.
+
+use farm_words::{
+    Command, CommandName, Options, back_off_period, help_text, host_text, is_fallback_on, lookup,
+    parse_command, version_text,
+};
+use std::alloc::{AllocError, Global};
+use std::test::Fail;
+
+// The words of a line with single blanks.
+fn words_of(alloc: Global, line: &str) -> Result<Vec<String>, AllocError> {
+    let mut words = Vec::new(alloc);
+    for word in line.split(' ') {
+        if !word.is_empty() {
+            words.push(String::from_str(alloc, word)?)?;
+        }
+    }
+    Ok(words)
+}
+
+// A line, and the command that it is.
+type CommandRow = (&'static str, &'static str);
+
+const COMMANDS: &[CommandRow] = &[
+    (
+        "build",
+        "Build(Options { hosts: None, workers: None, tries: None, fallback: true, retry: true })",
+    ),
+    (
+        "build --hosts red/2 --workers 16 --tries 16 --no-fallback --no-retry",
+        "Build(Options { hosts: Some(\"red/2\"), workers: Some(16), tries: Some(16), fallback: false, retry: false })",
+    ),
+    (
+        "build --no-retry --tries 01 --workers 016 --hosts --hosts",
+        "Build(Options { hosts: Some(\"--hosts\"), workers: Some(16), tries: Some(1), fallback: true, retry: false })",
+    ),
+    (
+        "build --workers 001",
+        "Build(Options { hosts: None, workers: Some(1), tries: None, fallback: true, retry: true })",
+    ),
+    ("hosts", "Hosts { hosts: None }"),
+    ("hosts --hosts @red", "Hosts { hosts: Some(\"@red\") }"),
+    (
+        "scan scc -c x.c",
+        "Scan { words: [\"scc\", \"-c\", \"x.c\"] }",
+    ),
+    ("cc scc", "Cc { words: [\"scc\"] }"),
+    ("scan --help x", "Scan { words: [\"--help\", \"x\"] }"),
+    ("rehearse 1", "Rehearse { jobs: 1 }"),
+    ("rehearse 002", "Rehearse { jobs: 2 }"),
+    ("rehearse 512", "Rehearse { jobs: 512 }"),
+    ("--help", "Help(None)"),
+    ("--version", "Version"),
+    ("build --help", "Help(Some(Build))"),
+    ("cc --help", "Help(Some(Cc))"),
+    ("hosts --help", "Help(Some(Hosts))"),
+    ("scan --help", "Help(Some(Scan))"),
+    ("rehearse --help", "Help(Some(Rehearse))"),
+];
+
+#[test]
+fn commands(rt: HostRuntime) -> Result<(), Fail> {
+    for (line, want) in COMMANDS {
+        let words = words_of(rt.alloc(), line)?;
+        match parse_command(words.as_slice()) {
+            Ok(command) => {
+                let text = format!(in rt.alloc(); "{command:?}")?;
+                assert_eq!(rt; text.as_str(), *want, "{line}");
+            }
+            Err(place) => panic!(rt; "{line}: word {place}"),
+        }
+    }
+    Ok(())
+}
+
+// A line, and the place of the first word that doesn't fit.
+type BadRow = (&'static str, usize);
+
+const BAD_WORDS: &[BadRow] = &[
+    ("", 0),
+    ("make", 0),
+    ("Build", 0),
+    ("--help build", 1),
+    ("--version --help", 1),
+    ("build --workers 0", 2),
+    ("build --workers 17", 2),
+    ("build --workers +4", 2),
+    ("build --workers 4x", 2),
+    ("build --workers 0016", 2),
+    ("build --workers", 2),
+    ("build --tries 0", 2),
+    ("build --tries 17", 2),
+    ("build --tries 001", 2),
+    ("build --tries", 2),
+    ("build --workers 1 --tries 17", 4),
+    ("build --tries 1 --tries 2", 3),
+    ("build --hosts", 2),
+    ("build --no-retry --hosts", 3),
+    ("build --hosts a --hosts b", 3),
+    ("build --workers 1 --workers 2", 3),
+    ("build --no-fallback --no-fallback", 2),
+    ("build --no-retry --no-retry", 2),
+    ("build x", 1),
+    ("build --hosts=a", 1),
+    ("build --no-retry x", 2),
+    ("build --help x", 2),
+    ("hosts --workers 3", 1),
+    ("hosts --tries 3", 1),
+    ("hosts --no-fallback", 1),
+    ("hosts --hosts a x", 3),
+    ("cc", 1),
+    ("scan", 1),
+    ("rehearse", 1),
+    ("rehearse 0", 1),
+    ("rehearse 000", 1),
+    ("rehearse 0001", 1),
+    ("rehearse 513", 1),
+    ("rehearse 1 2", 2),
+    ("rehearse --help 1", 2),
+];
+
+#[test]
+fn bad_words(rt: HostRuntime) -> Result<(), Fail> {
+    for (line, place) in BAD_WORDS {
+        let words = words_of(rt.alloc(), line)?;
+        assert_eq!(rt;
+            parse_command(words.as_slice()).err(),
+            Some(*place),
+            "{line}"
+        );
+    }
+    Ok(())
+}
+
+// A line of `build`, and its number of workers and of tries.
+type CountRow = (&'static str, u8, u8);
+
+const COUNTS: &[CountRow] = &[
+    ("build", 4, 1),
+    ("build --workers 16", 16, 1),
+    ("build --tries 16 --workers 1", 1, 16),
+];
+
+#[test]
+fn counts(rt: HostRuntime) -> Result<(), Fail> {
+    for (line, workers, tries) in COUNTS {
+        let words = words_of(rt.alloc(), line)?;
+        match parse_command(words.as_slice()) {
+            Ok(Command::Build(options)) => {
+                assert_eq!(rt; options.worker_count(), *workers, "{line}");
+                assert_eq!(rt; options.try_count(), *tries, "{line}");
+            }
+            _ => panic!(rt; "{line}"),
+        }
+    }
+    Ok(())
+}
+
+// The variables of a text `NAME=VALUE NAME=VALUE`.
+fn variables_of(alloc: Global, text: &str) -> Result<Vec<(String, String)>, AllocError> {
+    let mut env = Vec::new(alloc);
+    for part in text.split(' ') {
+        if let Some((name, value)) = part.split_once('=') {
+            env.push((
+                String::from_str(alloc, name)?,
+                String::from_str(alloc, value)?,
+            ))?;
+        }
+    }
+    Ok(env)
+}
+
+const TWICE: &str = "A=1 DISTCC_HOSTS=red DISTCC_HOSTS=blue DISTCC_FALLBACK=0 DISTCC_FALLBACK=1";
+
+// The variables; the option `--hosts`; the text of the host list; whether fallback is on without `--no-fallback`.
+type EnvironmentRow = (&'static str, Option<&'static str>, &'static str, bool);
+
+const ENVIRONMENTS: &[EnvironmentRow] = &[
+    ("", None, "", true),
+    (TWICE, None, "red", false),
+    (TWICE, Some("green"), "green", false),
+    (TWICE, Some(""), "", false),
+    ("DISTCC_HOST=red DISTCC_FALLBACK=00", None, "", true),
+    ("DISTCC_HOSTS= DISTCC_FALLBACK=", None, "", true),
+];
+
+#[test]
+fn environment(rt: HostRuntime) -> Result<(), Fail> {
+    for (text, hosts, want, fallback) in ENVIRONMENTS {
+        let env = variables_of(rt.alloc(), text)?;
+        assert_eq!(rt; host_text(*hosts, env.as_slice()), *want, "{text}");
+        let mut options = Options {
+            hosts: *hosts,
+            workers: None,
+            tries: None,
+            fallback: true,
+            retry: true,
+        };
+        assert_eq!(rt;
+            is_fallback_on(&options, env.as_slice()),
+            *fallback,
+            "{text}"
+        );
+        options.fallback = false;
+        assert_eq!(rt; is_fallback_on(&options, env.as_slice()), false, "{text}");
+    }
+    let env = variables_of(rt.alloc(), TWICE)?;
+    assert_eq!(rt; lookup(env.as_slice(), "A"), Some("1"));
+    assert_eq!(rt; lookup(env.as_slice(), "a"), None);
+    Ok(())
+}
+
+// The variables, and the back-off period.
+type PeriodRow = (&'static str, Option<u32>);
+
+const PERIODS: &[PeriodRow] = &[
+    ("DISTCC_BACKOFF_PERIODS=x", Some(60)),
+    ("DISTCC_BACKOFF_PERIOD=0", Some(0)),
+    ("DISTCC_BACKOFF_PERIOD=0000007", Some(7)),
+    ("DISTCC_BACKOFF_PERIOD=1000000", Some(1_000_000)),
+    ("DISTCC_BACKOFF_PERIOD=5 DISTCC_BACKOFF_PERIOD=x", Some(5)),
+    ("DISTCC_BACKOFF_PERIOD=", None),
+    ("DISTCC_BACKOFF_PERIOD=1000001", None),
+    ("DISTCC_BACKOFF_PERIOD=00000007", None),
+    ("DISTCC_BACKOFF_PERIOD=+7", None),
+    ("DISTCC_BACKOFF_PERIOD=7s", None),
+    ("DISTCC_BACKOFF_PERIOD=x DISTCC_BACKOFF_PERIOD=5", None),
+];
+
+#[test]
+fn periods(rt: HostRuntime) -> Result<(), Fail> {
+    for (text, period) in PERIODS {
+        let env = variables_of(rt.alloc(), text)?;
+        assert_eq!(rt; back_off_period(env.as_slice()), *period, "{text}");
+    }
+    Ok(())
+}
+
+#[test]
+fn texts(rt: HostRuntime) -> Result<(), Fail> {
+    let rows: [(Option<CommandName>, &[u8]); 6] = [
+        (None, b"Usage: farm build --hosts"),
+        (Some(CommandName::Build), b"Usage: farm build"),
+        (Some(CommandName::Cc), b"Usage: farm cc"),
+        (Some(CommandName::Hosts), b"Usage: farm hosts"),
+        (Some(CommandName::Scan), b"Usage: farm scan"),
+        (Some(CommandName::Rehearse), b"Usage: farm rehearse"),
+    ];
+    for (name, usage) in rows {
+        let text = help_text(name);
+        assert_eq!(rt; text.starts_with(usage), true, "{usage:?}");
+        assert_eq!(rt; text.ends_with(b"\n"), true, "{usage:?}");
+    }
+    assert_eq!(rt; version_text(), b"farm 0.1, distcc protocol 1\n".as_slice());
+    Ok(())
+}

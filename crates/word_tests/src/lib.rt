@@ -1,0 +1,17 @@
+//! Tests of what is read of words and lists: options, the class of a command, job lists, host lists, the command line of `farm`, and access rules.
+#![tactic(auto)]
+
+#[cfg(test)]
+mod access;
+#[cfg(test)]
+mod classes;
+#[cfg(test)]
+mod command_lines;
+#[cfg(test)]
+mod host_lists;
+#[cfg(test)]
+mod job_lists;
+#[cfg(test)]
+mod options;
+#[cfg(test)]
+mod stripping;
