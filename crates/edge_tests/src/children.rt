@@ -68,9 +68,8 @@ fn expect_absent<R: Abort, F: Files>(
     Ok(())
 }
 
-fn expect_none_left(rt: HostRuntime, names: &[&[u8]]) -> Result<(), Fail> {
-    let mut files = DiskFiles::new(rt, String::from_str(rt.alloc(), ".")?, 1);
-    expect_absent(&rt, rt.alloc(), &mut files, names)
+fn files(rt: HostRuntime) -> Result<DiskFiles<HostRuntime>, AllocError> {
+    Ok(DiskFiles::new(rt, String::from_str(rt.alloc(), ".")?, 1))
 }
 
 #[test]
@@ -87,7 +86,7 @@ fn a_child_gives_its_status_outputs_and_object(rt: HostRuntime) -> Result<(), Fa
     assert_eq!(rt; ran.out.as_slice(), out);
     assert_eq!(rt; ran.err.as_slice(), b"no\n".as_slice());
     assert_eq!(rt; ran.object.as_slice(), b"int a;\n".as_slice());
-    expect_none_left(rt, OWN_FILES_OF_7)
+    expect_absent(&rt, rt.alloc(), &mut files(rt)?, OWN_FILES_OF_7)
 }
 
 const OWN_FILES_OF_7: &[&[u8]] = &[b"farm-7-1.ii", b"farm-7-2.o", b"farm-7-3.err"];
@@ -114,7 +113,7 @@ fn a_stream_that_is_too_long_is_named(rt: HostRuntime) -> Result<(), Fail> {
         };
         assert!(rt; ended.err() == Some(over));
     }
-    expect_none_left(rt, OWN_FILES_OF_8)
+    expect_absent(&rt, rt.alloc(), &mut files(rt)?, OWN_FILES_OF_8)
 }
 
 /// Of several streams above their bounds, standard output is named first, then standard error, then the object.
@@ -148,7 +147,7 @@ fn a_child_that_is_killed_has_ended(rt: HostRuntime) -> Result<(), Fail> {
     let ran = run_script(rt.alloc(), &mut station, b"kill -KILL $$", b"")?;
     assert_eq!(rt; ran.status, 9);
     assert!(rt; ran.object.is_empty());
-    expect_none_left(rt, OWN_FILES_OF_10)
+    expect_absent(&rt, rt.alloc(), &mut files(rt)?, OWN_FILES_OF_10)
 }
 
 const OWN_FILES_OF_10: &[&[u8]] = &[b"farm-10-1.ii", b"farm-10-2.o", b"farm-10-3.err"];
@@ -160,7 +159,7 @@ fn a_program_that_cannot_be_started_is_a_fault(rt: HostRuntime) -> Result<(), Fa
         let ended = run_name(rt.alloc(), &mut station, name);
         assert!(rt; ended.err() == Some(StationFault::Failed));
     }
-    expect_none_left(rt, OWN_FILES_OF_11)
+    expect_absent(&rt, rt.alloc(), &mut files(rt)?, OWN_FILES_OF_11)
 }
 
 /// Each had only the file of its messages.

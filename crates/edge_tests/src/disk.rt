@@ -3,11 +3,12 @@
 use edge_real::{DiskFiles, system_kits};
 use edge_traits::{EdgeFault, FetchFault, Keeper, is_staged};
 use farm_types::Bytes;
-use object_delivery::Files;
+use object_delivery::Files as FileCalls;
 use std::alloc::{AllocError, Global};
 use std::fs;
 use std::os::unix::fs::{FileTypeExt, PermissionsExt};
 use std::process::Abort;
+use std::rt::Files;
 use std::test::Fail;
 
 fn files(rt: HostRuntime, process: u32) -> Result<DiskFiles<HostRuntime>, AllocError> {
@@ -101,7 +102,7 @@ enum Step {
     Remove(&'static [u8]),
 }
 
-fn play<F: Files>(alloc: Global, files: &mut F, step: Step) -> Result<usize, EdgeFault> {
+fn play<F: FileCalls>(alloc: Global, files: &mut F, step: Step) -> Result<usize, EdgeFault> {
     match step {
         Step::Create(name) => files.create(alloc, &Bytes::from_slice(alloc, name)?)?,
         Step::Append(name, piece, _) => {
@@ -125,7 +126,12 @@ fn wanted(step: Step) -> usize {
 }
 
 /// Each step goes well where `true` stands beside it, and else fails.
-fn expect_steps<R: Abort, F: Files>(rt: &R, alloc: Global, files: &mut F, steps: &[(Step, bool)]) {
+fn expect_steps<R: Abort, F: FileCalls>(
+    rt: &R,
+    alloc: Global,
+    files: &mut F,
+    steps: &[(Step, bool)],
+) {
     for (step, good) in steps {
         let want = if *good {
             Ok(wanted(*step))
@@ -136,20 +142,20 @@ fn expect_steps<R: Abort, F: Files>(rt: &R, alloc: Global, files: &mut F, steps:
     }
 }
 
-fn expect_text(rt: HostRuntime, name: &str, text: &str) -> Result<(), Fail> {
-    let held = fs::read_to_string(&rt, name)?;
+fn expect_text<R: Abort + Files + AllocGlobal>(rt: &R, name: &str, text: &str) -> Result<(), Fail> {
+    let held = fs::read_to_string(rt, name)?;
     assert_eq!(rt; held.as_str(), text);
     Ok(())
 }
 
-fn expect_same_mode(rt: HostRuntime, name: &str, other: &str) -> Result<(), Fail> {
-    let mode = fs::metadata(&rt, name)?.permissions().mode();
-    assert_eq!(rt; mode, fs::metadata(&rt, other)?.permissions().mode());
+fn expect_same_mode<R: Abort + Files>(rt: &R, name: &str, other: &str) -> Result<(), Fail> {
+    let mode = fs::metadata(rt, name)?.permissions().mode();
+    assert_eq!(rt; mode, fs::metadata(rt, other)?.permissions().mode());
     Ok(())
 }
 
 /// The file is loaded by its name, within its length.
-fn expect_loaded<R: Abort, F: Files>(rt: &R, alloc: Global, files: &mut F) -> Result<(), Fail> {
+fn expect_loaded<R: Abort, F: FileCalls>(rt: &R, alloc: Global, files: &mut F) -> Result<(), Fail> {
     let loaded = files.load(alloc, &Bytes::from_slice(alloc, b"./x.o")?, 3)?;
     assert_eq!(rt; loaded.as_slice(), b"abc".as_slice());
     Ok(())
@@ -178,12 +184,12 @@ fn a_file_is_written_under_a_new_name(rt: HostRuntime) -> Result<(), Fail> {
     fs::write(&rt, "x.o.farm~", "stale")?;
     let mut files = files(rt, 5)?;
     expect_steps(&rt, rt.alloc(), &mut files, WRITTEN);
-    expect_text(rt, "./farm-5-2.farm~", "abc")?;
-    expect_same_mode(rt, "./farm-5-2.farm~", "x.o.farm~")?;
+    expect_text(&rt, "./farm-5-2.farm~", "abc")?;
+    expect_same_mode(&rt, "./farm-5-2.farm~", "x.o.farm~")?;
     expect_steps(&rt, rt.alloc(), &mut files, NAMED);
     expect_loaded(&rt, rt.alloc(), &mut files)?;
-    expect_text(rt, "farm-5-1.farm~", "planted")?;
-    expect_text(rt, "x.o.farm~", "stale")?;
+    expect_text(&rt, "farm-5-1.farm~", "planted")?;
+    expect_text(&rt, "x.o.farm~", "stale")?;
     assert!(rt; !fs::exists(&rt, "farm-5-2.farm~")?);
     assert!(rt; !fs::exists(&rt, "farm-5-3.farm~")?);
     Ok(())
@@ -207,7 +213,7 @@ fn only_a_regular_file_is_replaced(rt: HostRuntime) -> Result<(), Fail> {
     expect_puts(&rt, rt.alloc(), &mut kits[0].keeper, KEPT);
     assert!(rt; fs::metadata(&rt, "/dev/null")?.file_type().is_char_device());
     assert!(rt; fs::metadata(&rt, "folder")?.is_dir());
-    expect_text(rt, "x.o", "new")
+    expect_text(&rt, "x.o", "new")
 }
 
 const WITHOUT_TEXT: &[(Step, bool)] = &[
