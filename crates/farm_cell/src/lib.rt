@@ -12,3 +12,6 @@ mod words;
 
 pub use cell::{Cell, Pass, Passes};
 pub use held::Held;
+
+#[cfg(test)]
+mod tests;

@@ -5,7 +5,7 @@ ghost use Rattle.slot_table.specs.History.{holding, outstanding};
 ghost use Rattle.farm_cell.specs.Passes.{IsPassOf, callers_of, seen_of, mine_of};
 ghost use Rattle.farm_cell.specs.Ends.{IsNumbered, AreAllOf};
 
-use farm_cell::{Cell, Held, Pass, Passes};
+use crate::{Cell, Held, Pass, Passes};
 use slot_table::{
     CallEntry, Grant, Grants, Limits, Mask, SlotCall, SlotReply, SlotState, Slots, Take,
 };

@@ -5,7 +5,7 @@ use Rattle.slot_table.specs.Grants.{host_of, reply_of}
 use Rattle.slot_table.specs.History.{Holding, entry, holding, outstanding, outstanding_then}
 use Rattle.slot_table.proofs.Rounds.{outstanding-more}
 use Rattle.farm_cell.specs.Passes.{number_of, mine_of}
-use Rattle.slot_tests.proofs.cells.try_take.Goals as goal
+use Rattle.farm_cell.proofs.tests.try_take.Goals as goal
 
 pub returns-in-Got-clause-one : goal.returns-in-Got-clause-one
 returns-in-Got-clause-one g c =
