@@ -97,6 +97,7 @@ impl<R: rt::Files<File = File>> Files for DiskFiles<R> {
         ensures name { OnOk result (IsUtf8 to.now) }
         ensures names { files_names self.new ≡ files_names self.old }
         ensures overruns { (files_view self.new).overruns ≡ (files_view self.old).overruns }
+        ensures memory { result ≢ Err EdgeFault.Memory }
         ensures faults { (files_view self.new).faults ≡ call_faults result (files_view self.old).faults }
     {
         match rename_file(&self.rt, &mut self.staged, from, to) {
