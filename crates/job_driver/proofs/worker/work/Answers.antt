@@ -2,7 +2,6 @@ use Rattle.std.proofs.Common.{◌≡◌, ℕ, ◌<◌, length, refl, sym, ap, �
 use Rattle.std.specs.Prelude.{All}
 use Rattle.std.proofs.lemmas.Grind.{common_steps}
 use Rattle.job_run.proofs.Leaves.{same_peers, same_programs}
-use Rattle.job_driver.specs.Jobs.{job_at}
 use Rattle.job_driver.proofs.Working.{numbers_of, AreFew}
 use Rattle.job_driver.proofs.Drawing.{few-more, within-more, few-none, within-none}
 use Rattle.job_driver.proofs.Stepping.{works-none, works-more, counted-none, counted-more, drawn-back, report-later, relation-then, relation3-then, job-found, drawn-as, spare-enough, spare-more}
