@@ -23,9 +23,9 @@ listed_by {choice = choice} {old = old} {new = new} {answer = answer} same h = s
 -- a text of the program itself was asked for
 pub heard : {words : List (List ℕ)} {view : SourceView} {text : List ℕ} {old new : SinksView} {answer : ℕ} (ask : Ask) → asked words ≡ Some ask → text ≡ text_of ask → ToldOrWanted text old new answer → Does words view view old new answer
 heard ask is same (inl printed) = told ask is refl (told_by same printed)
-heard ask is same (inr wanted) = unheard wanted
+heard ask is same (inr wanted) = unheard refl wanted
 
 -- words were refused
 pub misheard : {words : List (List ℕ)} {view : SourceView} {old new : SinksView} {answer : ℕ} (place : ℕ) → asked words ≡ None → said words ≡ Err place → WordsRefused place old new answer → Does words view view old new answer
 misheard place none is (inl printed) = bad_words place none is refl printed
-misheard place none is (inr wanted) = unheard wanted
+misheard place none is (inr wanted) = unheard refl wanted

@@ -6,6 +6,7 @@ use Rattle.farm_types.specs.declared.hosts.Host.{Host}
 use Rattle.farm_types.specs.declared.hosts.Hosts.{Hosts}
 use Rattle.farm_types.specs.declared.jobs.JobConfig.{JobConfig}
 use Rattle.host_list.specs.HostLists.{IsHost, AreHosts}
+use Rattle.edge_traits.specs.Causes.{Still}
 use Rattle.edge_traits.specs.Sources.{SourceView}
 use Rattle.farm_machine.specs.declared.reports.Report.{Report}
 use Rattle.input_read.specs.Reads.{AllRead, ReadTo, BrokeOff, HasReadSome}
@@ -25,7 +26,7 @@ use Rattle.stream_print.specs.Prints.{SinksView}
 use Rattle.stream_print.specs.Ends.{complaint, Ends, WantOf}
 use Rattle.farm_answers.specs.Texts.{bad_jobs_status, cannot_read_status, cannot_read_text, job_fault_text, no_memory_text}
 use Rattle.farm_program.specs.Worlds.{World}
-use Rattle.farm_program.specs.Builds.{JobsDone, input_limit, Builds, built, faulty, unread, wanted, whole_text, long_text, RunsText, text_ran, text_faulty, text_wanted}
+use Rattle.farm_program.specs.Builds.{JobsDone, input_limit, Builds, built, faulty, unread, wanted, whole_text, long_text, while_reading, after_reading, RunsText, text_ran, text_faulty, text_wanted}
 
 -- the hosts of a list are usable
 pub usable_hosts : (hosts : Hosts) → AreHosts hosts → AreUsable hosts
@@ -54,30 +55,31 @@ one_doable words some = record {
     one zero d below = some
     one (suc k) d below = absurd (omega (arith, below))
 
-module _ {K : Type 0} (d : Devices K) (config : JobConfig) (most : ℕ) (a b : SourceView) (old_kits new_kits : List K) (made : List Built) (old new : SinksView) (answer : ℕ) where
-  abbrev Whole : Type 0
-  Whole = Builds d config most (record { source = a; kits = old_kits; sinks = old; built = [] }) (record { source = b; kits = new_kits; sinks = new; built = made }) answer
+-- the whole text was read, and then the rest was done
+pub read_whole : {K : Type 0} {d : Devices K} {config : JobConfig} {most : ℕ} {a b : SourceView} {old_kits new_kits : List K} {made : List Built} {old new : SinksView} {answer : ℕ} (text : List ℕ)
+    → AllRead a b text → RunsText d config most text old_kits new_kits made old new answer
+    → Builds d config most (record { source = a; kits = old_kits; sinks = old; built = [] }) (record { source = b; kits = new_kits; sinks = new; built = made }) answer
+read_whole text read (text_ran {jobs = jobs} asks done prints) = built (record { text = text; jobs = jobs; read = read; asks = asks; done = done; prints = prints })
+read_whole text read (text_faulty {line = line} {fault = fault} stands undone none ends) = faulty {line = line} {fault = fault} (whole_text read stands) (record { idle = record { undone = undone; none_built = none }; ends = ends })
+read_whole text read (text_wanted undone none want) = wanted (record { time = after_reading read; idle = record { undone = undone; none_built = none }; want = want })
 
-  -- the whole text was read, and then the rest was done
-  pub read_whole : (text : List ℕ) → AllRead a b text → RunsText d config most text old_kits new_kits made old new answer → Whole
-  read_whole text read (text_ran {jobs = jobs} asks done prints) = built (record { text = text; jobs = jobs; read = read; asks = asks; done = done; prints = prints })
-  read_whole text read (text_faulty {line = line} {fault = fault} stands undone none ends) = faulty {line = line} {fault = fault} (whole_text read stands) (record { idle = record { undone = undone; none_built = none }; ends = ends })
-  read_whole text read (text_wanted undone none want) = wanted (record { read = record { text = text; took = read.took }; idle = record { undone = undone; none_built = none }; want = want })
+-- memory was wanting while it was read
+pub read_wanted : {K : Type 0} {d : Devices K} {config : JobConfig} {most : ℕ} {a b : SourceView} {kits : List K} {made : List Built} {old new : SinksView} {answer : ℕ}
+    → made ≡ [] → HasReadSome a b → Still a.faults b.faults → WantOf no_memory_text [] old new answer
+    → Builds d config most (record { source = a; kits = kits; sinks = old; built = [] }) (record { source = b; kits = kits; sinks = new; built = made }) answer
+read_wanted none read still want = wanted (record { time = while_reading read still; idle = record { undone = refl; none_built = none }; want = want })
 
-module _ {K : Type 0} (d : Devices K) (config : JobConfig) (most : ℕ) (a b : SourceView) (kits : List K) (made : List Built) (none : made ≡ []) (old new : SinksView) (answer : ℕ) where
-  abbrev Same : Type 0
-  Same = Builds d config most (record { source = a; kits = kits; sinks = old; built = [] }) (record { source = b; kits = kits; sinks = new; built = made }) answer
-
-  pub read_too_long : ReadTo input_limit a b → Ends no_memory_text (complaint (job_fault_text 0 (TooLong input_limit)) ∷ []) bad_jobs_status old new answer → Same
+-- what was read is no text of jobs, so none was run
+module _ {K : Type 0} {d : Devices K} {config : JobConfig} {most : ℕ} {a b : SourceView} {kits : List K} {made : List Built} {old new : SinksView} {answer : ℕ} (none : made ≡ []) where
+  pub read_too_long : ReadTo input_limit a b → Ends no_memory_text (complaint (job_fault_text 0 (TooLong input_limit)) ∷ []) bad_jobs_status old new answer
+      → Builds d config most (record { source = a; kits = kits; sinks = old; built = [] }) (record { source = b; kits = kits; sinks = new; built = made }) answer
   read_too_long read ends =
       let stands : JobFaultStands read.text 0 (TooLong input_limit) = inl (let long = read.long in omega (arith, long), refl, ap TooLong (sym read.long)) in
       faulty (long_text read stands) (record { idle = record { undone = refl; none_built = none }; ends = ends })
 
-  pub read_broke_off : BrokeOff input_limit a b → Ends no_memory_text (complaint cannot_read_text ∷ []) cannot_read_status old new answer → Same
+  pub read_broke_off : BrokeOff input_limit a b → Ends no_memory_text (complaint cannot_read_text ∷ []) cannot_read_status old new answer
+      → Builds d config most (record { source = a; kits = kits; sinks = old; built = [] }) (record { source = b; kits = kits; sinks = new; built = made }) answer
   read_broke_off read ends = unread read (record { idle = record { undone = refl; none_built = none }; ends = ends })
-
-  pub read_wanted : HasReadSome a b → WantOf no_memory_text [] old new answer → Same
-  read_wanted read want = wanted (record { read = read; idle = record { undone = refl; none_built = none }; want = want })
 
 -- the status by another name
 pub status_as : {notice : List ℕ} {texts : List Piece} {status answer other : ℕ} {old new : SinksView} → other ≡ answer → Ends notice texts status old new answer → Ends notice texts status old new other

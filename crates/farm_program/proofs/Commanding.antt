@@ -4,17 +4,13 @@ use Rattle.farm_types.specs.declared.hosts.Hosts.{Hosts}
 use Rattle.edge_traits.specs.Sources.{SourceView}
 use Rattle.stream_print.specs.Prints.{SinksView}
 use Rattle.stream_print.specs.declared.pieces.Piece.{Piece}
-use Rattle.stream_print.specs.Ends.{complaint, Ends}
+use Rattle.stream_print.specs.Ends.{Ends}
 use Rattle.job_driver.specs.declared.driver.Built.{Built}
 use Rattle.job_driver.specs.Driven.{Devices}
-use Rattle.farm_words.specs.declared.command.Command.{Command}
-use Rattle.farm_words.specs.Commands.{Meaning, meaning, BadAt, IsCommand}
-use Rattle.farm_words.proofs.Reading.{one_meaning, one_place}
-use Rattle.farm_answers.specs.Texts.{bad_words_status, bad_words_text, no_memory_text}
+use Rattle.farm_answers.specs.Texts.{no_memory_text}
 use Rattle.farm_answers.specs.ByHosts.{ByHosts}
-use Rattle.farm_program.specs.Worlds.{World, Untouched, Answered}
+use Rattle.farm_program.specs.Worlds.{World, Untouched}
 use Rattle.farm_program.specs.Builds.{Builds, RunsCommand, config_of}
-use Rattle.farm_program.specs.Commands.{Answers}
 
 -- what printed alone left the input and the kits as they were
 pub printed_alone : {K : Type 0} {a : SourceView} {kits : List K} {old new : SinksView} {made : List Built} → made ≡ [] → Untouched (record { source = a; kits = kits; sinks = old; built = [] }) (record { source = a; kits = kits; sinks = new; built = made })
@@ -26,27 +22,14 @@ by_hosts_as {text' = text'} {printed = printed} {status = status} {old = old} {n
     subst (λ (a : ℕ). ByHosts text' (λ hosts. Ends no_memory_text (printed hosts) status old new a) old new a) (sym same)
     (subst (λ (t : List ℕ). ByHosts t (λ hosts. Ends no_memory_text (printed hosts) status old new answer) old new answer) same_text by)
 
--- the same command by another name
-pub answers_at : {K : Type 0} (d : Devices K) (variables : List (List ℕ × List ℕ)) (old new : World K) (answer : ℕ) (command command' : Command) → command' ≡ command → Answers d variables old new answer (meaning command) → Answers d variables old new answer (meaning command')
-answers_at d variables old new answer command command' same answers = subst (λ c. Answers d variables old new answer (meaning c)) (sym same) answers
-
--- the answer to a command is that to each command that the words are
-pub answers_by : {K : Type 0} (d : Devices K) (variables : List (List ℕ × List ℕ)) (words : List (List ℕ)) (old new : World K) (answer : ℕ) (meant other : Meaning)
-    → IsCommand words meant → IsCommand words other → Answers d variables old new answer meant → Answers d variables old new answer other
-answers_by d variables words old new answer meant other is is' answers = subst (λ m. Answers d variables old new answer m) (one_meaning words meant other is is') answers
-
--- words are bad at one place
-pub refused_at : {K : Type 0} (words : List (List ℕ)) (old new : World K) (answer place there : ℕ) → BadAt words place → BadAt words there → Answered (complaint (bad_words_text place)) bad_words_status old new answer → Answered (complaint (bad_words_text there)) bad_words_status old new answer
-refused_at words old new answer place there bad other refused = subst (λ p. Answered (complaint (bad_words_text p)) bad_words_status old new answer) (one_place words place there bad other) refused
-
 -- the same build and the same command, as they are configured
-pub builds_as : {K : Type 0} (d : Devices K) (hosts : Hosts) (retry : Bool) (period : ℕ) (old new : World K) (answer : ℕ) {fallback fallback' : Bool} {tries tries' most most' : ℕ} → fallback ≡ fallback' → tries ≡ tries' → most ≡ most'
+pub builds_as : {K : Type 0} {d : Devices K} {hosts : Hosts} {fallback fallback' retry : Bool} {period tries tries' most most' : ℕ} {old new : World K} {answer : ℕ} → fallback ≡ fallback' → tries ≡ tries' → most ≡ most'
     → Builds d (config_of hosts fallback retry period tries) most old new answer → Builds d (config_of hosts fallback' retry period tries') most' old new answer
-builds_as d hosts retry period old new answer {fallback = fallback} {fallback' = fallback'} {tries = tries} {tries' = tries'} {most = most} same_fallback same_tries same_most builds =
+builds_as {d = d} {hosts = hosts} {fallback = fallback} {fallback' = fallback'} {retry = retry} {period = period} {tries = tries} {tries' = tries'} {most = most} {most' = most'} {old = old} {new = new} {answer = answer} same_fallback same_tries same_most builds =
     subst (λ (m : ℕ). Builds d (config_of hosts fallback' retry period tries') m old new answer) same_most
     (subst (λ (t : ℕ). Builds d (config_of hosts fallback' retry period t) most old new answer) same_tries
     (subst (λ (f : Bool). Builds d (config_of hosts f retry period tries) most old new answer) same_fallback builds))
 
-pub runs_as : {K : Type 0} (d : Devices K) (hosts : Hosts) (retry : Bool) (period tries : ℕ) (words : List (List ℕ)) (old new : World K) (answer : ℕ) {fallback fallback' : Bool} → fallback ≡ fallback'
+pub runs_as : {K : Type 0} {d : Devices K} {hosts : Hosts} {fallback fallback' retry : Bool} {period tries : ℕ} {words : List (List ℕ)} {old new : World K} {answer : ℕ} → fallback ≡ fallback'
     → RunsCommand d (config_of hosts fallback retry period tries) words old new answer → RunsCommand d (config_of hosts fallback' retry period tries) words old new answer
-runs_as d hosts retry period tries words old new answer same runs = subst (λ (f : Bool). RunsCommand d (config_of hosts f retry period tries) words old new answer) same runs
+runs_as {d = d} {hosts = hosts} {retry = retry} {period = period} {tries = tries} {words = words} {old = old} {new = new} {answer = answer} same runs = subst (λ (f : Bool). RunsCommand d (config_of hosts f retry period tries) words old new answer) same runs

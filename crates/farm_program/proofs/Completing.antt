@@ -74,10 +74,10 @@ module _ {K : Type 0} (d : Devices K) (config : JobConfig) (most : ℕ) (old new
   completes (wanted want) = inr (want_answer old.sinks new.sinks answer smooth.err want.want.end)
 
 -- the words are a build by this configuration, and the input is this list of jobs
-pub completes_on : {K : Type 0} (d : Devices K) (variables : List (List ℕ × List ℕ)) (words : List (List ℕ)) (config : JobConfig) (most : ℕ) (old new : World K) (answer : ℕ) (build : IsBuildBy words variables config most)
-    → IsTrue new.source.left.known → IsSmooth old new → (jobs : List (List (List ℕ))) → JobsOf old.source.left.value jobs
+pub completes_on : {K : Type 0} {d : Devices K} {variables : List (List ℕ × List ℕ)} {words : List (List ℕ)} {config : JobConfig} {most : ℕ} {jobs : List (List (List ℕ))} {old new : World K} {answer : ℕ} (build : IsBuildBy words variables config most)
+    → IsTrue new.source.left.known → IsSmooth old new → JobsOf old.source.left.value jobs
     → Answers d variables old new answer (Build build.options) → Completed d config most jobs old new answer ⊎ (answer ≡ memory_status)
-completes_on d variables words config most old new answer build known smooth jobs asks (on_hosts {hosts = hosts} {period = period} lasts listed builds) =
+completes_on {d = d} {variables = variables} {config = config} {most = most} {jobs = jobs} {old = old} {new = new} {answer = answer} build known smooth asks (on_hosts {hosts = hosts} {period = period} lasts listed builds) =
     let lists : hosts ≡ build.hosts = one_hosts _ hosts build.hosts listed build.listed in
     let periods : period ≡ build.period = one_period variables period build.period lasts build.lasts in
     let same : build_config build.options variables hosts period ≡ config =
@@ -85,6 +85,6 @@ completes_on d variables words config most old new answer build known smooth job
     completes d config most old new answer known smooth jobs asks
     (subst (λ (n : ℕ). Builds d config n old new answer) (sym build.workers)
     (subst (λ (c : JobConfig). Builds d c (worker_count build.options) old new answer) same builds))
-completes_on d variables words config most old new answer build known smooth jobs asks (bad_period bad refused) = absurd (no_bad_period variables build.period build.lasts bad)
-completes_on d variables words config most old new answer build known smooth jobs asks (bad_hosts period lasts stands refused) = absurd (no_both _ build.hosts _ _ build.listed stands)
-completes_on d variables words config most old new answer build known smooth jobs asks (no_hosts untouched want) = inr (want_answer old.sinks new.sinks answer smooth.err want.end)
+completes_on {variables = variables} build known smooth asks (bad_period bad refused) = absurd (no_bad_period variables build.period build.lasts bad)
+completes_on build known smooth asks (bad_hosts period lasts stands refused) = absurd (no_both _ build.hosts _ _ build.listed stands)
+completes_on {old = old} {new = new} {answer = answer} build known smooth asks (no_hosts untouched want) = inr (want_answer old.sinks new.sinks answer smooth.err want.end)

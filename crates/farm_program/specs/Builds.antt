@@ -2,6 +2,7 @@
 use Rattle.std.specs.Prelude.{◌≡◌, ℕ, min, Bool, List, [], ◌∷◌, length}
 use Rattle.farm_types.specs.declared.hosts.Hosts.{Hosts}
 use Rattle.farm_types.specs.declared.jobs.JobConfig.{JobConfig}
+use Rattle.edge_traits.specs.Causes.{Still}
 use Rattle.edge_traits.specs.Sources.{SourceView}
 use Rattle.farm_cell.specs.Passes.{seen_of}
 use Rattle.farm_machine.specs.declared.reports.Report.{Report}
@@ -53,9 +54,14 @@ pub data HasListFault (old new : SourceView) (line : ℕ) (fault : JobFault) : T
   whole_text : {text : List ℕ} → AllRead old new text → JobFaultStands text line fault → HasListFault old new line fault
   long_text : (read : ReadTo input_limit old new) → JobFaultStands read.text line fault → HasListFault old new line fault
 
--- Memory was wanting before the first job began: none was run, and nothing but the notice was printed.
+-- When memory was wanting: while the input was read, and then its count stands still; or after the whole of it was read.
+pub data WantedAt (old new : SourceView) : Type 0 where
+  while_reading : HasReadSome old new → Still old.faults new.faults → WantedAt old new
+  after_reading : {text : List ℕ} → AllRead old new text → WantedAt old new
+
+-- Memory was wanting before the first job began: none was run, and nothing but the notice was printed. No fault of the input is told so.
 pub record Wanted {K : Type 0} (old new : World K) (answer : ℕ) : Type 0 where
-  pub read : HasReadSome old.source new.source
+  pub time : WantedAt old.source new.source
   pub idle : Idle old new
   pub want : WantOf no_memory_text [] old.sinks new.sinks answer
 

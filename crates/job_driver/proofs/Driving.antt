@@ -159,7 +159,7 @@ module _ {K : Type 0} (d : Devices K) (l : Limits 16) (words : List (List (List 
   drawn : (i : ℕ) → i < n → numbers_of (R i) ≡ jobs_drawn (calls_by i H)
   drawn i below =
       let f = worked i below in
-      numbers-drawn (d.peers (V i)) (d.programs (V i)) jobs config.period l i (R i) f.calls (d.shows (V i)) (d.shows (N i)) f.works ∙ sym (drawn-last i f.calls (calls_by i H) f.last)
+      numbers-drawn f.works ∙ sym (drawn-last i f.calls (calls_by i H) f.last)
 
   drawn-all : (f : ℕ → ℕ) (all : List Report) → Joins n R all → sum_by (λ r. f r.number) all ≡ sum_by f (range_with_len 0 l.jobs)
   drawn-all f all joins =

@@ -75,10 +75,10 @@ counted-grown at next rs r n g most all = let long = length-append rs (r ∷ [])
 }
 
 -- a job adds at most 64 entries of each kind
-pub counted-more : {h : ℕ} (peers : Peers) (programs : Programs) (j : Job) (l : Limits h) (w job : ℕ) (at next : Places) (r : Report) (calls calls' : List CallEntry) (a b : KitView) (rs rs' : List Report)
+pub counted-more : {h : ℕ} {peers : Peers} {programs : Programs} {j : Job} {l : Limits h} {w job : ℕ} {at next : Places} {calls calls' : List CallEntry} {a b : KitView} {rs rs' : List Report} (r : Report)
     → rs' ≡ rs ++ r ∷ [] → 1 ≤ j.config.tries → j.config.tries ≤ 16 → AreCounted at rs
     → JobRan peers programs j l w job at next r.events r.end calls calls' a b → AreCounted next rs'
-counted-more peers programs j l w job at next r calls calls' a b rs rs' is some tries all did =
+counted-more {j = j} {at = at} {next = next} {rs = rs} r is some tries all did =
     let long : length (untimed did.acts) ≤ 3 * j.config.tries + 5 = short j (untimed did.acts) r.end some did.course in
     subst (AreCounted next) (sym is)
     (counted-grown at next rs r (length (untimed did.acts)) (subst (λ (p : Places). Grows at p (length (untimed did.acts))) (sym did.grown) (grows at did.acts)) (omega (arith, long, tries)) all)
@@ -96,9 +96,9 @@ pub counted-none : (rs : List Report) → AreCounted no_places rs
 counted-none rs = record { runs = omega arith; fetches = omega arith; exchanges = omega arith; puts = omega arith }
 
 -- before the first job
-pub works-none : {h : ℕ} (peers : Peers) (programs : Programs) (jobs : ℕ → Job) (period : ℕ) (l : Limits h) (w : ℕ) (rs : List Report) (calls : List CallEntry) (a : KitView)
+pub works-none : {h : ℕ} {peers : Peers} {programs : Programs} {jobs : ℕ → Job} {period : ℕ} {l : Limits h} {w : ℕ} {rs : List Report} {calls : List CallEntry} {a : KitView}
     → rs ≡ [] → calls ≡ [] → WorksTo peers programs jobs period l w rs calls a a no_places
-works-none peers programs jobs period l w rs calls a none blank = record {
+works-none {period = period} {w = w} {a = a} none blank = record {
   works = record {
     done = [];
     reported = subst (λ (z : List Report). AreReportsOf w no_places [] z) (sym none) tt;
@@ -116,8 +116,8 @@ works-none peers programs jobs period l w rs calls a none blank = record {
 }
 
 -- after one job more
-pub works-more : {h : ℕ} (peers peers' : Peers) (programs programs' : Programs) (jobs : ℕ → Job) (j : Job) (period : ℕ) (l l' : Limits h) (w w' job : ℕ)
-    (rs rs' : List Report) (r : Report) (calls mid calls' : List CallEntry) (old a b : KitView) (at at' : Places)
+pub works-more : {h : ℕ} {peers peers' : Peers} {programs programs' : Programs} {jobs : ℕ → Job} {j : Job} {period : ℕ} {l l' : Limits h} {w w' job : ℕ}
+    {rs rs' : List Report} {calls mid calls' : List CallEntry} {old a b : KitView} {at at' : Places} (r : Report)
     → l' ≡ l → w' ≡ w → j ≡ jobs job → j.config.period ≡ period
     → SameRelation peers peers' → SameRelation3 programs programs'
     → mid ≡ calls ++ entry w Draw (Drawn (Some job)) ∷ []
@@ -125,7 +125,7 @@ pub works-more : {h : ℕ} (peers peers' : Peers) (programs programs' : Programs
     → WorksTo peers programs jobs period l w rs calls old a at
     → JobRan peers' programs' j l' w' job at at' r.events r.end mid calls' a b
     → WorksTo peers programs jobs period l w rs' calls' old b at'
-works-more {h} peers peers' programs programs' jobs j period l l' w w' job rs rs' r calls mid calls' old a b at at' same_l same_w is_job is_period same_peers same_programs drawn is number worker so_far did =
+works-more {h} {peers = peers} {peers' = peers'} {programs = programs} {programs' = programs'} {jobs = jobs} {period = period} {l = l} {l' = l'} {w = w} {job = job} {rs = rs} {calls = calls} {calls' = calls'} {old = old} {a = a} {b = b} r same_l same_w is_job is_period same_peers same_programs drawn is number worker so_far did =
     let works = so_far.works in
     let done : List DoneJob = works.done in
     let new : DoneJob = record { number = job; acts = did.acts; end = r.end } in
@@ -163,9 +163,9 @@ works-more {h} peers peers' programs programs' jobs j period l l' w w' job rs rs
     }
 
 -- the numbers of the reports are the jobs that were drawn
-pub numbers-drawn : {h : ℕ} (peers : Peers) (programs : Programs) (jobs : ℕ → Job) (period : ℕ) (l : Limits h) (w : ℕ) (rs : List Report) (calls : List CallEntry) (old a : KitView)
+pub numbers-drawn : {h : ℕ} {peers : Peers} {programs : Programs} {jobs : ℕ → Job} {period : ℕ} {l : Limits h} {w : ℕ} {rs : List Report} {calls : List CallEntry} {old a : KitView}
     → Works peers programs jobs period l w rs calls old a → numbers_of rs ≡ jobs_drawn calls
-numbers-drawn peers programs jobs period l w rs calls old a works =
+numbers-drawn {l = l} {w = w} {rs = rs} {calls = calls} works =
     report-numbers w works.done no_places rs works.reported ∙ sym (does-drawn (wanted l) w (map untimed_job works.done) calls works.does)
 
 -- a draw leaves out nothing
@@ -173,9 +173,9 @@ pub drawn-back : (w : ℕ) (o : _) (es es' : List CallEntry) → es' ≡ es ++ e
 drawn-back w o es es' is none = outstanding-more es es' (entry w Draw (Drawn o)) is ∙ none
 
 -- what is drawn comes after the reports
-pub report-later : {h : ℕ} (peers : Peers) (programs : Programs) (jobs : ℕ → Job) (period : ℕ) (l : Limits h) (w : ℕ) (rs : List Report) (calls : List CallEntry) (old a : KitView) (at : Places) (job : ℕ)
+pub report-later : {h : ℕ} {peers : Peers} {programs : Programs} {jobs : ℕ → Job} {period : ℕ} {l : Limits h} {w : ℕ} {rs : List Report} {calls : List CallEntry} {old a : KitView} {at : Places} (job : ℕ)
     → WorksTo peers programs jobs period l w rs calls old a at → All (λ k. k < job) (jobs_drawn calls) → All (λ k. k < job) (numbers_of rs)
-report-later peers programs jobs period l w rs calls old a at job so_far all = subst (All (λ k. k < job)) (sym (numbers-drawn peers programs jobs period l w rs calls old a so_far.works)) all
+report-later job so_far all = subst (All (λ k. k < job)) (sym (numbers-drawn so_far.works)) all
 
 pub relation-then : {A B : Type 0} {p q r : A → B → Type 0} → SameRelation p q → SameRelation q r → SameRelation p r
 relation-then first second = record { kept = λ a b h. second.kept a b (first.kept a b h); back = λ a b h. first.back a b (second.back a b h) }
@@ -184,13 +184,13 @@ pub relation3-then : {A B C : Type 0} {p q r : A → B → C → Type 0} → Sam
 relation3-then first second = record { kept = λ a b c h. second.kept a b c (first.kept a b c h); back = λ a b c h. first.back a b c (second.back a b c h) }
 
 -- the job at a place, as it was read
-pub job-found : (xs ys : List (List (List ℕ))) (place : ℕ) (x : List (List ℕ)) (config : JobConfig) → xs ≡ ys → x ≡ get_or xs place x → place < length ys → job_of x config ≡ job_at ys config place
-job-found xs ys place x config same is below =
+pub job-found : {xs ys : List (List (List ℕ))} {x : List (List ℕ)} (place : ℕ) (config : JobConfig) → xs ≡ ys → x ≡ get_or xs place x → place < length ys → job_of x config ≡ job_at ys config place
+job-found {ys = ys} {x = x} place config same is below =
     let e : x ≡ get_or ys place x = is ∙ ap (λ (zs : List (List (List ℕ))). get_or zs place x) same in
     ap (λ (words : List (List ℕ)). job_of words config) (get_or_read ys place x below e [])
 
-pub drawn-as : (w w' : ℕ) (o : Option ℕ) (job : ℕ) (es es' : List CallEntry) → w ≡ w' → o ≡ Some job → es' ≡ es ++ entry w Draw (Drawn o) ∷ [] → es' ≡ es ++ entry w' Draw (Drawn (Some job)) ∷ []
-drawn-as w w' o job es es' same is more = more ∙ ap (λ (k : ℕ). es ++ entry k Draw (Drawn o) ∷ []) same ∙ ap (λ (p : Option ℕ). es ++ entry w' Draw (Drawn p) ∷ []) is
+pub drawn-as : {w w' job : ℕ} {o : Option ℕ} {es' : List CallEntry} (es : List CallEntry) → w ≡ w' → o ≡ Some job → es' ≡ es ++ entry w Draw (Drawn o) ∷ [] → es' ≡ es ++ entry w' Draw (Drawn (Some job)) ∷ []
+drawn-as {w' = w'} {o = o} es same is more = more ∙ ap (λ (k : ℕ). es ++ entry k Draw (Drawn o) ∷ []) same ∙ ap (λ (p : Option ℕ). es ++ entry w' Draw (Drawn p) ∷ []) is
 
 -- a caller that is alone has calls left for the rest of the jobs
 pub spare-enough : (alone : Bool) (n done a b : ℕ) → done + 1 ≤ n → (alone ≡ true → 65 * n + 1 ≤ a + 65 * done) → b + cost alone ≡ a → 64 * cost alone ≤ b

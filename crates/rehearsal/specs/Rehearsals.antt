@@ -4,6 +4,7 @@ use Rattle.std.specs.List.{AllZip, sum_by}
 use Rattle.farm_types.specs.declared.hosts.Hosts.{Hosts}
 use Rattle.farm_types.specs.declared.jobs.JobConfig.{JobConfig}
 use Rattle.farm_types.specs.declared.ran.Ran.{Ran}
+use Rattle.daemon_service.specs.declared.compilers.Compiler.{Compiler}
 use Rattle.edge_traits.specs.Keepers.{IsIdle}
 use Rattle.edge_memory.specs.Clocks.{clock_state, clock_shows}
 use Rattle.farm_cell.specs.Passes.{seen_of}
@@ -16,7 +17,7 @@ use Rattle.farm_machine.specs.Jobs.{AreLimitsOf}
 use Rattle.job_driver.specs.declared.driver.Built.{Built}
 use Rattle.job_driver.specs.Driven.{Devices, devices, JobsRan, is_done_or_wanted}
 use Rattle.job_driver.specs.Jobs.{job_at}
-use Rattle.loop_link.specs.Dialers.{dialer_state, dialer_shows, DialerGives}
+use Rattle.loop_link.specs.Dialers.{dialer_state, dialer_shows, held_of, DialerGives}
 use Rattle.report_text.specs.Pieces.{is_done_well}
 use Rattle.file_map.specs.FileMaps.{Files}
 use Rattle.sample_compiler.specs.Samples.{SampleOf}
@@ -49,8 +50,16 @@ abbrev pub loop_devices : Devices RehearsalKit
 loop_devices = devices (λ d. dialer_shows (dialer_state d)) compiler_shows keeper_shows (λ c. clock_shows (clock_state c))
     (λ d. DialerGives (λ s. StationRan (station_files s)) d) (λ s. StationRan (compiler_files s))
 
--- A kit before the first job: its station runs the compiler over these files, its dialer is honest for that, and nothing was put.
+-- the table of a loop, which names the sample compiler alone
+abbrev pub scc_table : List Compiler
+scc_table = record { name = codes "scc"; program = codes "scc" } ∷ []
+
+-- A kit before the first job: its station runs the compiler over these files, and so does the daemon behind its dialer, which is honest for
+-- that. Its clock stands at 0, and nothing was put.
 pub record IsFresh (files : Files) (kit : RehearsalKit) : Type 0 where
+  pub there : station_files (held_of kit.dialer).station ≡ files
+  pub table : (held_of kit.dialer).table.rows ≡ scc_table
+  pub clock : clock_state kit.clock ≡ record { moments = []; given = 0 }
   pub honest : IsHonest (DialerGives (λ s. StationRan (station_files s)) kit.dialer) (StationRan files)
   pub station : compiler_files kit.station ≡ files
   pub none_put : kit.keeper.puts ≡ []

@@ -3,7 +3,7 @@
 ghost use Rattle.std.specs.Prelude.{◌≡◌, ◌≤◌, All, IfOk, length};
 ghost use Rattle.loop_link.specs.Replies.{AreOwnNames};
 ghost use Rattle.workload.specs.Loads.{files_of};
-ghost use Rattle.rehearsal.specs.Rehearsals.{IsFresh};
+ghost use Rattle.rehearsal.specs.Rehearsals.{IsFresh, scc_table};
 
 use crate::{StillKeeper, StillStation};
 use daemon_service::{Compiler, CompilerVec, Compilers};
@@ -20,7 +20,8 @@ pub type RehearsalKit = Kit<LoopDialer<SampleStation>, StillStation, StillKeeper
 
 /// The table of a loop, which names the sample compiler `scc`.
 pub fn compiler_table(alloc: Global) -> Result<Compilers, AllocError>
-    ensures { IfOk result (λ table. AreOwnNames table.rows) }
+    ensures names { IfOk result (λ table. AreOwnNames table.rows) }
+    ensures rows { IfOk result (λ table. table.rows ≡ scc_table) }
 {
     let name = Bytes::from_slice(alloc, b"scc")?;
     let program = name.copy()?;

@@ -1,4 +1,4 @@
-use Rattle.compile_database.specs.Programs.{whole_input, long_input, broken_input}
+use Rattle.compile_database.specs.Programs.{whole_input, long_input, broken_input, unread}
 use Rattle.compile_database.proofs.Listed.{listed_by}
 use Rattle.compile_database.proofs.program.list_input.Goals as goal
 
@@ -10,3 +10,6 @@ returns-in-Ok-TooLong g c = long_input (rw c.in-Ok-TooLong.field-0-is at c.in-Ok
 
 pub returns-in-Ok-Unread : goal.returns-in-Ok-Unread
 returns-in-Ok-Unread g c = broken_input (rw c.in-Ok-Unread.field-0-is at c.in-Ok-Unread.ensures.read) c.complain-in-Ok-Unread.ensures
+
+pub returns-in-Err : goal.returns-in-Err
+returns-in-Err g c = unread c.read_input.ensures.some c.in-Err.ensures.memory c.no_memory.ensures

@@ -24,7 +24,7 @@ build_list-requires-clause-workers g c κs within = let e = c.worker_count-most.
 pub returns-in-Ok : goal.returns-in-Ok
 returns-in-Ok g c =
     let listed = subst (λ (t : List ℕ). HostListOf t c.in-Ok.hosts) (c.as_bytes.ensures.value ∙ c.host_text.ensures) c.in-Ok.ensures.list in
-    on_hosts c.in-Some.ensures listed (builds_as _ c.in-Ok.hosts c.args.options.retry c.in-Some.period _ _ _ c.is_fallback_on.ensures c.try_count.ensures c.worker_count-most.ensures c.build_list.ensures)
+    on_hosts c.in-Some.ensures listed (builds_as c.is_fallback_on.ensures c.try_count.ensures c.worker_count-most.ensures c.build_list.ensures)
 
 pub returns-in-Err-Fault : goal.returns-in-Err-Fault
 returns-in-Err-Fault g c =

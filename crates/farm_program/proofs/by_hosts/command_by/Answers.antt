@@ -14,7 +14,7 @@ returns-in_default g c = λ source. bad_period c.in_default.ensures (record { un
 pub returns-in-Ok : goal.returns-in-Ok
 returns-in-Ok g c = λ source.
     let listed = subst (λ (t : List ℕ). HostListOf t c.in-Ok.hosts) (c.as_bytes.ensures.value ∙ c.host_text.ensures) c.in-Ok.ensures.list in
-    on_hosts c.in-Some.ensures listed (runs_as _ c.in-Ok.hosts true c.in-Some.period 1 _ _ _ _ c.is_fallback_on.ensures (c.run_command.ensures source))
+    on_hosts c.in-Some.ensures listed (runs_as c.is_fallback_on.ensures (c.run_command.ensures source))
 
 pub returns-in-Err-Fault : goal.returns-in-Err-Fault
 returns-in-Err-Fault g c = λ source.

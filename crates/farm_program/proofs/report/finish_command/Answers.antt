@@ -10,4 +10,4 @@ returns-in-Ok g c = λ report is.
     command_ends c.args.hosts.now.list report.end (c.in-Ok.ensures.err ∙ ap (λ r. err_messages r.end ++ failure_text c.args.hosts.now.list r.end) one) (c.in-Ok.ensures.out ∙ ap (λ r. out_messages r.end) one) c.status.ensures c.finish.ensures
 
 pub returns-in-Err : goal.returns-in-Err
-returns-in-Err g c = λ report is. want_first _ _ _ _ _ _ c.want_memory.ensures
+returns-in-Err g c = λ report is. search (want_first, c.want_memory.ensures)

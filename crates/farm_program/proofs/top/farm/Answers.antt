@@ -1,9 +1,9 @@
 use Rattle.std.proofs.Common.{◌≡◌, map, string_bytes, Global}
 use Rattle.farm_words.specs.Commands.{meaning, Build}
-use Rattle.farm_words.proofs.Reading.{no_both}
+use Rattle.farm_words.proofs.Reading.{no_both, one_meaning, one_place}
 use Rattle.farm_words.proofs.Within.{command-within}
 use Rattle.farm_program.proofs.Building.{status_as}
-use Rattle.farm_program.proofs.Commanding.{printed_alone, answers_by, refused_at}
+use Rattle.farm_program.proofs.Commanding.{printed_alone}
 use Rattle.farm_program.proofs.Completing.{completes_on}
 use Rattle.farm_program.proofs.top.farm.Goals as goal
 
@@ -14,15 +14,15 @@ pub returns-in-Ok-clause-bad_words : goal.returns-in-Ok-clause-bad_words
 returns-in-Ok-clause-bad_words g c = λ place bad. absurd (no_both (map (string_bytes {Z = Global}) c.args.words.now) (meaning c.in-Ok.command) place c.in-Ok.ensures bad)
 
 pub returns-in-Ok-clause-answers : goal.returns-in-Ok-clause-answers
-returns-in-Ok-clause-answers g c = λ meant is. answers_by _ _ (map (string_bytes {Z = Global}) c.args.words.now) _ _ _ (meaning c.in-Ok.command) meant c.in-Ok.ensures is c.answer.ensures
+returns-in-Ok-clause-answers g c = λ meant is. rw (one_meaning (map (string_bytes {Z = Global}) c.args.words.now) meant (meaning c.in-Ok.command) is c.in-Ok.ensures) c.answer.ensures
 
 pub returns-in-Ok-clause-complete : goal.returns-in-Ok-clause-complete
 returns-in-Ok-clause-complete g c = λ config most jobs build known asks smooth.
-    completes_on _ _ (map (string_bytes {Z = Global}) c.args.words.now) config most _ _ _ build known smooth jobs asks (returns-in-Ok-clause-answers g c (Build build.options) build.command)
+    completes_on build known smooth asks (returns-in-Ok-clause-answers g c (Build build.options) build.command)
 
 pub returns-in-Err-clause-bad_words : goal.returns-in-Err-clause-bad_words
 returns-in-Err-clause-bad_words g c = λ place bad.
-    refused_at (map (string_bytes {Z = Global}) c.args.words.now) _ _ _ c.in-Err.place place c.in-Err.ensures bad (record { untouched = printed_alone c.idle.ensures.none; ends = status_as c.idle.ensures.status c.refuse_words.ensures })
+    rw (one_place (map (string_bytes {Z = Global}) c.args.words.now) place c.in-Err.place bad c.in-Err.ensures) (record { untouched = printed_alone c.idle.ensures.none; ends = status_as c.idle.ensures.status c.refuse_words.ensures })
 
 pub returns-in-Err-clause-answers : goal.returns-in-Err-clause-answers
 returns-in-Err-clause-answers g c = λ meant is. absurd (no_both (map (string_bytes {Z = Global}) c.args.words.now) meant c.in-Err.place is c.in-Err.ensures)

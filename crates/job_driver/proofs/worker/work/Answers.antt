@@ -2,7 +2,6 @@ use Rattle.std.proofs.Common.{◌≡◌, ℕ, ◌<◌, length, refl, sym, ap, �
 use Rattle.std.specs.Prelude.{All}
 use Rattle.std.proofs.lemmas.Grind.{common_steps}
 use Rattle.job_run.proofs.Leaves.{same_peers, same_programs}
-use Rattle.job_driver.specs.Jobs.{job_at}
 use Rattle.job_driver.proofs.Working.{numbers_of, AreFew}
 use Rattle.job_driver.proofs.Drawing.{few-more, within-more, few-none, within-none}
 use Rattle.job_driver.proofs.Stepping.{works-none, works-more, counted-none, counted-more, drawn-back, report-later, relation-then, relation3-then, job-found, drawn-as, spare-enough, spare-more}
@@ -10,7 +9,7 @@ use Rattle.job_driver.proofs.worker.work.Goals as goal
 
 pub working-init : goal.working-init
 working-init g c = record {
-  works = works-none _ _ _ _ _ _ _ _ _ c.requires.none c.requires.blank;
+  works = works-none c.requires.none c.requires.blank;
   few = few-none _ c.requires.none;
   within = within-none _ _ c.requires.none;
   counted = counted-none _;
@@ -34,7 +33,7 @@ returns-in_default-clause-back g c = drawn-back _ c.draw.result _ _ c.draw.ensur
 pub unreachable-requires : goal.unreachable-requires
 unreachable-requires g c =
     let i = c.working.invariant in
-    let few = i.few c.in-Some-draw.job (report-later _ _ _ _ _ _ _ _ _ _ _ _ i.works c.in-Some-draw.ensures.later) in
+    let few = i.few c.in-Some-draw.job (report-later c.in-Some-draw.job i.works c.in-Some-draw.ensures.later) in
     let below : c.in-Some-draw.job < length c.args.jobs.now = subst (λ (k : ℕ). c.in-Some-draw.job < k) (ap (λ l. l.jobs) i.limits ∙ c.requires.number) c.in-Some-draw.ensures.job in
     let rooms = i.rooms in
     let none : length c.working.rooms.items ≡ 0 = grind (arith, common_steps, c.in_default-pop.ensures.items) in
@@ -43,7 +42,7 @@ unreachable-requires g c =
 pub run_job-report-requires-clause-spare : goal.run_job-report-requires-clause-spare
 run_job-report-requires-clause-spare g c =
     let i = c.working.invariant in
-    let few = i.few c.in-Some-draw.job (report-later _ _ _ _ _ _ _ _ _ _ _ _ i.works c.in-Some-draw.ensures.later) in
+    let few = i.few c.in-Some-draw.job (report-later c.in-Some-draw.job i.works c.in-Some-draw.ensures.later) in
     let below : c.in-Some-draw.job < length c.args.jobs.now = subst (λ (k : ℕ). c.in-Some-draw.job < k) (ap (λ l. l.jobs) i.limits ∙ c.requires.number) c.in-Some-draw.ensures.job in
     spare-enough _ (length c.args.jobs.now) (length c.working.reports.items) _ _ (omega (arith, few, below)) i.spare c.in-Some-draw.ensures.spare
 
@@ -56,14 +55,14 @@ working-preserved g c =
     let w = c.run_job-report.ensures in
     let job = c.in-Some-draw.job in
     let d = c.in-Some-draw.ensures in
-    let later = report-later _ _ _ _ _ _ _ _ _ _ _ _ i.works d.later in
+    let later = report-later job i.works d.later in
     let below : job < length c.args.jobs.now = subst (λ (k : ℕ). job < k) (ap (λ l. l.jobs) i.limits ∙ c.requires.number) d.job in
     record {
-      works = works-more _ _ _ _ (job_at c.args.jobs.now c.args.config.now) _ c.args.config.now.period _ _ _ _ job _ _ c.run_job-report.result _ _ _ _ _ _ _ _ (d.limits ∙ i.limits) (d.number ∙ i.caller) (job-found _ _ _ _ _ c.as_slice.ensures c.index-as_slice-job.is below) refl
-          (relation-then i.peers w.peers) (relation3-then i.programs w.programs) (drawn-as _ _ c.draw.result job _ _ i.caller c.in-Some-draw.is c.draw.ensures.mine) c.in-Ok.ensures.items w.number w.worker i.works w.ran;
+      works = works-more c.run_job-report.result (d.limits ∙ i.limits) (d.number ∙ i.caller) (job-found job c.args.config.now c.as_slice.ensures c.index-as_slice-job.is below) refl
+          (relation-then i.peers w.peers) (relation3-then i.programs w.programs) (drawn-as _ i.caller c.in-Some-draw.is c.draw.ensures.mine) c.in-Ok.ensures.items w.number w.worker i.works w.ran;
       few = subst AreFew (sym c.in-Ok.ensures.items) (few-more _ _ job w.number i.few later);
       within = subst (λ rs. All (λ number. number < length c.args.jobs.now) (numbers_of rs)) (sym c.in-Ok.ensures.items) (within-more _ _ _ job w.number below i.within);
-      counted = counted-more _ _ _ _ _ _ _ _ _ _ _ _ _ _ _ c.in-Ok.ensures.items c.requires.some c.requires.tries i.counted w.ran;
+      counted = counted-more c.run_job-report.result c.in-Ok.ensures.items c.requires.some c.requires.tries i.counted w.ran;
       rooms = grind (arith, common_steps, c.in-Some-pop.ensures.items, c.in-Ok.ensures.items, i.rooms);
       room = let r = i.room in let k = c.push.ensures.capacity in omega (arith, r, k);
       spare = spare-more _ (length c.args.jobs.now) (length c.working.reports.items) _ _ _ _ (grind (arith, common_steps, c.in-Ok.ensures.items)) i.spare d.spare w.spare;
@@ -81,7 +80,7 @@ working-preserved g c =
 pub unreachable-requires-in_default-push : goal.unreachable-requires-in_default-push
 unreachable-requires-in_default-push g c =
     let i = c.working.invariant in
-    let few = i.few c.in-Some-draw.job (report-later _ _ _ _ _ _ _ _ _ _ _ _ i.works c.in-Some-draw.ensures.later) in
+    let few = i.few c.in-Some-draw.job (report-later c.in-Some-draw.job i.works c.in-Some-draw.ensures.later) in
     let below : c.in-Some-draw.job < length c.args.jobs.now = subst (λ (k : ℕ). c.in-Some-draw.job < k) (ap (λ l. l.jobs) i.limits ∙ c.requires.number) c.in-Some-draw.ensures.job in
     let room = i.room in
     let full = c.in_default-push.ensures.full in
