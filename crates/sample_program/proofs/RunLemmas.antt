@@ -1,6 +1,6 @@
 -- What a load and then a put leave.
-use Rattle.std.proofs.Common.{◌≡◌, ℕ, ◌+◌, ◌≤◌, List, [], ◌++◌, refl, ap, sym, ◌∙◌, subst, append_assoc, inl, inr, arith}
-use Rattle.std.specs.Prelude.{Option, IsTrue, Result, Ok, Err, OnOk}
+use Rattle.std.proofs.Common.{◌≡◌, ℕ, ◌≤◌, List, [], ◌++◌, refl, ap, sym, ◌∙◌, subst, append_assoc, inl, inr, arith}
+use Rattle.std.specs.Prelude.{Option, IsTrue}
 use Rattle.std.proofs.lemmas.List.{append-nil}
 use Rattle.farm_types.specs.declared.ran.Ran.{Ran}
 use Rattle.edge_traits.specs.declared.entries.Put.{Put}
@@ -10,10 +10,10 @@ use Rattle.edge_traits.specs.Keepers.{KeeperView, IsIdle}
 use Rattle.sample_compiler.specs.declared.task.Task.{Task}
 use Rattle.sample_compiler.specs.Tasks.{task_of}
 use Rattle.sample_compiler.specs.Samples.{SampleOf}
-use Rattle.sample_compiler.specs.Loads.{unstaged, OnlyFetched, WasTooLong, SameRuns}
+use Rattle.sample_compiler.specs.Loads.{unstaged, OnlyFetched, SameRuns}
 use Rattle.sample_program.specs.declared.running.RunStop.{RunStop}
 use Rattle.sample_program.specs.declared.running.RunStop.TheVariants.{File, Memory}
-use Rattle.sample_program.specs.Programs.{PutBy, files_with, puts_of, named, DidRun, FileCause, StopCause, StoppedRun}
+use Rattle.sample_program.specs.Programs.{PutBy, files_with, puts_of, named, DidRun, StopCause, StoppedRun}
 
 -- nothing is put
 pub put_none : (view : KeeperView) → IsIdle view → PutBy [] view view
