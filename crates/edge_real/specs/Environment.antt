@@ -1,5 +1,5 @@
 -- What is read of a variable.
-use Rattle.std.specs.Prelude.{◌≡◌, ◌≢◌, ℕ, List, [], Option, None, IsSomeAnd, Result, Ok, Err, ◌∷◌, codes, String, string_bytes}
+use Rattle.std.specs.Prelude.{◌≡◌, ◌≢◌, [], Option, None, IsSomeAnd, Result, Ok, Err, ◌∷◌, codes, String, string_bytes}
 use Rattle.std.specs.declared.env.VarError.{VarError}
 use Rattle.std.specs.declared.env.VarError.TheVariants.{NotPresent, NotUnicode, OutOfMemory}
 
