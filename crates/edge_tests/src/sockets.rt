@@ -81,30 +81,6 @@ fn count_given<L: Link>(link: &mut L) -> u64 {
     given
 }
 
-/// Sends more than the peer reads, and answers how many bytes came back.
-fn send_too_much<D: Dialer>(alloc: Global, dialer: &mut D, host: &HostName, port: u16) -> u64 {
-    let Ok(mut link) = dialer.dial(alloc, host, port) else {
-        return 0;
-    };
-    send_often(&mut link, 100);
-    let first = link.recv(&mut [0u8; 1]);
-    send_often(&mut link, 100);
-    let given = count_given(&mut link).saturating_add(u64::from(matches!(first, Ok(1))));
-    dialer.hang_up(link);
-    given
-}
-
-/// Reads one byte, and answers how many bytes were sent back.
-fn read_little<D: Door>(alloc: Global, door: &mut D) -> u64 {
-    let Ok((mut link, _)) = door.accept(alloc) else {
-        return 0;
-    };
-    let _ = link.recv(&mut [0u8; 1]);
-    let sent = send_often(&mut link, 8000);
-    door.leave(link);
-    sent
-}
-
 #[test]
 fn a_client_that_sends_too_much_gets_the_whole_reply(rt: HostRuntime) -> Result<(), Fail> {
     let alloc = rt.alloc();
@@ -114,8 +90,26 @@ fn a_client_that_sends_too_much_gets_the_whole_reply(rt: HostRuntime) -> Result<
     let name = host(alloc, b"127.0.0.1")?;
     let (given, sent) = thread::join(
         &rt,
-        move || send_too_much(alloc, &mut dialer, &name, port),
-        || read_little(alloc, &mut door),
+        move || {
+            let Ok(mut link) = dialer.dial(alloc, &name, port) else {
+                return 0;
+            };
+            send_often(&mut link, 100);
+            let first = link.recv(&mut [0u8; 1]);
+            send_often(&mut link, 100);
+            let given = count_given(&mut link).saturating_add(u64::from(matches!(first, Ok(1))));
+            dialer.hang_up(link);
+            given
+        },
+        || {
+            let Ok((mut link, _)) = door.accept(alloc) else {
+                return 0;
+            };
+            let _ = link.recv(&mut [0u8; 1]);
+            let sent = send_often(&mut link, 8000);
+            door.leave(link);
+            sent
+        },
     );
     assert!(rt; sent > 7_000_000);
     assert_eq!(rt; given, sent);
