@@ -56,14 +56,16 @@ pub record HasLength (files : Files) (path : List ℕ) (bytes : ℕ) : Type 0 wh
   pub there : get files path ≡ Some content
   pub long : length content ≡ bytes
 
--- the file isn't there, which is an overrun
+-- the file isn't there, which is an overrun and no fault
 pub record IsAbsent (path : List ℕ) (old now : KeeperView) : Type 0 where
   pub rose : Rose old.overruns now.overruns
+  pub calm : Still old.faults now.faults
   pub absent : IsTrue now.files.known → get now.files.value path ≡ None
 
--- the file has so many bytes, above the bound, which is an overrun
+-- the file has so many bytes, above the bound, which is an overrun and no fault
 pub record IsTooLong (path : List ℕ) (bound : ℕ) (old now : KeeperView) (bytes : ℕ) : Type 0 where
   pub rose : Rose old.overruns now.overruns
+  pub calm : Still old.faults now.faults
   pub above : bound < bytes
   pub long : IsTrue now.files.known → HasLength now.files.value path bytes
 

@@ -204,9 +204,10 @@ fetched path bound now after (Err fault) other loaded = tt
 pub fetch-cause : (path : List ℕ) (bound : ℕ) (old now : FilesView) (before after : Option (List ℕ)) (result : Result (List ℕ) FetchFault) → ¬ (IsStaged path) → IfErr result (FetchCause path bound (as_keeper old) (as_keeper now)) → IfErr result (FetchCause path bound (keeper_view old before) (keeper_view now after))
 fetch-cause path bound old now before after (Ok bytes) other cause = tt
 fetch-cause path bound old now before after (Err FetchFailed) other cause = cause
-fetch-cause path bound old now before after (Err Absent) other cause = record { rose = cause.rose; absent = λ k. get-finished now.files.value path other ∙ cause.absent k }
+fetch-cause path bound old now before after (Err Absent) other cause = record { rose = cause.rose; calm = cause.calm; absent = λ k. get-finished now.files.value path other ∙ cause.absent k }
 fetch-cause path bound old now before after (Err (TooMuch bytes)) other cause = record {
   rose = cause.rose;
+  calm = cause.calm;
   above = cause.above;
   long = λ k. record { content = (cause.long k).content; there = get-finished now.files.value path other ∙ (cause.long k).there; long = (cause.long k).long };
 }

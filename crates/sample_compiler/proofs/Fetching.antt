@@ -3,7 +3,7 @@ use Rattle.std.proofs.Common.{◌≡◌, ℕ, ◌≤◌, List, [], ◌++◌, ref
 use Rattle.std.specs.Prelude.{true, false, IsTrue}
 use Rattle.std.proofs.lemmas.List.{append-nil}
 use Rattle.edge_traits.specs.Told.{Told, Grew, Became}
-use Rattle.edge_traits.specs.Causes.{Rose}
+use Rattle.edge_traits.specs.Causes.{Rose, Still}
 use Rattle.edge_traits.specs.Keepers.{KeeperView, IsIdle}
 use Rattle.file_map.specs.FileMaps.{Files}
 use Rattle.sample_compiler.specs.declared.loading.LoadFault.{LoadFault}
@@ -38,11 +38,11 @@ only_then a b c one two = record {
 rose_then : (a b c : ℕ) → a ≤ b → Rose b c → Rose a c
 rose_then a b c le rose = omega arith
 
--- a cause in a later call is one in all of them
-pub cause_then : (a b c : KeeperView) (fault : LoadFault) → OnlyFetched a b → LoadCause b c fault → LoadCause a c fault
-cause_then a b c Failed one cause = rose_then a.faults b.faults c.faults one.faults cause
-cause_then a b c (TooMuch bytes) one cause = record { rose = rose_then a.overruns b.overruns c.overruns one.overruns cause.rose; above = cause.above; long = cause.long }
-cause_then a b c Memory one cause = tt
+-- a cause in a later call, before which none had failed, is one in all of them
+pub cause_then : (a b c : KeeperView) (fault : LoadFault) → OnlyFetched a b → Still a.faults b.faults → LoadCause b c fault → LoadCause a c fault
+cause_then a b c Failed one calm cause = rose_then a.faults b.faults c.faults one.faults cause
+cause_then a b c (TooMuch bytes) one calm cause = record { rose = rose_then a.overruns b.overruns c.overruns one.overruns cause.rose; above = cause.above; long = cause.long }
+cause_then a b c Memory one calm cause = cause ∙ calm
 
 -- what is known agrees with the files after a fetch, since they are the same
 pub agrees_on : (b c : KeeperView) (known : Files) (absent : List (List ℕ)) → OnlyFetched b c → IsTrue c.files.known

@@ -5,7 +5,7 @@ use Rattle.std.specs.FinMap.{get, retain_keys}
 use Rattle.farm_types.specs.declared.ran.Ran.{Ran}
 use Rattle.edge_traits.specs.Told.{Told, Grew, Became}
 use Rattle.edge_traits.specs.declared.entries.Fetch.{Fetch}
-use Rattle.edge_traits.specs.Causes.{Rose}
+use Rattle.edge_traits.specs.Causes.{Rose, Still}
 use Rattle.edge_traits.specs.Keepers.{KeeperView, IsIdle, HasLength}
 use Rattle.arg_scan.specs.Names.{is_reserved}
 use Rattle.file_map.specs.FileMaps.{Files}
@@ -42,11 +42,11 @@ pub record WasTooLong (old now : KeeperView) (bytes : ℕ) : Type 0 where
   pub above : fetch_max < bytes
   pub long : IsTrue now.files.known → (path : List ℕ) × HasLength now.files.value path bytes
 
--- when a load that came to nothing may answer so
+-- When a load that came to nothing may answer so. It wants memory only where no fetch had failed.
 abbrev pub LoadCause : KeeperView → KeeperView → LoadFault → Type 0
 LoadCause old now Failed = Rose old.faults now.faults
 LoadCause old now (TooMuch bytes) = WasTooLong old now bytes
-LoadCause old now Memory = Unit {0}
+LoadCause old now Memory = Still old.faults now.faults
 
 -- ---- which files are fetched
 

@@ -2,6 +2,7 @@
 
 ghost use Rattle.std.specs.Prelude.{ℕ, ◌≡◌, ◌||◌, ◌∷◌, [], List, false, IsTrue, IfOk, IfErr, IfNone, OnOk, OnErr};
 ghost use Rattle.std.specs.Str.{bytes_eq};
+ghost use Rattle.edge_traits.specs.Causes.{Still};
 ghost use Rattle.edge_traits.specs.Told.{Grew};
 ghost use Rattle.file_map.specs.FileMaps.{Files};
 ghost use Rattle.sample_compiler.specs.Lookups.{Agrees};
@@ -93,6 +94,7 @@ fn learn<K: Keeper>(
         → FetchedFront (unstaged (K.shows keeper.new).files.value) (path ∷ []) (K.shows keeper.old).fetches (K.shows keeper.new).fetches) }
     ensures named { IfErr result (LongNamed (K.shows keeper.new) (path ∷ [])) }
     ensures only { OnlyFetched (K.shows keeper.old) (K.shows keeper.new) }
+    ensures calm { OnOk result (Still (K.shows keeper.old).faults (K.shows keeper.new).faults) }
     ensures cause { IfErr result (LoadCause (K.shows keeper.old) (K.shows keeper.new)) }
 {
     if is_reserved(path.as_slice()) {
@@ -126,6 +128,7 @@ fn load_task<K: Keeper>(alloc: Global, task: &Task, keeper: &mut K) -> Result<Fi
         → FetchedFront (unstaged (K.shows keeper.new).files.value) (firsts_after [] (task_names (unstaged (K.shows keeper.new).files.value) task.now)) (K.shows keeper.old).fetches (K.shows keeper.new).fetches) }
     ensures named { IfErr result (LongNamed (K.shows keeper.new) (task_names (unstaged (K.shows keeper.new).files.value) task.now)) }
     ensures only { OnlyFetched (K.shows keeper.old) (K.shows keeper.new) }
+    ensures calm { OnOk result (Still (K.shows keeper.old).faults (K.shows keeper.new).faults) }
     ensures cause { IfErr result (LoadCause (K.shows keeper.old) (K.shows keeper.new)) }
 {
     let mut known = Known {
@@ -156,6 +159,7 @@ pub fn load<K: Keeper>(alloc: Global, words: &Words, keeper: &mut K) -> Result<F
         → FetchedFront (unstaged (K.shows keeper.new).files.value) (names_for (unstaged (K.shows keeper.new).files.value) words.now) (K.shows keeper.old).fetches (K.shows keeper.new).fetches) }
     ensures named { IfErr result (LongNamed (K.shows keeper.new) (asked_names (unstaged (K.shows keeper.new).files.value) (task_of words.now))) }
     ensures only { OnlyFetched (K.shows keeper.old) (K.shows keeper.new) }
+    ensures calm { OnOk result (Still (K.shows keeper.old).faults (K.shows keeper.new).faults) }
     ensures cause { IfErr result (LoadCause (K.shows keeper.old) (K.shows keeper.new)) }
 {
     match task_of(alloc, words.as_slice())? {

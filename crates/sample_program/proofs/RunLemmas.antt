@@ -4,7 +4,7 @@ use Rattle.std.specs.Prelude.{Option, IsTrue}
 use Rattle.std.proofs.lemmas.List.{append-nil}
 use Rattle.farm_types.specs.declared.ran.Ran.{Ran}
 use Rattle.edge_traits.specs.declared.entries.Put.{Put}
-use Rattle.edge_traits.specs.Causes.{Rose}
+use Rattle.edge_traits.specs.Causes.{Rose, Still, IsRemoval}
 use Rattle.file_map.specs.FileMaps.{Files}
 use Rattle.edge_traits.specs.Keepers.{KeeperView, IsIdle}
 use Rattle.sample_compiler.specs.declared.task.Task.{Task}
@@ -40,15 +40,18 @@ fetched_put puts old mid new only put = record {
 rose_then : (a b c : ℕ) → a ≤ b → Rose b c → Rose a c
 rose_then a b c le rose = omega arith
 
-cause_then : (old mid new : KeeperView) (stop : RunStop) → OnlyFetched old mid → StopCause mid new stop → StopCause old new stop
-cause_then old mid new File only (inl rose) = inl (rose_then old.faults mid.faults new.faults only.faults rose)
-cause_then old mid new File only (inr (bytes, long)) = inr (bytes, record { rose = rose_then old.overruns mid.overruns new.overruns only.overruns long.rose; above = long.above; long = long.long })
-cause_then old mid new Memory only cause = tt
+removal_then : (a b c : ℕ) → Still a b → IsRemoval b c → IsRemoval a c
+removal_then a b c calm removal = omega (arith, calm, removal)
 
-pub stopped_after : (old mid new : KeeperView) (stop : RunStop) → OnlyFetched old mid → StoppedRun mid new stop → StoppedRun old new stop
-stopped_after old mid new stop only stopped = record {
+cause_then : (old mid new : KeeperView) (stop : RunStop) → OnlyFetched old mid → Still old.faults mid.faults → StopCause mid new stop → StopCause old new stop
+cause_then old mid new File only calm (inl rose) = inl (rose_then old.faults mid.faults new.faults only.faults rose)
+cause_then old mid new File only calm (inr (bytes, long)) = inr (bytes, record { rose = rose_then old.overruns mid.overruns new.overruns only.overruns long.rose; above = long.above; long = long.long })
+cause_then old mid new Memory only calm cause = removal_then old.faults mid.faults new.faults calm cause
+
+pub stopped_after : (old mid new : KeeperView) (stop : RunStop) → OnlyFetched old mid → Still old.faults mid.faults → StoppedRun mid new stop → StoppedRun old new stop
+stopped_after old mid new stop only calm stopped = record {
   put = fetched_put [] old mid new only stopped.put;
-  cause = cause_then old mid new stop only stopped.cause;
+  cause = cause_then old mid new stop only calm stopped.cause;
 }
 
 -- nothing was put where files were fetched alone

@@ -5,7 +5,7 @@ use Rattle.farm_types.specs.declared.ran.Ran.{Ran}
 use Rattle.farm_types.specs.Exits.{exit_code_of}
 use Rattle.edge_traits.specs.declared.entries.Put.{Put}
 use Rattle.edge_traits.specs.Told.{Grew, Became}
-use Rattle.edge_traits.specs.Causes.{Rose}
+use Rattle.edge_traits.specs.Causes.{Rose, IsRemoval}
 use Rattle.file_map.specs.FileMaps.{Files}
 use Rattle.edge_traits.specs.Keepers.{KeeperView, IsIdle}
 use Rattle.stream_print.specs.declared.pieces.SinkKind.TheVariants.{Out}
@@ -71,9 +71,10 @@ pub record DidRun (words : List (List ℕ)) (old new : KeeperView) (ran : Ran) :
 abbrev pub FileCause : KeeperView → KeeperView → Type 0
 FileCause old new = Rose old.faults new.faults ⊎ ((bytes : ℕ) × WasTooLong old new bytes)
 
+-- Memory was wanting only where nothing failed but the removal of what was being written.
 abbrev pub StopCause : KeeperView → KeeperView → RunStop → Type 0
 StopCause old new File = FileCause old new
-StopCause old new Memory = Unit {0}
+StopCause old new Memory = IsRemoval old.faults new.faults
 
 -- nothing was put
 pub record StoppedRun (old new : KeeperView) (stop : RunStop) : Type 0 where

@@ -1,7 +1,6 @@
 //! One run of the compiler over a keeper's files.
 
-ghost use Rattle.std.specs.Prelude.{◌≡◌, ◌∷◌, [], codes, map, string_bytes, IfOk, IfErr, IfSome, IsErrOf, OnOk};
-ghost use Rattle.edge_traits.specs.Causes.{IsRemoval};
+ghost use Rattle.std.specs.Prelude.{◌≡◌, ◌∷◌, [], codes, map, string_bytes, IfOk, IfErr, IfSome, OnOk};
 ghost use Rattle.edge_traits.specs.Keepers.{IsIdle};
 ghost use Rattle.edge_traits.specs.FileMaps.{IsStaged};
 ghost use Rattle.sample_compiler.specs.Tasks.{HasPlainOutput};
@@ -54,7 +53,6 @@ fn put_file<K: Keeper>(
     requires name { ¬ (IsStaged output.now) }
     ensures ok { OnOk result (PutBy (record { path = output.now; bytes = object.now } ∷ []) (K.shows keeper.old) (K.shows keeper.new)) }
     ensures err { IfErr result (StoppedRun (K.shows keeper.old) (K.shows keeper.new)) }
-    ensures memory { IsErrOf result RunStop.Memory → IsRemoval (K.shows keeper.old).faults (K.shows keeper.new).faults }
 {
     match keeper.put(alloc, output, object.as_slice()) {
         Ok(()) => Ok(()),
@@ -74,7 +72,6 @@ fn put_object<K: Keeper>(
     requires output { IfSome asked.now (λ task. HasPlainOutput task.product) }
     ensures ok { OnOk result (PutBy (puts_of asked.now ran.now) (K.shows keeper.old) (K.shows keeper.new)) }
     ensures err { IfErr result (StoppedRun (K.shows keeper.old) (K.shows keeper.new)) }
-    ensures memory { IsErrOf result RunStop.Memory → IsRemoval (K.shows keeper.old).faults (K.shows keeper.new).faults }
 {
     if ran.status != 0 {
         return Ok(());

@@ -1,4 +1,4 @@
-use Rattle.std.proofs.Common.{◌≡◌, true, IsTrue}
+use Rattle.std.proofs.Common.{◌≡◌, ◌∙◌, refl, true, IsTrue}
 use Rattle.std.proofs.lemmas.Result.{err_from_is_err_and}
 use Rattle.sample_compiler.specs.Lookups.{is_listed}
 use Rattle.sample_compiler.specs.Seeking.{task_names}
@@ -11,6 +11,7 @@ use Rattle.sample_compiler.proofs.loading.load_task.Goals as goal
 pub loop-turn-init : goal.loop-turn-init
 loop-turn-init g c = record {
   only = only_none (g.K.Keeper.shows c.args.keeper.now) c.requires;
+  calm = refl;
   agrees = λ told. nothing_agrees c.new.result (unstaged (g.K.Keeper.shows c.args.keeper.now).files.value) c.new-2.result c.new.ensures c.new-2.ensures;
   short = none_short c.new.result c.new.ensures;
   loading = λ told. nothing_loaded (unstaged (g.K.Keeper.shows c.args.keeper.now).files.value) c.new.result c.new-2.result (task_names (unstaged (g.K.Keeper.shows c.args.keeper.now).files.value) c.args.task.now) (g.K.Keeper.shows c.args.keeper.now).fetches c.new.ensures c.new-2.ensures;
@@ -22,7 +23,7 @@ returns-in_err-learn-in-Some-clause-only g c = only_then (g.K.Keeper.shows c.arg
 pub returns-in_err-learn-in-Some-clause-cause : goal.returns-in_err-learn-in-Some-clause-cause
 returns-in_err-learn-in-Some-clause-cause g c =
     let p = err_from_is_err_and c.from_residual-in_err-learn-in-Some.result c.from_residual-in_err-learn-in-Some.ensures.1 in
-    rw (p.1, p.2) (cause_then (g.K.Keeper.shows c.args.keeper.now) (g.K.Keeper.shows c.loop-turn.keeper) (g.K.Keeper.shows c.learn.new.keeper) c.in_err-learn-in-Some.field-0.0 c.loop-turn.invariant.only c.in_err-learn-in-Some.ensures.cause)
+    rw (p.1, p.2) (cause_then (g.K.Keeper.shows c.args.keeper.now) (g.K.Keeper.shows c.loop-turn.keeper) (g.K.Keeper.shows c.learn.new.keeper) c.in_err-learn-in-Some.field-0.0 c.loop-turn.invariant.only c.loop-turn.invariant.calm c.in_err-learn-in-Some.ensures.cause)
 
 pub returns-in-None-clause-same : goal.returns-in-None-clause-same
 returns-in-None-clause-same g c told = (rw c.in-None.is at c.in_ok-path.ensures.same) (unstaged (g.K.Keeper.shows c.loop-turn.keeper).files.value) (c.loop-turn.invariant.agrees told)
@@ -66,6 +67,7 @@ loop-turn-preserved g c =
     let after = g.K.Keeper.shows c.learn.new.keeper in
     record {
       only = only_then start before after c.loop-turn.invariant.only c.learn.ensures.only;
+      calm = c.in_ok-learn-in-Some.ensures.calm ∙ c.loop-turn.invariant.calm;
       agrees = agrees_then before after c.loop-turn.known.files c.learn.new.known.files c.loop-turn.known.absent c.learn.new.known.absent c.learn.ensures.only c.loop-turn.invariant.agrees c.in_ok-learn-in-Some.ensures.known;
       short = c.in_ok-learn-in-Some.ensures.short c.loop-turn.invariant.short;
       loading = λ told.

@@ -1,4 +1,5 @@
 use Rattle.std.proofs.Common.{false, IsTrue}
+use Rattle.edge_traits.specs.Causes.{Still}
 use Rattle.sample_compiler.specs.Lookups.{Agrees}
 use Rattle.sample_compiler.specs.Loads.{unstaged, AreShort, OnlyFetched}
 use Rattle.sample_compiler.specs.Seeking.{task_names}
@@ -8,6 +9,7 @@ use Rattle.sample_compiler.proofs.loading.load_task.Given as goal
 abbrev pub invariant-loop-turn : goal.invariant-loop-turn
 invariant-loop-turn g l = record {
   only : OnlyFetched (g.K.Keeper.shows l.fn.keeper) (g.K.Keeper.shows l.keeper);
+  calm : Still (g.K.Keeper.shows l.fn.keeper).faults (g.K.Keeper.shows l.keeper).faults;
   agrees : IsTrue (g.K.Keeper.shows l.keeper).files.known → Agrees l.known.files l.known.absent false (unstaged (g.K.Keeper.shows l.keeper).files.value);
   short : AreShort l.known.files;
   loading : IsTrue (g.K.Keeper.shows l.keeper).files.known
