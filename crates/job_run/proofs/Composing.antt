@@ -22,7 +22,7 @@ use Rattle.farm_machine.specs.Moments.{AreMoments}
 use Rattle.farm_machine.specs.Numbered.{numbered, advanced, untimed}
 use Rattle.farm_machine.specs.Own.{Serves}
 use Rattle.job_run.specs.Worlds.{World, HasTaken, Went, WentOn, Ended}
-use Rattle.job_run.proofs.Lists.{slots-append, deeds-append, untimed-append, slots-untimed, advanced-append, numbered-append, ran-append, ran-along, may-append, may-along, moments-append, reach-append, serves-append, exchanges-append, moments_in-append}
+use Rattle.job_run.proofs.Lists.{slots-append, deeds-append, untimed-append, slots-untimed, advanced-append, numbered-append, ran-append, ran-along, may-append, may-along, moments-append, reach-append, serves-append, exchanges-append, moments_in-append, leaves-append}
 use Rattle.job_run.proofs.Taken.{taken-reach}
 
 pub later-then : {a b c : KitView} → KitLater a b → KitLater b c → KitLater a c
@@ -119,6 +119,7 @@ went-then {h = h} j l l' caller caller' number a b c at mid to same_limits same_
   moments = subst (λ (ms : List ℕ). AreMoments j.config.period (first.calls ++ second.calls) ms)
       (sym (ap moments_in (deeds-append first.acts second.acts) ∙ moments_in-append (deeds_of first.acts) (deeds_of second.acts)))
       (moments-append j.config.period first.calls second.calls (moments_in (deeds_of first.acts)) (moments_in (deeds_of second.acts)) first.moments second.moments);
+  leaves = leaves-append j.config.period first.acts second.acts first.leaves second.leaves;
   later = later-then first.later second.later;
   may = λ known. subst (λ (xs : List _). MayAll c.peers xs) (sym (ap exchanges_in (deeds-append first.acts second.acts) ∙ exchanges-append (deeds_of first.acts) (deeds_of second.acts)))
       (may-append c.peers (exchanges_in (deeds_of first.acts)) (exchanges_in (deeds_of second.acts)) (may-along b.peers c.peers second.same_peers.kept (exchanges_in (deeds_of first.acts)) (first.may (second.did.exchanges.known known))) (second.may known));

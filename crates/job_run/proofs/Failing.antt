@@ -40,6 +40,7 @@ use Rattle.farm_machine.specs.Causes.{HasEndCause, StationStands}
 use Rattle.farm_machine.specs.Course.{At, LentHere, Over, Next}
 use Rattle.farm_machine.specs.Jobs.{Job, request_for, host_at}
 use Rattle.job_run.specs.Failures.{station_failure, fetch_failure, put_failure}
+use Rattle.job_run.specs.Gives.{IsUnhurt}
 use Rattle.job_run.specs.Stages.{IsForHere}
 use Rattle.job_run.specs.Waits.{borrowed}
 
@@ -135,8 +136,8 @@ broken-as j source host q h x cause same_q same_h is = subst (λ (r : Request). 
 pub undialed : (may : List ℕ → List ℕ → Type 0) (q : Request) (host : Host) (old new : Told (List Exchange)) (dialed : Bool) → dialed ≡ false → AttemptAdds may q host (AttemptMemory dialed) old new → Grew old new []
 undialed may q host old new dialed is adds = elim dialed as (λ d. d ≡ false → AttemptAdds may q host (AttemptMemory d) old new → Grew old new []) [ true ↦ λ i a. absurd (cc) | false ↦ λ i a. a ] is adds
 
-pub dialed_once : (may : List ℕ → List ℕ → Type 0) (q : Request) (host : Host) (old new : Told (List Exchange)) (dialed : Bool) → dialed ≡ true → AttemptAdds may q host (AttemptMemory dialed) old new → Adds may old new (λ x. IsBegun x q host)
-dialed_once may q host old new dialed is adds = elim dialed as (λ d. d ≡ true → AttemptAdds may q host (AttemptMemory d) old new → Adds may old new (λ x. IsBegun x q host)) [ true ↦ λ i a. record { entry = a.entry; grew = a.grew; is = a.is.0.0; may = a.may } | false ↦ λ i a. absurd (cc) ] is adds
+pub dialed_once : (may : List ℕ → List ℕ → Type 0) (q : Request) (host : Host) (old new : Told (List Exchange)) (dialed : Bool) → dialed ≡ true → AttemptAdds may q host (AttemptMemory dialed) old new → Adds may old new (λ x. IsBegun x q host × IsUnhurt x)
+dialed_once may q host old new dialed is adds = elim dialed as (λ d. d ≡ true → AttemptAdds may q host (AttemptMemory d) old new → Adds may old new (λ x. IsBegun x q host × IsUnhurt x)) [ true ↦ λ i a. record { entry = a.entry; grew = a.grew; is = (a.is.0.0, record { dialed = a.is.0.1; faults = a.is.1.faults refl; stopped = a.is.1.stopped; ended = a.is.1.ended }); may = a.may } | false ↦ λ i a. absurd (cc) ] is adds
 
 -- the period of a back-off by another name
 pub alone-noted : (host moment period other : ℕ) (es es' : List Event) → other ≡ period → es' ≡ es ++ GaveBad host (bad_until moment period) ∷ [] → es' ≡ es ++ GaveBad host (bad_until moment other) ∷ []

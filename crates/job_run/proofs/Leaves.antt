@@ -1,5 +1,5 @@
 -- Parts of a job that have no parts: one slot, one deed, and what they were written down as.
-use Rattle.std.proofs.Common.{◌≡◌, ℕ, zero, suc, ◌<◌, ◌^◌, true, List, [], ◌∷◌, ◌++◌, refl, sym, ap, ◌∙◌, subst, append_assoc}
+use Rattle.std.proofs.Common.{◌≡◌, ◌⊎◌, ℕ, zero, suc, ◌<◌, ◌^◌, true, List, [], ◌∷◌, ◌++◌, refl, sym, ap, ◌∙◌, subst, append_assoc}
 use Rattle.std.proofs.lemmas.List.{append-nil}
 use Rattle.std.specs.Prelude.{IsTrue}
 use Rattle.slot_table.specs.declared.limits.Limits.{Limits}
@@ -31,6 +31,7 @@ use Rattle.farm_machine.specs.Machine.{Wants}
 use Rattle.farm_machine.specs.Moments.{AreMoments}
 use Rattle.farm_machine.specs.Numbered.{numbered, advanced}
 use Rattle.farm_machine.specs.Own.{Serves}
+use Rattle.job_run.specs.Gives.{IsUnhurt}
 use Rattle.job_run.specs.Waits.{borrowed}
 use Rattle.job_run.specs.Worlds.{World, Went}
 use Rattle.job_run.proofs.Lists.{numbered-append, advanced-append, moments-append, serves-append}
@@ -134,6 +135,7 @@ local-ran l j caller number refused a b at c d to x did later may same_peers sam
   mine = mine;
   serves = λ past taken. serves-append (wanted l) caller number past (TakesLocal ∷ []) (GivesLocal ∷ []) (borrowed caller number refused) (entry caller (GiveLocal number) Given ∷ []) (serves-borrowed (wanted l) caller number past refused) (refl, (refl, tt, refl, tt));
   moments = moments-append j.config.period (borrowed caller number refused) (entry caller (GiveLocal number) Given ∷ []) [] [] (moments-borrowed j.config.period caller number refused) ([], [], refl, refl, refl);
+  leaves = tt;
   later = later;
   may = λ known. tt;
   ran = (may, tt);
@@ -158,6 +160,7 @@ local-not-run l j caller number refused a b at c to did later same_peers same_pr
   mine = mine;
   serves = λ past taken. serves-append (wanted l) caller number past (TakesLocal ∷ []) (GivesLocal ∷ []) (borrowed caller number refused) (entry caller (GiveLocal number) Given ∷ []) (serves-borrowed (wanted l) caller number past refused) (refl, (refl, tt, refl, tt));
   moments = moments-append j.config.period (borrowed caller number refused) (entry caller (GiveLocal number) Given ∷ []) [] [] (moments-borrowed j.config.period caller number refused) ([], [], refl, refl, refl);
+  leaves = tt;
   later = later;
   may = λ known. tt;
   ran = tt;
@@ -182,6 +185,7 @@ lent-ran l j caller number host a b at c to x did later may same_peers same_prog
   mine = mine;
   serves = λ past taken. (refl, (refl, tt, refl, tt));
   moments = ([], [], refl, refl, refl);
+  leaves = tt;
   later = later;
   may = λ known. tt;
   ran = (may, tt);
@@ -206,6 +210,7 @@ given-back l j caller number host a b at to did later same_peers same_programs n
   mine = mine;
   serves = λ past taken. (refl, (refl, tt, refl, tt));
   moments = ([], [], refl, refl, refl);
+  leaves = tt;
   later = later;
   may = λ known. tt;
   ran = tt;
@@ -218,9 +223,9 @@ pub exchanged-given : {h : ℕ} (l : Limits h) (j : Job) (caller number host : �
     → DidIn a.kit b.kit (exchanged x ∷ []) → KitLater a.kit b.kit → (IsTrue b.kit.dialer.exchanges.known → x.dialed ≡ true → b.peers x.sent x.given) → SameRelation a.peers b.peers → SameRelation3 a.programs b.programs
     → Noted a.events a.places (Did (exchanged x) ∷ Met (Gives host) ∷ []) b.events b.places
     → b.mine ≡ a.mine ++ entry caller (Give host number) Given ∷ []
-    → Next j at (Did (exchanged x)) c → Next j c (Met (Gives host)) to
+    → Next j at (Did (exchanged x)) c → Next j c (Met (Gives host)) to → (j.config.period ≡ 0) ⊎ IsUnhurt x
     → Went j l caller number a b at to
-exchanged-given l j caller number host a b at c to x did later may same_peers same_programs noted mine first second = record {
+exchanged-given l j caller number host a b at c to x did later may same_peers same_programs noted mine first second fair = record {
   acts = Did (exchanged x) ∷ Met (Gives host) ∷ [];
   calls = entry caller (Give host number) Given ∷ [];
   did = did;
@@ -230,6 +235,7 @@ exchanged-given l j caller number host a b at c to x did later may same_peers sa
   mine = mine;
   serves = λ past taken. (refl, (refl, tt, refl, tt));
   moments = ([], [], refl, refl, refl);
+  leaves = (fair, tt);
   later = later;
   may = λ known. (may known, tt);
   ran = tt;
@@ -255,6 +261,7 @@ exchanged-alone l j caller number host moment a b at c to x within did later may
   mine = mine;
   serves = λ past taken. (refl, (refl, tt, refl, tt));
   moments = (moment ∷ [], [], (moment, within, refl, refl), refl, refl);
+  leaves = (tt, tt);
   later = later;
   may = λ known. (may known, tt);
   ran = tt;
@@ -277,6 +284,7 @@ only-run l j caller number a b at to x did later may same_peers same_programs no
   mine = mine ∙ sym (append-nil a.mine);
   serves = λ past taken. tt;
   moments = refl;
+  leaves = tt;
   later = later;
   may = λ known. tt;
   ran = (may, tt);
@@ -298,6 +306,7 @@ only-fetch l j caller number a b at to x did later same_peers same_programs note
   mine = mine ∙ sym (append-nil a.mine);
   serves = λ past taken. tt;
   moments = refl;
+  leaves = tt;
   later = later;
   may = λ known. tt;
   ran = tt;
@@ -319,6 +328,7 @@ only-put l j caller number a b at to x did later same_peers same_programs noted 
   mine = mine ∙ sym (append-nil a.mine);
   serves = λ past taken. tt;
   moments = refl;
+  leaves = tt;
   later = later;
   may = λ known. tt;
   ran = tt;
@@ -341,6 +351,7 @@ no-act l j caller number a b at did later same_peers same_programs noted mine = 
   mine = mine ∙ sym (append-nil a.mine);
   serves = λ past taken. tt;
   moments = refl;
+  leaves = tt;
   later = later;
   may = λ known. tt;
   ran = tt;

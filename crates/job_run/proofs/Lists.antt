@@ -15,6 +15,7 @@ use Rattle.farm_machine.specs.Machine.{Wants, JobCall, Draws, Adds, Waits, Misma
 use Rattle.farm_machine.specs.Moments.{AreMoments}
 use Rattle.farm_machine.specs.Numbered.{numbered, advanced, untimed}
 use Rattle.farm_machine.specs.Own.{ServedBy, Serves}
+use Rattle.job_run.specs.Gives.{GivesAfter, LeavesAlone}
 
 pub slots-append : (xs ys : List Act) → slots_of (xs ++ ys) ≡ slots_of xs ++ slots_of ys
 slots-append [] ys = refl
@@ -123,3 +124,27 @@ exchanges-append xs ys = flat_map-append exchange_of xs ys
 
 pub moments_in-append : (xs ys : List Deed) → moments_in (xs ++ ys) ≡ moments_in xs ++ moments_in ys
 moments_in-append xs ys = flat_map-append moment_of xs ys
+
+-- what is given back behind an exchange is so whatever comes later
+gives-append : (period : ℕ) (x : Exchange) (xs ys : List Act) → GivesAfter period x xs → GivesAfter period x (xs ++ ys)
+gives-append period x [] ys h = absurd h
+gives-append period x (Did (ran y) ∷ xs) ys h = tt
+gives-append period x (Did (fetched y) ∷ xs) ys h = tt
+gives-append period x (Did (exchanged y) ∷ xs) ys h = tt
+gives-append period x (Did (put y) ∷ xs) ys h = tt
+gives-append period x (Did (timed y) ∷ xs) ys h = gives-append period x xs ys h
+gives-append period x (Met (Takes host) ∷ xs) ys h = tt
+gives-append period x (Met (Gives host) ∷ xs) ys h = h
+gives-append period x (Met (GivesBad host until) ∷ xs) ys h = tt
+gives-append period x (Met FindsDown ∷ xs) ys h = tt
+gives-append period x (Met TakesLocal ∷ xs) ys h = tt
+gives-append period x (Met GivesLocal ∷ xs) ys h = tt
+
+pub leaves-append : (period : ℕ) (xs ys : List Act) → LeavesAlone period xs → LeavesAlone period ys → LeavesAlone period (xs ++ ys)
+leaves-append period [] ys h k = k
+leaves-append period (Did (ran x) ∷ xs) ys h k = leaves-append period xs ys h k
+leaves-append period (Did (fetched x) ∷ xs) ys h k = leaves-append period xs ys h k
+leaves-append period (Did (exchanged x) ∷ xs) ys h k = (gives-append period x xs ys h.0, leaves-append period xs ys h.1 k)
+leaves-append period (Did (put x) ∷ xs) ys h k = leaves-append period xs ys h k
+leaves-append period (Did (timed x) ∷ xs) ys h k = leaves-append period xs ys h k
+leaves-append period (Met x ∷ xs) ys h k = leaves-append period xs ys h k

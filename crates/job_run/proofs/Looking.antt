@@ -29,6 +29,7 @@ use Rattle.farm_machine.specs.Numbered.{numbered, advanced, untimed}
 use Rattle.farm_machine.specs.Own.{ServedBy, Serves}
 use Rattle.farm_machine.specs.Weave.{IsWaitedFor}
 use Rattle.farm_machine.specs.Machine.{HostSlot, Adds, job_call}
+use Rattle.job_run.specs.Gives.{LeavesAlone}
 use Rattle.job_run.specs.Stages.{HasUntried}
 use Rattle.job_run.specs.Waits.{asked}
 use Rattle.job_run.specs.Worlds.{World, HasTaken, WentOn}
@@ -58,6 +59,10 @@ slots-looks (m ∷ ms) ys = slots-looks ms ys
 ran-looks : (programs : Programs) (ms : List ℕ) (x : SlotEvent) → AllRan programs (looks ms ++ Met x ∷ [])
 ran-looks programs [] x = tt
 ran-looks programs (m ∷ ms) x = ran-looks programs ms x
+
+leaves-looks : (period : ℕ) (ms : List ℕ) (x : SlotEvent) → LeavesAlone period (looks ms ++ Met x ∷ [])
+leaves-looks period [] x = tt
+leaves-looks period (m ∷ ms) x = leaves-looks period ms x
 
 runs-looks : (ms : List ℕ) (x : SlotEvent) → [] ≡ runs_in (deeds_of (looks ms ++ Met x ∷ []))
 runs-looks [] x = refl
@@ -154,6 +159,7 @@ went-asked l j caller number mask refused now reply x a b source note tried to w
     serves = λ past taken. subst (λ (xs : List SlotEvent). Serves (wanted l) caller number past xs (asked caller number mask refused now reply)) (sym (slots-looks (refused ++ now ∷ []) (Met x ∷ [])))
         (serves-asked (wanted l) caller number past mask refused now reply x (mask-wanted l mask source note tried past untried taken) waited call);
     moments = subst (λ (ms : List ℕ). AreMoments j.config.period (asked caller number mask refused now reply) ms) (moments-looks (refused ++ now ∷ []) x) (moments-asked j.config.period caller number mask refused now reply);
+    leaves = leaves-looks j.config.period (refused ++ now ∷ []) x;
     later = later-looks a.kit b.kit dialer station keeper;
     may = λ known. subst (λ xs. MayAll b.peers xs) (exchanges-looks (refused ++ now ∷ []) x) tt;
     ran = ran-looks b.programs (refused ++ now ∷ []) x;

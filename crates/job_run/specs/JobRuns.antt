@@ -19,6 +19,7 @@ use Rattle.farm_machine.specs.Numbered.{numbered, advanced, untimed}
 use Rattle.farm_machine.specs.Own.{Serves}
 use Rattle.course_laws.specs.Answers.{AnswersBy}
 use Rattle.course_laws.specs.Returns.{IsCalm, is_done_or_wanted, NoneBroke}
+use Rattle.job_run.specs.Gives.{LeavesAlone}
 
 -- no call was answered that all hosts are down
 abbrev pub NoneIsDown : List CallEntry → Type 0
@@ -26,7 +27,8 @@ NoneIsDown calls = All (λ e. e.reply ≢ Down) calls
 
 -- All that the job did, looks at the clock included, is one list of acts. Its deeds are the new entries of the kit's lists; its events name
 -- them, numbered on from the places, which have grown by them; without looks at the clock it is a course, with this end. Its slot events are
--- the new calls on the slots, with the refused takes before each, and the moments that these calls name are those that the clock gave. A
+-- the new calls on the slots, with the refused takes before each, and the moments that these calls name are those that the clock gave. With a
+-- period a host is left alone after each exchange with which something went wrong, also where the job then ends for want of memory. A
 -- failure of a device goes with a rise of that device's count, and where the job didn't end by a failed run no count of the station rose. Peers gave what peers may give, and programs left what programs may leave.
 -- Where station and keeper did nothing wrong the job is done, or memory was wanting, if fallback is on, or if none of its exchanges broke and
 -- it found no hosts down. Over honest peers a job that was compiled ends with an outcome that a compiler may answer.
@@ -40,6 +42,7 @@ pub record JobRan {h : ℕ} (peers : Peers) (programs : Programs) (j : Job) (l :
   pub mine : mine_new ≡ mine_old ++ calls
   pub serves : Serves (wanted l) caller number [] (slots_of acts) calls
   pub moments : AreMoments j.config.period calls (moments_in (deeds_of acts))
+  pub leaves : LeavesAlone j.config.period acts
   pub cause : HasEndCause end old new
   pub station : StationStands end old.station new.station
   pub later : KitLater old new

@@ -18,6 +18,7 @@ use Rattle.farm_machine.specs.Jobs.{Job}
 use Rattle.farm_machine.specs.Moments.{AreMoments}
 use Rattle.farm_machine.specs.Numbered.{numbered, advanced, untimed}
 use Rattle.farm_machine.specs.Own.{Serves}
+use Rattle.job_run.specs.Gives.{LeavesAlone}
 
 -- a kit with its peers and programs, the worker's calls, and the events and next places
 pub record World : Type 1 where
@@ -50,6 +51,7 @@ pub record Went {h : ℕ} (j : Job) (l : Limits h) (caller number : ℕ) (old ne
   pub mine : new.mine ≡ old.mine ++ calls
   pub serves : (past : List SlotEvent) → HasTaken past at → Serves (wanted l) caller number past (slots_of acts) calls
   pub moments : AreMoments j.config.period calls (moments_in (deeds_of acts))
+  pub leaves : LeavesAlone j.config.period acts
   pub later : KitLater old.kit new.kit
   pub may : IsTrue new.kit.dialer.exchanges.known → MayAll new.peers (exchanges_in (deeds_of acts))
   pub ran : AllRan new.programs acts

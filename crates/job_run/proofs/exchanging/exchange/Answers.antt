@@ -33,7 +33,8 @@ returns-in-Whole-clause-answered g c = λ j note tried same_request same_host sa
     (noted-then (Did (exchanged x) ∷ []) (Met (Gives (host_of c.args.grant)) ∷ []) _ _ _ _ _ _ (c.exchanged.ensures.events, c.exchanged.ensures.places) (gave-as _ _ _ _ c.host-at.ensures c.note.ensures.events, c.note.ensures.places))
     c.give.ensures.mine
     (ap (λ h. h.local) same_host ∙ c.requires.remote, begun-as j _ _ _ _ x same_request same_host attempt.adds.adds.is.0.begun, refl)
-    (refl, inl (with_object c.in-Whole.outcome attempt.adds.object, whole-as j _ _ _ _ x _ same_request same_host attempt.adds.adds.is.0, refl))) (none-rose _))
+    (refl, inl (with_object c.in-Whole.outcome attempt.adds.object, whole-as j _ _ _ _ x _ same_request same_host attempt.adds.adds.is.0, refl))
+    (inr (record { dialed = attempt.adds.adds.is.0.dialed; faults = attempt.adds.adds.is.1.faults refl; stopped = attempt.adds.adds.is.1.stopped; ended = attempt.adds.adds.is.1.ended }))) (none-rose _))
 
 pub returns-in-Broke-clause-answered : goal.returns-in-Broke-clause-answered
 returns-in-Broke-clause-answered g c = λ j note tried same_request same_host same_period named.
@@ -45,7 +46,7 @@ returns-in-Broke-clause-answered g c = λ j note tried same_request same_host sa
         | inl plain ↦ exchanged-given _ j _ _ host _ _ _ (Sent host c.args.request.now.source note tried x) _ x
             (did-exchange _ _ x attempt.adds.adds.grew refl attempt.stays plain.looked) (record { station = omega arith; station_overruns = omega arith; keeper = attempt.stays.faults; keeper_overruns = attempt.stays.overruns; dialer = attempt.later }) attempt.adds.adds.may attempt.may_give (same_programs _)
             (noted-then (Did (exchanged x) ∷ []) (Met (Gives host) ∷ []) _ _ _ _ _ _ (c.exchanged-in-Broke.ensures.events, c.exchanged-in-Broke.ensures.places) (plain.noted, c.give_broken.ensures.places))
-            plain.called (ap (λ h. h.local) same_host ∙ c.requires.remote, begun-as j c.args.request.now.source host _ _ x same_request same_host attempt.adds.adds.is.0.begun, refl) (refl, inr (inl (c.in-Broke.cause, broken, same_period ∙ plain.none, refl)))
+            plain.called (ap (λ h. h.local) same_host ∙ c.requires.remote, begun-as j c.args.request.now.source host _ _ x same_request same_host attempt.adds.adds.is.0.begun, refl) (refl, inr (inl (c.in-Broke.cause, broken, same_period ∙ plain.none, refl))) (inl (same_period ∙ plain.none))
         | inr alone ↦ exchanged-alone _ j _ _ host alone.moment _ _ _ (Sent host c.args.request.now.source note tried x) _ x alone.within
             (did-exchange-look _ _ x alone.moment attempt.adds.adds.grew refl attempt.stays alone.looked) (record { station = omega arith; station_overruns = omega arith; keeper = attempt.stays.faults; keeper_overruns = attempt.stays.overruns; dialer = attempt.later }) attempt.adds.adds.may attempt.may_give (same_programs _)
             (noted-then (Did (exchanged x) ∷ []) (Did (timed alone.moment) ∷ Met (GivesBad host (bad_until alone.moment j.config.period)) ∷ []) _ _ _ _ _ _ (c.exchanged-in-Broke.ensures.events, c.exchanged-in-Broke.ensures.places)
@@ -65,8 +66,8 @@ returns-in-Memory-true-clause-answered g c = λ j note tried same_request same_h
     (did-exchange _ _ x adds.grew refl attempt.stays (Grew-refl _)) (record { station = omega arith; station_overruns = omega arith; keeper = attempt.stays.faults; keeper_overruns = attempt.stays.overruns; dialer = attempt.later }) adds.may attempt.may_give (same_programs _)
     (noted-then (Did (exchanged x) ∷ []) (Met (Gives (host_of c.args.grant)) ∷ []) _ _ _ _ _ _ (c.exchanged-in-Memory-true.ensures.events, c.exchanged-in-Memory-true.ensures.places) (gave-as _ _ _ _ c.host-at.ensures c.note-in-Memory-true.ensures.events, c.note-in-Memory-true.ensures.places))
     c.give-in-Memory-true.ensures.mine
-    (ap (λ h. h.local) same_host ∙ c.requires.remote, begun-as j _ _ _ _ x same_request same_host adds.is, refl)
-    (refl, inr (inr refl))) (none-rose _)
+    (ap (λ h. h.local) same_host ∙ c.requires.remote, begun-as j _ _ _ _ x same_request same_host adds.is.0, refl)
+    (refl, inr (inr refl)) (inr adds.is.1)) (none-rose _)
 
 pub returns-in-Memory-false-clause-answered : goal.returns-in-Memory-false-clause-answered
 returns-in-Memory-false-clause-answered g c = λ j note tried same_request same_host same_period named.

@@ -31,6 +31,7 @@ returns-clause-ran g c =
       mine = went.mine;
       serves = went.serves [] (λ host. refl);
       moments = went.moments;
+      leaves = went.leaves;
       cause = ended.cause;
       station = ended.station;
       later = went.later;
