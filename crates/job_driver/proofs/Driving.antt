@@ -227,6 +227,7 @@ module _ {K : Type 0} (d : Devices K) (l : Limits 16) (words : List (List (List 
           did = subst (λ (told : List Act). DidInOf d (V i) (N i) told) is w.works.did;
           named = ap events_of (own i below) ∙ events-numbered i (done i) no_places (R i) (subst (λ (ds : List DoneJob). AreReportsOf i no_places ds (R i)) f.1 w.works.reported);
           entries_are = refl;
+          drew = record { before = w.calls; last = w.last };
           moments = subst (λ (told : List Act). AreMoments config.period (calls_by i H) (moments_in (deeds_of told))) is (moments-last config.period i w.calls (calls_by i H) (moments_in (deeds_of (all_acts w.works.done))) w.last w.works.moments);
           may = subst (λ (told : List Act). MayOf d (V i) (N i) told) is w.works.may;
           ran = subst (AllRan (d.programs (V i))) is w.works.ran;

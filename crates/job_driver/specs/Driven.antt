@@ -1,10 +1,12 @@
 -- What all workers did: reports that, with the history of the slots, are a run of the farm.
-use Rattle.std.specs.Prelude.{◌≡◌, ℕ, ◌<◌, ◌≤◌, true, IsTrue, List, [], ◌∷◌, ◌++◌, length, filter, nat_eq, slice_index, slice_index_or}
+use Rattle.std.specs.Prelude.{◌≡◌, ℕ, ◌<◌, ◌≤◌, true, IsTrue, List, [], ◌∷◌, ◌++◌, length, filter, nat_eq, slice_index, slice_index_or, None}
 use Rattle.std.specs.List.{flat_map}
 use Rattle.slot_table.specs.declared.limits.Limits.{Limits}
 use Rattle.slot_table.specs.declared.state.SlotState.{SlotState}
 use Rattle.slot_table.specs.declared.calls.CallEntry.{CallEntry}
-use Rattle.slot_table.specs.History.{outstanding, state_after, calls_by}
+use Rattle.slot_table.specs.declared.calls.SlotCall.TheVariants.{Draw}
+use Rattle.slot_table.specs.declared.calls.SlotReply.TheVariants.{Drawn}
+use Rattle.slot_table.specs.History.{entry, outstanding, state_after, calls_by}
 use Rattle.edge_traits.specs.declared.kit.Kit.{Kit}
 use Rattle.edge_traits.specs.Clocks.{ClockView}
 use Rattle.edge_traits.specs.Dialers.{DialerView}
@@ -54,7 +56,13 @@ events_of reports = flat_map (λ report. report.events) reports
 abbrev pub no_entries : Entries
 no_entries = record { runs = []; fetches = []; exchanges = []; puts = [] }
 
--- A worker did jobs with this kit. All that it did is one list of acts. Its deeds are the new entries of the kit's lists, in order, and no
+-- the last of these calls of a worker is a draw that was answered by no job
+pub record DrewToTheEnd (worker : ℕ) (calls : List CallEntry) : Type 0 where
+  pub before : List CallEntry
+  pub last : calls ≡ before ++ entry worker Draw (Drawn None) ∷ []
+
+-- A worker did jobs with this kit, until a draw was answered by no job. All that it did is one list of acts. Its deeds are the new entries of
+-- the kit's lists, in order, and no
 -- file changed but by its puts. The events of the worker's reports, report after report, name each of these entries once, and nothing else
 -- but its calls on the slots. The moments that these calls name are those that the clock gave. Peers gave what peers may give, programs left
 -- what programs may leave, and no more jobs failed by a device than its counts rose. No put is pending.
@@ -63,6 +71,7 @@ pub record KitDid {K : Type 0} (d : Devices K) (period worker : ℕ) (reports : 
   pub did : DidIn (d.shows old) (d.shows new) (deeds_of acts)
   pub named : events_of (reports_by worker reports) ≡ numbered no_places acts
   pub entries_are : entries ≡ added no_entries acts
+  pub drew : DrewToTheEnd worker calls
   pub moments : AreMoments period calls (moments_in (deeds_of acts))
   pub may : IsTrue (d.shows new).dialer.exchanges.known → MayAll (d.peers old) (exchanges_in (deeds_of acts))
   pub ran : AllRan (d.programs old) acts
