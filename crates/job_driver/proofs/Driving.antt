@@ -39,6 +39,7 @@ use Rattle.farm_laws.proofs.Draws.{next-all}
 use Rattle.worker_laws.proofs.Drivers.{asc-legal, asc-by}
 use Rattle.worker_laws.proofs.Reported.{workers-run}
 use Rattle.job_run.proofs.Lists.{moments-append}
+use Rattle.job_run.specs.Gives.{LeavesAlone}
 use Rattle.job_driver.specs.Jobs.{job_at}
 use Rattle.job_driver.specs.Works.{untimed_job, all_acts, AreReportsOf, WorkedOff, AreCaused, ends_so, is_station_failure, is_keeper_failure}
 use Rattle.course_laws.specs.Answers.{AllGiven, AnswersBy}
@@ -229,6 +230,7 @@ module _ {K : Type 0} (d : Devices K) (l : Limits 16) (words : List (List (List 
           entries_are = refl;
           drew = record { before = w.calls; last = w.last };
           moments = subst (λ (told : List Act). AreMoments config.period (calls_by i H) (moments_in (deeds_of told))) is (moments-last config.period i w.calls (calls_by i H) (moments_in (deeds_of (all_acts w.works.done))) w.last w.works.moments);
+          leaves = subst (LeavesAlone config.period) is w.works.leaves;
           may = subst (λ (told : List Act). MayOf d (V i) (N i) told) is w.works.may;
           ran = subst (AllRan (d.programs (V i))) is w.works.ran;
           caused = subst (λ (rs : List Report). AreCaused rs (d.shows (V i)) (d.shows (N i))) (sym (own i below)) w.works.caused;

@@ -26,9 +26,10 @@ use Rattle.farm_machine.specs.Moments.{AreMoments}
 use Rattle.farm_machine.specs.Numbered.{numbered, advanced, no_places, untimed}
 use Rattle.farm_machine.specs.Own.{DoneJob, Serves, DoesJobs}
 use Rattle.course_laws.proofs.Lengths.{short}
+use Rattle.job_run.specs.Gives.{LeavesAlone}
 use Rattle.job_run.specs.JobRuns.{JobRan, AreSmall}
 use Rattle.job_run.proofs.Composing.{later-then}
-use Rattle.job_run.proofs.Lists.{slots-untimed, deeds-append, advanced-append, ran-append, ran-along, may-append, may-along, moments-append, exchanges-append, moments_in-append}
+use Rattle.job_run.proofs.Lists.{slots-untimed, deeds-append, advanced-append, ran-append, ran-along, may-append, may-along, moments-append, exchanges-append, moments_in-append, leaves-append}
 use Rattle.job_run.proofs.Outstanding.{outstanding-more}
 use Rattle.job_driver.specs.Works.{untimed_job, all_acts, AreReportsOf, AreCaused, Works}
 use Rattle.job_driver.proofs.Working.{WorksTo, AreCounted, numbers_of, acts-more, each-more, reports-more, does-more, caused-more}
@@ -106,6 +107,7 @@ works-none {period = period} {w = w} {a = a} none blank = record {
     does = blank;
     did = DidIn-nothing a;
     moments = subst (λ (z : List CallEntry). AreMoments period z []) (sym blank) refl;
+    leaves = tt;
     may = λ known. tt;
     ran = tt;
     caused = subst (λ (z : List Report). AreCaused z a a) (sym none)
@@ -153,6 +155,7 @@ works-more {h} {peers = peers} {peers' = peers'} {programs = programs} {programs
             (subst (λ (ms : List ℕ). AreMoments period (calls ++ e ∷ did.calls) ms) (sym (ap moments_in deeds ∙ moments_in-append (deeds_of (all_acts done)) (deeds_of did.acts)))
             (moments-append period calls (e ∷ did.calls) (moments_in (deeds_of (all_acts done))) (moments_in (deeds_of did.acts)) works.moments
             ([], moments_in (deeds_of did.acts), refl, subst (λ (k : ℕ). AreMoments k did.calls (moments_in (deeds_of did.acts))) is_period did.moments, refl)));
+        leaves = subst (LeavesAlone period) (sym acts) (leaves-append period (all_acts done) did.acts works.leaves (subst (λ (k : ℕ). LeavesAlone k did.acts) is_period did.leaves));
         may = λ known. subst (MayAll peers) (sym (ap exchanges_in deeds ∙ exchanges-append (deeds_of (all_acts done)) (deeds_of did.acts)))
             (may-append peers xs ys (works.may (did.did.exchanges.known known)) (may-along peers' peers same_peers.back ys (did.may known)));
         ran = subst (AllRan programs) (sym acts) (ran-append programs (all_acts done) did.acts works.ran (ran-along programs' programs same_programs.back did.acts did.ran));

@@ -33,6 +33,7 @@ use Rattle.course_laws.specs.Answers.{AllGiven, IsAnswer}
 pub use Rattle.course_laws.specs.Answers.{AnswersBy}
 use Rattle.course_laws.specs.Returns.{NoneBroke}
 pub use Rattle.course_laws.specs.Returns.{IsCalm, is_done_or_wanted}
+use Rattle.job_run.specs.Gives.{LeavesAlone}
 use Rattle.job_driver.specs.Works.{AreCaused}
 
 -- what is seen of kits: what they tell, what their peers may give, and what their programs may leave
@@ -62,9 +63,9 @@ pub record DrewToTheEnd (worker : ℕ) (calls : List CallEntry) : Type 0 where
   pub last : calls ≡ before ++ entry worker Draw (Drawn None) ∷ []
 
 -- A worker did jobs with this kit, until a draw was answered by no job. All that it did is one list of acts. Its deeds are the new entries of
--- the kit's lists, in order, and no
--- file changed but by its puts. The events of the worker's reports, report after report, name each of these entries once, and nothing else
--- but its calls on the slots. The moments that these calls name are those that the clock gave. Peers gave what peers may give, programs left
+-- the kit's lists, in order, and no file changed but by its puts. The events of the worker's reports, report after report, name each of these entries once, and nothing else
+-- but its calls on the slots. The moments that these calls name are those that the clock gave. With a period a host is left alone after each
+-- exchange with which something went wrong. Peers gave what peers may give, programs left
 -- what programs may leave, and no more jobs failed by a device than its counts rose. No put is pending.
 pub record KitDid {K : Type 0} (d : Devices K) (period worker : ℕ) (reports : List Report) (entries : Entries) (calls : List CallEntry) (old new : K) : Type 0 where
   pub acts : List Act
@@ -73,6 +74,7 @@ pub record KitDid {K : Type 0} (d : Devices K) (period worker : ℕ) (reports : 
   pub entries_are : entries ≡ added no_entries acts
   pub drew : DrewToTheEnd worker calls
   pub moments : AreMoments period calls (moments_in (deeds_of acts))
+  pub leaves : LeavesAlone period acts
   pub may : IsTrue (d.shows new).dialer.exchanges.known → MayAll (d.peers old) (exchanges_in (deeds_of acts))
   pub ran : AllRan (d.programs old) acts
   pub caused : AreCaused (reports_by worker reports) (d.shows old) (d.shows new)

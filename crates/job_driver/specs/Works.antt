@@ -23,6 +23,7 @@ use Rattle.farm_machine.specs.Jobs.{Job}
 use Rattle.farm_machine.specs.Moments.{AreMoments}
 use Rattle.farm_machine.specs.Numbered.{numbered, advanced, no_places, untimed}
 use Rattle.farm_machine.specs.Own.{DoneJob, Each, DoesJobs}
+use Rattle.job_run.specs.Gives.{LeavesAlone}
 
 -- a job without its looks at the clock, which are no acts of a course
 abbrev pub untimed_job : DoneJob → DoneJob
@@ -80,7 +81,8 @@ pub record AreCaused (reports : List Report) (old new : KitView) : Type 0 where
 
 -- A worker did jobs, one after another: each is a course of its command. All that it did is one list of acts. Its deeds are the new entries
 -- of the kit's lists, and the reports' events name them, counted from 0 on. The calls are those of its jobs, and their moments are those that
--- the clock gave. Peers gave what peers may give, programs left what programs may leave, and counts rose with the jobs that failed.
+-- the clock gave. With a period a host is left alone after each exchange with which something went wrong. Peers gave what peers may give,
+-- programs left what programs may leave, and counts rose with the jobs that failed.
 pub record Works {h : ℕ} (peers : Peers) (programs : Programs) (jobs : ℕ → Job) (period : ℕ) (l : Limits h) (worker : ℕ) (reports : List Report) (calls : List CallEntry) (old new : KitView) : Type 0 where
   pub done : List DoneJob
   pub reported : AreReportsOf worker no_places done reports
@@ -88,6 +90,7 @@ pub record Works {h : ℕ} (peers : Peers) (programs : Programs) (jobs : ℕ →
   pub does : DoesJobs (wanted l) worker (map untimed_job done) calls
   pub did : DidIn old new (deeds_of (all_acts done))
   pub moments : AreMoments period calls (moments_in (deeds_of (all_acts done)))
+  pub leaves : LeavesAlone period (all_acts done)
   pub may : IsTrue new.dialer.exchanges.known → MayAll peers (exchanges_in (deeds_of (all_acts done)))
   pub ran : AllRan programs (all_acts done)
   pub caused : AreCaused reports old new
