@@ -1,11 +1,13 @@
 //! One exchange over a loop.
 
-ghost use Rattle.std.specs.Prelude.{◌≡◌, ◌⊎◌, false, is_some};
+ghost use Rattle.std.specs.Prelude.{◌≡◌, ◌⊎◌, true, false, is_some};
 ghost use Rattle.farm_types.specs.Fits.{RequestFits};
 ghost use Rattle.edge_traits.specs.declared.cause.Cause.{Cause};
+ghost use Rattle.edge_traits.specs.declared.entries.Exchange.{Exchange};
 ghost use Rattle.edge_traits.specs.Told.{SameRelation};
 ghost use Rattle.remote_transfer.specs.declared.answers.Attempt.TheVariants.{Broke};
-ghost use Rattle.remote_transfer.specs.Attempts.{AttemptAdds};
+ghost use Rattle.remote_transfer.specs.Attempts.{AttemptAdds, DialCause};
+ghost use Rattle.loop_link.specs.Exchanges.{IsNext};
 ghost use Rattle.loop_link.specs.Replies.{StationRose};
 ghost use Rattle.loop_link.specs.Dialers.{dialer_state, dialer_shows, station_of, DialerGives};
 
@@ -32,6 +34,8 @@ fn attempt_from<S: Station + Drop, B: Before>(
     ensures unbroken { (c : Cause) → result.1 ≡ Broke c → ((dialer_state dialer).there ≡ false) ⊎ StationRose (station_of S.shows dialer) (station_of S.shows result.0) }
     ensures adds { AttemptAdds (DialerGives S.ran result.0) request.now host.now result.1 (dialer_shows (dialer_state dialer)).exchanges (dialer_shows (dialer_state result.0)).exchanges }
     ensures may_give { SameRelation (DialerGives S.ran dialer) (DialerGives S.ran result.0) }
+    ensures cause { DialCause result.1 (dialer_state dialer).faults (dialer_state result.0).faults }
+    ensures back { (x : Exchange) → IsNext (dialer_state dialer).exchanges (dialer_state result.0).exchanges x → x.dialed ≡ true → (dialer_state result.0).there ≡ true }
 {
     let mut once = Once::<S, B> {
         dialer,
@@ -61,6 +65,10 @@ pub fn attempt_over_loop<S: Station + Drop>(
     ensures unbroken { (c : Cause) → result.1 ≡ Broke c → ((dialer_state dialer).there ≡ false) ⊎ StationRose (station_of S.shows dialer) (station_of S.shows result.0) }
     ensures adds { AttemptAdds (DialerGives S.ran result.0) request.now host.now result.1 (dialer_shows (dialer_state dialer)).exchanges (dialer_shows (dialer_state result.0)).exchanges }
     ensures may_give { SameRelation (DialerGives S.ran dialer) (DialerGives S.ran result.0) }
+
+    // Its count rises where the dial failed, and there alone; and the station is there again after an exchange that was dialed.
+    ensures cause { DialCause result.1 (dialer_state dialer).faults (dialer_state result.0).faults }
+    ensures back { (x : Exchange) → IsNext (dialer_state dialer).exchanges (dialer_state result.0).exchanges x → x.dialed ≡ true → (dialer_state result.0).there ≡ true }
 {
     attempt_from::<S, Brand>(alloc, request, host, dialer)
 }

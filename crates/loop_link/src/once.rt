@@ -46,6 +46,7 @@ pub(crate) struct Once<S: Station, B: Before> {
     ghost faultless: { (x : Exchange) → IsNext B.exchanges dialer.exchanges x → x.faults ≡ 0 },
     ghost unstopped: { (x : Exchange) → IsNext B.exchanges dialer.exchanges x → x.stopped ≡ false },
     ghost away: { (x : Exchange) → IsNext B.exchanges dialer.exchanges x → x.dialed ≡ false → B.there ≡ false },
+    ghost back: { (x : Exchange) → IsNext B.exchanges dialer.exchanges x → x.dialed ≡ true → is_some dialer.held ≡ true },
     ghost rose: { (x : Exchange) → IsNext B.exchanges dialer.exchanges x → IsUnanswered x → station_rose B.station (station_of S.shows dialer) ≡ true },
 }
 

@@ -25,3 +25,7 @@ returns-clause-unbroken g c = λ cause is.
     (once.faultless adds.entry next) (once.unstopped adds.entry next) (once.away adds.entry next) (once.rose adds.entry next) (adds.may refl) cause adds.is.0 in
     subst (λ (s : StationView). (is_some old.held ≡ false) ⊎ StationRose s now) c.requires.station
     (subst (λ (there : Bool). (there ≡ false) ⊎ StationRose before now) c.requires.there result)
+
+pub returns-clause-back : goal.returns-clause-back
+returns-clause-back g c = λ x next dialed.
+    c.attempt-answer.new.dialer.back x (next ∙ ap (λ (list : List Exchange). list ++ x ∷ []) (sym c.requires.exchanges)) dialed

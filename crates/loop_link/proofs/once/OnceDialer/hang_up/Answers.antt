@@ -26,6 +26,7 @@ invariant_of-self g c =
       faultless = λ x next. ap (λ (e : Exchange). e.faults) (same x next);
       unstopped = λ x next. ap (λ (e : Exchange). e.stopped) (same x next);
       away = λ x next undialed. absurd (cc (ap (λ (e : Exchange). e.dialed) (same x next), undialed));
+      back = λ x next dialed. ap (λ s. s.there) c.hang_up.ensures.state;
       rose = λ x next none.
           let is = same x next in
           let end : link.ended ≡ true = sym (ap (λ (e : Exchange). e.ended) is) ∙ none.ended in
