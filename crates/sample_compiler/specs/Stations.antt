@@ -1,10 +1,14 @@
 -- What a run of the compiler leaves at a station.
-use Rattle.std.specs.Prelude.{ℕ, ◌≡◌, ◌∷◌, List, [], Bool, false, map, codes, ◌&&◌, if◌then◌else◌, Option, Some, None}
+use Rattle.std.specs.Prelude.{ℕ, ◌≡◌, ◌∷◌, List, [], Bool, false, length, map, codes, ◌&&◌, if◌then◌else◌, Option, Some, None}
 use Rattle.std.specs.FinMap.{insert}
 use Rattle.std.specs.Str.{bytes_eq}
 use Rattle.farm_types.specs.declared.ran.Ran.{Ran}
 use Rattle.farm_types.specs.declared.placed.Word.{Word}
 use Rattle.farm_types.specs.declared.placed.Word.TheVariants.{Text, Input, Output}
+use Rattle.edge_traits.specs.declared.faults.Stream.{Stream}
+use Rattle.edge_traits.specs.declared.faults.Stream.TheVariants as stream
+use Rattle.edge_traits.specs.declared.faults.StationFault.{StationFault}
+use Rattle.edge_traits.specs.declared.faults.StationFault.TheVariants as fault
 use Rattle.edge_traits.specs.Told.{told}
 use Rattle.edge_traits.specs.Stations.{StationView, has_output}
 use Rattle.file_map.specs.FileMaps.{Files}
@@ -56,6 +60,17 @@ pub record StationRan (files : Files) (words : List Word) (input : List ℕ) (ra
   pub whole : Ran
   pub leaves : LeavesAsked (with_input files input) (asked_by words) whole
   pub left : ran ≡ as_left words (asked_by words) whole
+
+abbrev pub stream_of : Ran → Stream → List ℕ
+stream_of ran stream.Out = ran.out
+stream_of ran stream.Err = ran.err
+stream_of ran stream.Object = ran.object
+
+-- Why a run comes to nothing: what the compiler leaves has a stream of so many bytes, or memory is wanting. None fails.
+abbrev pub RunStops : Files → List Word → List ℕ → StationFault → Type 0
+RunStops files words input fault.Failed = ⊥
+RunStops files words input (fault.TooMuch stream bytes) = (ran : Ran) × StationRan files words input ran × (bytes ≡ length (stream_of ran stream))
+RunStops files words input fault.Memory = Unit {0}
 
 -- ---- the station
 

@@ -1,6 +1,6 @@
 //! The compiler as a station.
 
-ghost use Rattle.std.specs.Prelude.{◌≡◌, ◌<◌, [], map, IfOk, OnOk, OnErr, MatchOption};
+ghost use Rattle.std.specs.Prelude.{◌≡◌, ◌<◌, [], length, map, IfOk, IfSome, OnOk, OnErr, MatchOption};
 ghost use Rattle.edge_traits.specs.Told.{SameRelation3};
 ghost use Rattle.edge_traits.specs.Stations.{IsWithin, bound_of};
 ghost use Rattle.sample_compiler.specs.Stations as stations;
@@ -73,7 +73,8 @@ fn as_left(alloc: Global, words: &[Word], asked: &Option<Task>, mut ran: Ran) ->
 
 // The first stream of a run that is above its bound, with its length.
 fn first_over(ran: &Ran, bounds: &Bounds) -> Option<(Stream, u64)>
-    ensures { MatchOption result (IsWithin bounds.now ran.now) (λ over. bound_of bounds.now over.0 < over.1) }
+    ensures over { MatchOption result (IsWithin bounds.now ran.now) (λ over. bound_of bounds.now over.0 < over.1) }
+    ensures len { IfSome result (λ over. over.1 ≡ length (stations.stream_of ran.now over.0)) }
 {
     if ran.out.len() > bounds.out as usize {
         return Some((Stream::Out, ran.out.len() as u64));
@@ -141,7 +142,10 @@ impl SampleStation {
 }
 
 impl Station for SampleStation {
-    ghost use Rattle.sample_compiler.specs.Stations.{StationRan, station_files, station_shows};
+    ghost use Rattle.std.specs.Prelude.{◌≡◌, ◌≤◌, false, [], IfOk, IfErr, OnOk};
+    ghost use Rattle.edge_traits.specs.Told.{Grew, SameRelation3};
+    ghost use Rattle.edge_traits.specs.Stations.{IsWithin, NoneRose, RunFault, has_output, run_entries};
+    ghost use Rattle.sample_compiler.specs.Stations.{StationRan, RunStops, station_files, station_shows};
 
     ghost shows = { station_shows };
 
@@ -154,7 +158,20 @@ impl Station for SampleStation {
         words: &[Word],
         input: &[u8],
         bounds: &Bounds,
-    ) -> Result<Ran, StationFault> {
+    ) -> Result<Ran, StationFault>
+        ensures within { IfOk result (IsWithin bounds.now) }
+        ensures ran { IfOk result (StationRan (station_files self.new) words.now input.now) }
+        ensures no_object { IfOk result (λ ran. has_output words.now ≡ false → ran.object ≡ []) }
+        ensures same { SameRelation3 (StationRan (station_files self.old)) (StationRan (station_files self.new)) }
+        ensures runs { Grew (station_shows self.old).runs (station_shows self.new).runs (run_entries words.now input.now result) }
+        ensures faults { (station_shows self.old).faults ≤ (station_shows self.new).faults }
+        ensures overruns { (station_shows self.old).overruns ≤ (station_shows self.new).overruns }
+        ensures done { OnOk result (NoneRose (station_shows self.old) (station_shows self.new)) }
+        ensures cause { IfErr result (RunFault bounds.now (station_shows self.old) (station_shows self.new)) }
+
+        // A run that gives too much is one that the compiler leaves, with a stream of just so many bytes.
+        ensures stops { IfErr result (RunStops (station_files self.new) words.now input.now) }
+    {
         let room = Room::new(alloc)?;
         let ran = left(alloc, &mut self.files, words, input)?;
         if let Some((stream, bytes)) = first_over(&ran, bounds) {
