@@ -1,5 +1,5 @@
 -- How names become known one by one, in the order in which they are looked up first.
-use Rattle.std.proofs.Common.{Bool, true, false, ◌≡◌, ⊎_elim, inl, inr, cond, ℕ, List, [], ◌∷◌, ◌++◌, Option, Some, None, refl, ap, sym, ◌∙◌, subst, append_assoc}
+use Rattle.std.proofs.Common.{Bool, true, false, ◌≡◌, ⊎_elim, inl, inr, cond, ℕ, List, [], ◌∷◌, ◌++◌, Some, None, refl, ap, sym, ◌∙◌, subst, append_assoc}
 use Rattle.std.specs.Prelude.{IsTrue, if◌then◌else◌, ◌||◌, ◌⊎◌, nat_eq, is_some}
 use Rattle.std.specs.FinMap.{get, insert, empty, get-empty}
 use Rattle.std.specs.List.{flat_map}
@@ -14,7 +14,7 @@ use Rattle.file_map.specs.FileMaps.{Files}
 use Rattle.sample_compiler.specs.declared.loading.LoadFault.{LoadFault}
 use Rattle.sample_compiler.specs.declared.loading.LoadFault.TheVariants.{Failed, TooMuch, Memory}
 use Rattle.sample_compiler.specs.Lookups.{is_listed}
-use Rattle.sample_compiler.specs.Loads.{entry_of, entry_at, entries_at, unstaged, FetchedFront, LongNamed, OnlyFetched}
+use Rattle.sample_compiler.specs.Loads.{entry_of, entry_at, entries_at, unstaged, FetchedFront, LongNamed, HasAbsent, OverrunsStand, HidesNone, OnlyFetched}
 use Rattle.sample_compiler.specs.declared.task.Task.{Task}
 use Rattle.sample_compiler.specs.Seeking.{is_known, first_unknown, firsts_after, task_names}
 use Rattle.std.specs.Cmp.Lexicographic.{slice_cmp, nat_list_eq_equiv, same_text}
@@ -209,3 +209,34 @@ long_among now names path (TooMuch bytes) listed long = λ told.
     let same : path ≡ one.0 = same_text path one.0 (sym (sym (or_false (bytes_eq path one.0)) ∙ one.1)) in
     (one.0, ap (is_listed names) (sym same) ∙ listed told, one.2)
 long_among now names path Memory listed long = tt
+
+-- ---- overruns
+
+-- a name that is no file
+pub one_absent : (old now : KeeperView) (path : List ℕ) → (IsTrue now.files.known → get now.files.value path ≡ None) → OverrunsStand old now (path ∷ [])
+one_absent old now path none = λ told. inr (record { path = path; listed = or_false (bytes_eq path path) ∙ same_bytes path; absent = none told })
+
+-- one name after others
+pub stands_then : (start before after : KeeperView) (task : Task) (path : List ℕ) → OnlyFetched before after
+    → (IsTrue after.files.known → is_listed (task_names (unstaged after.files.value) task) path ≡ true)
+    → OverrunsStand start before (task_names (unstaged before.files.value) task) → OverrunsStand before after (path ∷ [])
+    → OverrunsStand start after (task_names (unstaged after.files.value) task)
+stands_then start before after task path only listed first last told =
+    ⊎_elim
+    (λ still.
+    ⊎_elim
+    (λ s. inl (s ∙ still))
+    (λ gone.
+    let same : path ≡ gone.path = same_text path gone.path (sym (sym (or_false (bytes_eq path gone.path)) ∙ gone.listed)) in
+    inr (record { path = path; listed = listed told; absent = subst (λ (p : List ℕ). get after.files.value p ≡ None) (sym same) gone.absent }))
+    (last told))
+    (λ gone. inr (subst (λ (files : Files). HasAbsent files (task_names (unstaged files) task)) (sym (only.files.became told)) gone))
+    (first (only.files.known told))
+
+pub hides_then : (start before after : KeeperView) (task : Task) (path : List ℕ) (fault : LoadFault) → OnlyFetched before after
+    → (IsTrue after.files.known → is_listed (task_names (unstaged after.files.value) task) path ≡ true)
+    → OverrunsStand start before (task_names (unstaged before.files.value) task) → HidesNone before after (path ∷ []) fault
+    → HidesNone start after (task_names (unstaged after.files.value) task) fault
+hides_then start before after task path Failed only listed first last = tt
+hides_then start before after task path (TooMuch bytes) only listed first last = tt
+hides_then start before after task path Memory only listed first last = stands_then start before after task path only listed first last

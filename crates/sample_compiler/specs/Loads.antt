@@ -1,5 +1,5 @@
 -- What a load of files leaves, and when it may fail.
-use Rattle.std.specs.Prelude.{ℕ, ◌≡◌, ◌<◌, ◌≤◌, not, true, List, [], ◌∷◌, ◌++◌, length, Option, Some, None, IsTrue}
+use Rattle.std.specs.Prelude.{ℕ, ◌≡◌, ◌⊎◌, ◌<◌, ◌≤◌, not, true, List, [], ◌∷◌, ◌++◌, length, Option, Some, None, IsTrue}
 use Rattle.std.specs.List.{flat_map}
 use Rattle.std.specs.FinMap.{get, retain_keys}
 use Rattle.farm_types.specs.declared.ran.Ran.{Ran}
@@ -78,6 +78,22 @@ abbrev pub LongNamed : KeeperView → List (List ℕ) → LoadFault → Type 0
 LongNamed now names Failed = Unit {0}
 LongNamed now names (TooMuch bytes) = IsTrue now.files.known → (path : List ℕ) × (is_listed names path ≡ true) × HasLength now.files.value path bytes
 LongNamed now names Memory = Unit {0}
+
+-- one of these names is no file
+pub record HasAbsent (files : Files) (names : List (List ℕ)) : Type 0 where
+  pub path : List ℕ
+  pub listed : is_listed names path ≡ true
+  pub absent : get files path ≡ None
+
+-- no overrun rose, unless one of these names is no file
+abbrev pub OverrunsStand : KeeperView → KeeperView → List (List ℕ) → Type 0
+OverrunsStand old now names = IsTrue now.files.known → Still old.overruns now.overruns ⊎ HasAbsent now.files.value names
+
+-- want of memory hides no file that was too long
+abbrev pub HidesNone : KeeperView → KeeperView → List (List ℕ) → LoadFault → Type 0
+HidesNone old now names Failed = Unit {0}
+HidesNone old now names (TooMuch bytes) = Unit {0}
+HidesNone old now names Memory = OverrunsStand old now names
 
 -- ---- what they leave
 

@@ -8,7 +8,7 @@ ghost use Rattle.file_map.specs.FileMaps.{Files};
 ghost use Rattle.sample_compiler.specs.Lookups.{Agrees};
 ghost use Rattle.sample_compiler.specs.Samples.{task_text};
 ghost use Rattle.edge_traits.specs.Keepers.{IsIdle};
-ghost use Rattle.sample_compiler.specs.Loads.{unstaged, AreShort, entry_at, entries_at, names_for, FetchedFront, LongNamed, OnlyFetched, LoadCause, SameRuns};
+ghost use Rattle.sample_compiler.specs.Loads.{unstaged, AreShort, entry_at, entries_at, names_for, FetchedFront, LongNamed, OverrunsStand, HidesNone, OnlyFetched, LoadCause, SameRuns};
 ghost use Rattle.sample_compiler.specs.Seeking.{asked_names, first_unknown, firsts_after, is_known, task_names};
 ghost use Rattle.sample_compiler.specs.Tasks.{task_of};
 
@@ -93,6 +93,8 @@ fn learn<K: Keeper>(
     ensures tried { OnErr result (IsTrue (K.shows keeper.new).files.known
         → FetchedFront (unstaged (K.shows keeper.new).files.value) (path ∷ []) (K.shows keeper.old).fetches (K.shows keeper.new).fetches) }
     ensures named { IfErr result (LongNamed (K.shows keeper.new) (path ∷ [])) }
+    ensures missed { OnOk result (OverrunsStand (K.shows keeper.old) (K.shows keeper.new) (path ∷ [])) }
+    ensures hides { IfErr result (HidesNone (K.shows keeper.old) (K.shows keeper.new) (path ∷ [])) }
     ensures only { OnlyFetched (K.shows keeper.old) (K.shows keeper.new) }
     ensures calm { OnOk result (Still (K.shows keeper.old).faults (K.shows keeper.new).faults) }
     ensures cause { IfErr result (LoadCause (K.shows keeper.old) (K.shows keeper.new)) }
@@ -127,6 +129,7 @@ fn load_task<K: Keeper>(alloc: Global, task: &Task, keeper: &mut K) -> Result<Fi
     ensures tried { OnErr result (IsTrue (K.shows keeper.new).files.known
         → FetchedFront (unstaged (K.shows keeper.new).files.value) (firsts_after [] (task_names (unstaged (K.shows keeper.new).files.value) task.now)) (K.shows keeper.old).fetches (K.shows keeper.new).fetches) }
     ensures named { IfErr result (LongNamed (K.shows keeper.new) (task_names (unstaged (K.shows keeper.new).files.value) task.now)) }
+    ensures hides { IfErr result (HidesNone (K.shows keeper.old) (K.shows keeper.new) (task_names (unstaged (K.shows keeper.new).files.value) task.now)) }
     ensures only { OnlyFetched (K.shows keeper.old) (K.shows keeper.new) }
     ensures calm { OnOk result (Still (K.shows keeper.old).faults (K.shows keeper.new).faults) }
     ensures cause { IfErr result (LoadCause (K.shows keeper.old) (K.shows keeper.new)) }
@@ -158,6 +161,7 @@ pub fn load<K: Keeper>(alloc: Global, words: &Words, keeper: &mut K) -> Result<F
     ensures tried { OnErr result (IsTrue (K.shows keeper.new).files.known
         → FetchedFront (unstaged (K.shows keeper.new).files.value) (names_for (unstaged (K.shows keeper.new).files.value) words.now) (K.shows keeper.old).fetches (K.shows keeper.new).fetches) }
     ensures named { IfErr result (LongNamed (K.shows keeper.new) (asked_names (unstaged (K.shows keeper.new).files.value) (task_of words.now))) }
+    ensures hides { IfErr result (HidesNone (K.shows keeper.old) (K.shows keeper.new) (asked_names (unstaged (K.shows keeper.new).files.value) (task_of words.now))) }
     ensures only { OnlyFetched (K.shows keeper.old) (K.shows keeper.new) }
     ensures calm { OnOk result (Still (K.shows keeper.old).faults (K.shows keeper.new).faults) }
     ensures cause { IfErr result (LoadCause (K.shows keeper.old) (K.shows keeper.new)) }

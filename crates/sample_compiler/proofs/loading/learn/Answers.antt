@@ -5,7 +5,7 @@ use Rattle.std.specs.FinMap.{get}
 use Rattle.arg_scan.specs.Names.{is_reserved}
 use Rattle.sample_compiler.specs.Loads.{unstaged}
 use Rattle.sample_compiler.proofs.LoadLemmas.{get_reserved, get_plain, absent_agrees, there_agrees, one_short}
-use Rattle.sample_compiler.proofs.KnownLemmas.{learned_there, entry_absent, entry_there, front_one, grew_nothing}
+use Rattle.sample_compiler.proofs.KnownLemmas.{learned_there, entry_absent, entry_there, front_one, grew_nothing, one_absent}
 use Rattle.sample_compiler.proofs.loading.learn.Goals as goal
 
 pub returns-then-is_reserved-clause-known : goal.returns-then-is_reserved-clause-known
@@ -68,3 +68,8 @@ returns-in_ok-try_push-in-Err-Absent-clause-fetched g c told =
 
 pub returns-in_ok-try_put-in-Ok-clause-short : goal.returns-in_ok-try_put-in-Ok-clause-short
 returns-in_ok-try_put-in-Ok-clause-short g c short = one_short c.args.known.now.files c.try_put.new.self c.args.path c.in-Ok.content c.in_ok-try_put-in-Ok.ensures.ok c.in-Ok.ensures.whole.within short
+
+pub returns-in_ok-try_push-in-Err-Absent-clause-missed : goal.returns-in_ok-try_push-in-Err-Absent-clause-missed
+returns-in_ok-try_push-in-Err-Absent-clause-missed g c =
+    let cause = rw c.in-Err-Absent.field-0-is at c.in-Err-Absent.ensures.cause in
+    one_absent (g.K.Keeper.shows c.args.keeper.now) (g.K.Keeper.shows c.fetch.new.self) c.args.path cause.absent

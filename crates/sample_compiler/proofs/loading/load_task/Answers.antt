@@ -1,11 +1,11 @@
-use Rattle.std.proofs.Common.{◌≡◌, ◌∙◌, refl, true, IsTrue}
+use Rattle.std.proofs.Common.{◌≡◌, ◌∙◌, inl, refl, true, IsTrue}
 use Rattle.std.proofs.lemmas.Result.{err_from_is_err_and}
 use Rattle.sample_compiler.specs.Lookups.{is_listed}
 use Rattle.sample_compiler.specs.Seeking.{task_names}
 use Rattle.sample_compiler.specs.Loads.{unstaged}
 use Rattle.sample_compiler.proofs.LoadLemmas.{nothing_agrees, none_short}
 use Rattle.sample_compiler.proofs.Fetching.{only_none, only_then, cause_then, agrees_on, agrees_then}
-use Rattle.sample_compiler.proofs.KnownLemmas.{nothing_loaded, loading_on, loading_more, loading_done, loading_failed, long_among, next_listed}
+use Rattle.sample_compiler.proofs.KnownLemmas.{nothing_loaded, loading_on, loading_more, loading_done, loading_failed, long_among, next_listed, stands_then, hides_then}
 use Rattle.sample_compiler.proofs.loading.load_task.Goals as goal
 
 pub loop-turn-init : goal.loop-turn-init
@@ -14,6 +14,7 @@ loop-turn-init g c = record {
   calm = refl;
   agrees = λ told. nothing_agrees c.new.result (unstaged (g.K.Keeper.shows c.args.keeper.now).files.value) c.new-2.result c.new.ensures c.new-2.ensures;
   short = none_short c.new.result c.new.ensures;
+  stands = λ told. inl refl;
   loading = λ told. nothing_loaded (unstaged (g.K.Keeper.shows c.args.keeper.now).files.value) c.new.result c.new-2.result (task_names (unstaged (g.K.Keeper.shows c.args.keeper.now).files.value) c.args.task.now) (g.K.Keeper.shows c.args.keeper.now).fetches c.new.ensures c.new-2.ensures;
 }
 
@@ -60,6 +61,18 @@ returns-in_err-learn-in-Some-clause-named g c =
     next_listed c.loop-turn.known.files c.loop-turn.known.absent (task_names files c.args.task.now) c.in-Some.path (rw c.in-Some.is at (c.in_ok-path.ensures.first files agrees)) in
     rw (p.1, p.2) (long_among after (task_names files c.args.task.now) c.in-Some.path c.in_err-learn-in-Some.field-0.0 listed c.in_err-learn-in-Some.ensures.named)
 
+pub returns-in_err-learn-in-Some-clause-hides : goal.returns-in_err-learn-in-Some-clause-hides
+returns-in_err-learn-in-Some-clause-hides g c =
+    let p = err_from_is_err_and c.from_residual-in_err-learn-in-Some.result c.from_residual-in_err-learn-in-Some.ensures.1 in
+    let start = g.K.Keeper.shows c.args.keeper.now in
+    let before = g.K.Keeper.shows c.loop-turn.keeper in
+    let after = g.K.Keeper.shows c.learn.new.keeper in
+    let files = unstaged after.files.value in
+    let listed : IsTrue after.files.known → is_listed (task_names files c.args.task.now) c.in-Some.path ≡ true = λ told.
+    let agrees = agrees_on before after c.loop-turn.known.files c.loop-turn.known.absent c.learn.ensures.only told (c.loop-turn.invariant.agrees (c.learn.ensures.only.files.known told)) in
+    next_listed c.loop-turn.known.files c.loop-turn.known.absent (task_names files c.args.task.now) c.in-Some.path (rw c.in-Some.is at (c.in_ok-path.ensures.first files agrees)) in
+    rw (p.1, p.2) (hides_then start before after c.args.task.now c.in-Some.path c.in_err-learn-in-Some.field-0.0 c.learn.ensures.only listed c.loop-turn.invariant.stands c.in_err-learn-in-Some.ensures.hides)
+
 pub loop-turn-preserved : goal.loop-turn-preserved
 loop-turn-preserved g c =
     let start = g.K.Keeper.shows c.args.keeper.now in
@@ -70,6 +83,12 @@ loop-turn-preserved g c =
       calm = c.in_ok-learn-in-Some.ensures.calm ∙ c.loop-turn.invariant.calm;
       agrees = agrees_then before after c.loop-turn.known.files c.learn.new.known.files c.loop-turn.known.absent c.learn.new.known.absent c.learn.ensures.only c.loop-turn.invariant.agrees c.in_ok-learn-in-Some.ensures.known;
       short = c.in_ok-learn-in-Some.ensures.short c.loop-turn.invariant.short;
+      stands = stands_then start before after c.args.task.now c.in-Some.path c.learn.ensures.only
+          (λ told.
+          let files = unstaged after.files.value in
+          let agrees = agrees_on before after c.loop-turn.known.files c.loop-turn.known.absent c.learn.ensures.only told (c.loop-turn.invariant.agrees (c.learn.ensures.only.files.known told)) in
+          next_listed c.loop-turn.known.files c.loop-turn.known.absent (task_names files c.args.task.now) c.in-Some.path (rw c.in-Some.is at (c.in_ok-path.ensures.first files agrees)))
+          c.loop-turn.invariant.stands c.in_ok-learn-in-Some.ensures.missed;
       loading = λ told.
           let files = unstaged after.files.value in
           let earlier = c.learn.ensures.only.files.known told in

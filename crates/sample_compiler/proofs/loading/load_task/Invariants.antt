@@ -1,7 +1,7 @@
 use Rattle.std.proofs.Common.{false, IsTrue}
 use Rattle.edge_traits.specs.Causes.{Still}
 use Rattle.sample_compiler.specs.Lookups.{Agrees}
-use Rattle.sample_compiler.specs.Loads.{unstaged, AreShort, OnlyFetched}
+use Rattle.sample_compiler.specs.Loads.{unstaged, AreShort, OnlyFetched, OverrunsStand}
 use Rattle.sample_compiler.specs.Seeking.{task_names}
 use Rattle.sample_compiler.proofs.KnownLemmas.{Loading}
 use Rattle.sample_compiler.proofs.loading.load_task.Given as goal
@@ -12,6 +12,7 @@ invariant-loop-turn g l = record {
   calm : Still (g.K.Keeper.shows l.fn.keeper).faults (g.K.Keeper.shows l.keeper).faults;
   agrees : IsTrue (g.K.Keeper.shows l.keeper).files.known → Agrees l.known.files l.known.absent false (unstaged (g.K.Keeper.shows l.keeper).files.value);
   short : AreShort l.known.files;
+  stands : OverrunsStand (g.K.Keeper.shows l.fn.keeper) (g.K.Keeper.shows l.keeper) (task_names (unstaged (g.K.Keeper.shows l.keeper).files.value) l.task);
   loading : IsTrue (g.K.Keeper.shows l.keeper).files.known
       → Loading (unstaged (g.K.Keeper.shows l.keeper).files.value) l.known.files l.known.absent (task_names (unstaged (g.K.Keeper.shows l.keeper).files.value) l.task) (g.K.Keeper.shows l.fn.keeper).fetches (g.K.Keeper.shows l.keeper).fetches;
 }
