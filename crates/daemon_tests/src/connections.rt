@@ -1,19 +1,17 @@
 //! The connections of doors, one after the other at each, and their log.
 
-use crate::scripts::{links, numbers};
+use crate::scripts::{REQUEST, door};
 use access_list::{AccessList, RuleVec, parse_rule};
 use daemon_service::{Compiler, CompilerVec, Compilers, Served};
 use daemon_worker::{DaemonConfig, DoorKit, Entry, Met, serve};
-use edge_memory::{LinkScripts, MemDoor, MemStation, Peers, RanList};
+use edge_memory::{MemDoor, MemStation, RanList};
 use edge_traits::CallNumbers;
 use farm_types::{Bytes, Items, Ran};
-use std::alloc::Global;
+use std::alloc::{AllocError, Global};
+use std::process::Abort;
 use std::test::Fail;
 use std::thread::Threads;
 use wire_tokens::RequestFault;
-
-const REQUEST: &[u8] =
-    b"DIST00000001ARGC00000005ARGV00000003sccARGV00000002-cARGV00000003a.iARGV00000002-oARGV00000003a.oDOTI0000000bint a = 1;\n";
 
 const CUT: &[u8] = b"DIST00000001ARGC00000001ARGV00000003sc";
 
@@ -24,6 +22,13 @@ const HERE: u32 = 2_130_706_433;
 
 const ANSWERED: Met = Met::Served(Served::Answered(0));
 
+// The first connection of the first door.
+const FIRST: Entry = Entry {
+    door: 1,
+    number: 1,
+    what: ANSWERED,
+};
+
 // What the links of a door give, their peers, and which accepts fail.
 struct Side {
     gives: &'static [&'static [u8]],
@@ -31,13 +36,36 @@ struct Side {
     fails: &'static [u64],
 }
 
+#[derive(Drop)]
 struct Row {
     doors: &'static [Side],
     serve: u32,
     // Each with whether it lets peers in.
     rules: &'static [(bool, &'static str)],
-    log: &'static [(u32, u32, Met)],
+    log: &'static [Entry],
 }
+
+// The first of two peers is let in, the second is denied.
+const SECOND_DENIED: Row = Row {
+    doors: &[Side {
+        gives: &[REQUEST, REQUEST],
+        peers: &[NEAR, HERE],
+        fails: &[],
+    }],
+    serve: 2,
+    rules: &[(true, "10.0.0.0/8"), (false, "0.0.0.0/0")],
+    log: &[
+        FIRST,
+        Entry {
+            door: 1,
+            number: 2,
+            what: Met::Denied {
+                addr: HERE,
+                rule: Some(2),
+            },
+        },
+    ],
+};
 
 const ROWS: &[Row] = &[
     Row {
@@ -48,7 +76,7 @@ const ROWS: &[Row] = &[
         }],
         serve: 1,
         rules: &[],
-        log: &[(1, 1, ANSWERED)],
+        log: &[FIRST],
     },
     Row {
         doors: &[
@@ -66,40 +94,33 @@ const ROWS: &[Row] = &[
         serve: 3,
         rules: &[],
         log: &[
-            (1, 1, ANSWERED),
-            (
-                1,
-                2,
-                Met::Served(Served::Refused {
+            FIRST,
+            Entry {
+                door: 1,
+                number: 2,
+                what: Met::Served(Served::Refused {
                     at: 11,
                     fault: RequestFault::BadVersion { n: 2 },
                 }),
-            ),
-            (1, 3, Met::Served(Served::Cut { have: 0 })),
-            (2, 1, Met::Served(Served::Cut { have: 38 })),
-            (2, 2, Met::DoorFault),
+            },
+            Entry {
+                door: 1,
+                number: 3,
+                what: Met::Served(Served::Cut { have: 0 }),
+            },
+            Entry {
+                door: 2,
+                number: 1,
+                what: Met::Served(Served::Cut { have: 38 }),
+            },
+            Entry {
+                door: 2,
+                number: 2,
+                what: Met::DoorFault,
+            },
         ],
     },
-    Row {
-        doors: &[Side {
-            gives: &[REQUEST, REQUEST],
-            peers: &[NEAR, HERE],
-            fails: &[],
-        }],
-        serve: 2,
-        rules: &[(true, "10.0.0.0/8"), (false, "0.0.0.0/0")],
-        log: &[
-            (1, 1, ANSWERED),
-            (
-                1,
-                2,
-                Met::Denied {
-                    addr: HERE,
-                    rule: Some(2),
-                },
-            ),
-        ],
-    },
+    SECOND_DENIED,
     Row {
         doors: &[Side {
             gives: &[REQUEST, REQUEST],
@@ -109,40 +130,54 @@ const ROWS: &[Row] = &[
         serve: 2,
         rules: &[(true, "10.0.0.0/8")],
         log: &[
-            (
-                1,
-                1,
-                Met::Denied {
+            Entry {
+                door: 1,
+                number: 1,
+                what: Met::Denied {
                     addr: HERE,
                     rule: None,
                 },
-            ),
-            (1, 2, ANSWERED),
+            },
+            Entry {
+                door: 1,
+                number: 2,
+                what: ANSWERED,
+            },
         ],
     },
 ];
 
-fn kit(alloc: Global, side: &Side) -> Result<DoorKit<MemDoor, MemStation>, Fail> {
-    let mut peers = Peers::new(alloc);
-    for peer in side.peers {
-        peers.try_push(*peer)?;
-    }
-    let fails = numbers(alloc, side.fails)?;
+// A station whose first run leaves nothing.
+fn station(alloc: Global) -> Result<MemStation, AllocError> {
     let mut rans = RanList::new(alloc);
     rans.try_push(Ran::nothing(alloc))?;
-    Ok(DoorKit {
-        door: MemDoor::new(alloc, links(alloc, side.gives)?, peers, fails),
-        station: MemStation::new(rans, CallNumbers::new(alloc)),
-    })
+    Ok(MemStation::new(rans, CallNumbers::new(alloc)))
 }
 
-// What is served by: the compiler `scc`, and these rules.
-fn config(alloc: Global, count: u32, rules: &[(bool, &str)]) -> Result<DaemonConfig, Fail> {
+fn kit(alloc: Global, side: &Side) -> Result<DoorKit<MemDoor, MemStation>, AllocError> {
+    let station = station(alloc)?;
+    let door = door(alloc, side.gives, side.peers, side.fails)?;
+    Ok(DoorKit { door, station })
+}
+
+fn kits(alloc: Global, sides: &[Side]) -> Result<Vec<DoorKit<MemDoor, MemStation>>, AllocError> {
+    let mut doors = Vec::new(alloc);
+    for side in sides {
+        doors.push(kit(alloc, side)?)?;
+    }
+    Ok(doors)
+}
+
+// The compiler `scc` alone.
+fn table(alloc: Global) -> Result<Compilers, AllocError> {
+    let name = Bytes::from_slice(alloc, b"scc")?;
+    let program = name.copy()?;
     let mut rows = CompilerVec::new(alloc);
-    rows.try_push(Compiler {
-        name: Bytes::from_slice(alloc, b"scc")?,
-        program: Bytes::from_slice(alloc, b"scc")?,
-    })?;
+    rows.try_push(Compiler { name, program })?;
+    Ok(Compilers { rows })
+}
+
+fn access(alloc: Global, rules: &[(bool, &str)]) -> Result<AccessList, Fail> {
     let mut list = RuleVec::new(alloc);
     for (allow, text) in rules {
         match parse_rule(*allow, text.as_bytes()) {
@@ -150,20 +185,18 @@ fn config(alloc: Global, count: u32, rules: &[(bool, &str)]) -> Result<DaemonCon
             Err(_) => return Err("the rule is right".into()),
         }
     }
-    let config = DaemonConfig {
-        table: Compilers { rows },
-        serve: count,
-        access: AccessList { rules: list },
-    };
-    Ok(config)
+    Ok(AccessList { rules: list })
 }
 
-fn kits(alloc: Global, row: &Row) -> Result<Vec<DoorKit<MemDoor, MemStation>>, Fail> {
-    let mut doors = Vec::new(alloc);
-    for side in row.doors {
-        doors.push(kit(alloc, side)?)?;
-    }
-    Ok(doors)
+// What is served by: the compiler `scc`, and these rules.
+fn config(alloc: Global, serve: u32, rules: &[(bool, &str)]) -> Result<DaemonConfig, Fail> {
+    let access = access(alloc, rules)?;
+    let table = table(alloc)?;
+    Ok(DaemonConfig {
+        table,
+        serve,
+        access,
+    })
 }
 
 // Serves the doors, and answers the log.
@@ -182,79 +215,117 @@ fn served<R: Threads + Sync>(
     Ok(serve(rt, alloc, doors, config)?)
 }
 
+// Serves these doors by so many connections at most and these rules, and compares the log.
+fn expect<R: Abort + Threads + Sync>(
+    rt: &R,
+    alloc: Global,
+    doors: &mut Vec<DoorKit<MemDoor, MemStation>>,
+    row: &Row,
+) -> Result<(), Fail> {
+    let config = config(alloc, row.serve, row.rules)?;
+    let log = served(rt, alloc, doors, &config)?;
+    assert_eq!(rt; log.as_slice(), row.log);
+    Ok(())
+}
+
+fn expect_rows<R: Abort + Threads + Sync>(rt: &R, alloc: Global, rows: &[Row]) -> Result<(), Fail> {
+    for row in rows {
+        let mut doors = kits(alloc, row.doors)?;
+        expect(rt, alloc, &mut doors, row)?;
+    }
+    Ok(())
+}
+
 #[test]
 fn logs(rt: HostRuntime) -> Result<(), Fail> {
-    let alloc = rt.alloc();
-    for row in ROWS {
-        let mut doors = kits(alloc, row)?;
-        let config = config(alloc, row.serve, row.rules)?;
-        let log = served(&rt, alloc, &mut doors, &config)?;
-        assert_eq!(rt; log.len(), row.log.len());
-        for (at, (door, number, what)) in row.log.iter().enumerate() {
-            let wanted = Entry {
-                door: *door,
-                number: *number,
-                what: *what,
-            };
-            assert_eq!(rt; log.get(at).copied(), Some(wanted), "entry {at}");
-        }
-    }
+    expect_rows(&rt, rt.alloc(), ROWS)
+}
+
+// Over the last visit of a door nothing passed.
+fn expect_silent<R: Abort>(rt: &R, door: MemDoor) {
+    let last = door.into_visits().take_last();
+    let silent = match &last {
+        Some(visit) => visit.given.is_empty() && visit.sent.is_empty(),
+        None => false,
+    };
+    assert!(rt; silent);
+}
+
+fn expect_one_run<R: Abort>(rt: &R, alloc: Global, station: MemStation) -> Result<(), AllocError> {
+    let runs = station.into_runs().into_items(alloc)?;
+    assert_eq!(rt; runs.len(), 1);
     Ok(())
 }
 
-// The first of two peers is let in, the second is denied: over its link nothing passed, and nothing was run for it.
+// Over the link of a denied peer nothing passed, and nothing was run for it.
+fn expect_one_served<R: Abort>(
+    rt: &R,
+    alloc: Global,
+    doors: &mut Vec<DoorKit<MemDoor, MemStation>>,
+) -> Result<(), Fail> {
+    match doors.pop() {
+        Some(kit) => {
+            expect_silent(rt, kit.door);
+            Ok(expect_one_run(rt, alloc, kit.station)?)
+        }
+        None => Err("the kit is back".into()),
+    }
+}
+
 #[test]
 fn a_denied_peer_is_left_at_once(rt: HostRuntime) -> Result<(), Fail> {
-    let alloc = rt.alloc();
-    let mut doors = kits(alloc, &ROWS[2])?;
-    let config = config(alloc, 2, ROWS[2].rules)?;
-    let _log = served(&rt, alloc, &mut doors, &config)?;
-    let Some(DoorKit { door, station }) = doors.pop() else {
-        return Err("the kit is back".into());
-    };
-    let mut visits = door.into_visits();
-    let Some(denied) = visits.take_last() else {
-        return Err("there is a visit".into());
-    };
-    assert!(rt; denied.given.is_empty() && denied.sent.is_empty());
-    let mut runs = station.into_runs();
-    assert!(rt; runs.take_last().is_some());
-    assert!(rt; runs.take_last().is_none());
+    let mut doors = kits(rt.alloc(), SECOND_DENIED.doors)?;
+    expect(&rt, rt.alloc(), &mut doors, &SECOND_DENIED)?;
+    expect_one_served(&rt, rt.alloc(), &mut doors)
+}
+
+// Sixteen doors, of which the twelfth fails at its first accept.
+fn sixteen_kits(alloc: Global) -> Result<Vec<DoorKit<MemDoor, MemStation>>, AllocError> {
+    let mut doors = Vec::new(alloc);
+    for at in 0..16 {
+        let side = if at == 11 { &BROKEN } else { &PLAIN };
+        doors.push(kit(alloc, side)?)?;
+    }
+    Ok(doors)
+}
+
+const PLAIN: Side = Side {
+    gives: &[REQUEST],
+    peers: &[],
+    fails: &[],
+};
+
+const BROKEN: Side = Side {
+    gives: &[],
+    peers: &[],
+    fails: &[1],
+};
+
+fn expect_log_of_sixteen<R: Abort>(rt: &R, log: &[Entry]) {
+    assert_eq!(rt; log.len(), 31);
+    assert_eq!(rt; log.get(22), Some(&FAULT));
+    assert_eq!(rt; log.get(30), Some(&LAST));
+}
+
+// Each with two connections: the kits are back in their order, and so are the entries.
+#[test]
+fn sixteen_doors(rt: HostRuntime) -> Result<(), Fail> {
+    let config = config(rt.alloc(), 2, &[])?;
+    let mut doors = sixteen_kits(rt.alloc())?;
+    let log = served(&rt, rt.alloc(), &mut doors, &config)?;
+    assert_eq!(rt; doors.len(), 16);
+    expect_log_of_sixteen(&rt, log.as_slice());
     Ok(())
 }
 
-// Sixteen doors, each with two connections: the kits are back in their order, and so are the entries.
-#[test]
-fn sixteen_doors(rt: HostRuntime) -> Result<(), Fail> {
-    let alloc = rt.alloc();
-    let mut doors = Vec::new(alloc);
-    for at in 0..16 {
-        let mut kit = kit(alloc, &ROWS[0].doors[0])?;
-        if at == 11 {
-            kit.door = MemDoor::new(
-                alloc,
-                LinkScripts::new(alloc),
-                Peers::new(alloc),
-                numbers(alloc, &[1])?,
-            );
-        }
-        doors.push(kit)?;
-    }
-    let config = config(alloc, 2, &[])?;
-    let log = served(&rt, alloc, &mut doors, &config)?;
-    assert_eq!(rt; doors.len(), 16);
-    assert_eq!(rt; log.len(), 31);
-    let fault = Entry {
-        door: 12,
-        number: 1,
-        what: Met::DoorFault,
-    };
-    assert_eq!(rt; log.get(22).copied(), Some(fault));
-    let last = Entry {
-        door: 16,
-        number: 2,
-        what: Met::Served(Served::Cut { have: 0 }),
-    };
-    assert_eq!(rt; log.get(30).copied(), Some(last));
-    Ok(())
-}
+const FAULT: Entry = Entry {
+    door: 12,
+    number: 1,
+    what: Met::DoorFault,
+};
+
+const LAST: Entry = Entry {
+    door: 16,
+    number: 2,
+    what: Met::Served(Served::Cut { have: 0 }),
+};

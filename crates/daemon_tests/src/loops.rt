@@ -3,22 +3,17 @@
 ghost use Rattle.std.specs.Prelude.{IfOk};
 ghost use Rattle.loop_link.specs.Replies.{AreOwnNames};
 
+use crate::scripts::{REPLY, REQUEST};
 use daemon_service::{Compiler, CompilerVec, Compilers};
 use edge_memory::{MemStation, RanList};
-use edge_traits::{CallNumbers, Cause, Dialer, EdgeFault, Link};
+use edge_traits::{CallNumbers, Cause, Dialer, EdgeFault, Link, Station};
 use farm_types::{Bytes, Host, HostName, Ran, Request, Words};
 use loop_link::{LoopDialer, attempt_over_loop};
 use remote_transfer::Attempt;
-use std::alloc::Global;
+use std::alloc::{AllocError, Global};
 use std::test::Fail;
 
-const REQUEST: [u8; 120] =
-    *b"DIST00000001ARGC00000005ARGV00000003sccARGV00000002-cARGV00000003a.iARGV00000002-oARGV00000003a.oDOTI0000000bint a = 1;\n";
-
-const REPLY: [u8; 73] =
-    *b"DONE00000001STAT00000000SERR00000000SOUT00000000DOTO0000000dSCO1\ndef a 1\n";
-
-fn table(alloc: Global) -> Result<Compilers, Fail>
+fn table(alloc: Global) -> Result<Compilers, AllocError>
     ensures { IfOk result (λ table. AreOwnNames table.rows) }
 {
     let name = Bytes::from_slice(alloc, b"scc")?;
@@ -28,26 +23,45 @@ fn table(alloc: Global) -> Result<Compilers, Fail>
     Ok(Compilers { rows })
 }
 
-// A station whose one run leaves the object of the reply, or fails.
-fn station(alloc: Global, fails: bool) -> Result<MemStation, Fail> {
-    let mut rans = RanList::new(alloc);
-    rans.try_push(Ran {
+// The run of a station that leaves the object of the reply.
+fn ran(alloc: Global) -> Result<Ran, AllocError> {
+    let object = Bytes::from_slice(alloc, b"SCO1\ndef a 1\n")?;
+    Ok(Ran {
         status: 0,
         out: Bytes::new(alloc),
         err: Bytes::new(alloc),
-        object: Bytes::from_slice(alloc, b"SCO1\ndef a 1\n")?,
-    })?;
+        object,
+    })
+}
+
+fn first_call(alloc: Global) -> Result<CallNumbers, AllocError> {
     let mut numbers = CallNumbers::new(alloc);
-    if fails {
-        numbers.try_push(1)?;
-    }
+    numbers.try_push(1)?;
+    Ok(numbers)
+}
+
+// A station whose one run leaves the object of the reply, or fails.
+fn station(alloc: Global, fails: bool) -> Result<MemStation, AllocError> {
+    let numbers = if fails {
+        first_call(alloc)?
+    } else {
+        CallNumbers::new(alloc)
+    };
+    let mut rans = RanList::new(alloc);
+    rans.try_push(ran(alloc)?)?;
     Ok(MemStation::new(rans, numbers))
 }
 
-fn host(alloc: Global) -> Result<HostName, Fail> {
-    Ok(HostName {
-        text: Bytes::from_slice(alloc, b"loop")?,
-    })
+// A loop to such a station.
+fn dialer(alloc: Global, fails: bool) -> Result<LoopDialer<MemStation>, AllocError> {
+    let table = table(alloc)?;
+    let station = station(alloc, fails)?;
+    Ok(LoopDialer::new(station, table))
+}
+
+fn host(alloc: Global) -> Result<HostName, AllocError> {
+    let text = Bytes::from_slice(alloc, b"loop")?;
+    Ok(HostName { text })
 }
 
 // Sends this, and receives until the end through a small room.
@@ -79,8 +93,8 @@ fn assert_sent(sent: Result<usize, EdgeFault>, len: usize) -> Result<(), Fail> {
 
 // What is sent, whether the station's run fails, and what the link gives until its end.
 const GIVEN: &[(&[u8], bool, &[u8])] = &[
-    (&REQUEST, false, &REPLY),
-    (&REQUEST, true, b""),
+    (REQUEST, false, REPLY),
+    (REQUEST, true, b""),
     (b"DIST00000002", false, b""),
     (
         b"DIST00000001ARGC00000001ARGV00000003gccDOTI00000000",
@@ -89,39 +103,73 @@ const GIVEN: &[(&[u8], bool, &[u8])] = &[
     ),
 ];
 
+// What a link of this dialer gives where this is sent.
+fn given_by<D: Dialer + Drop>(alloc: Global, mut dialer: D, sends: &[u8]) -> Result<Bytes, Fail> {
+    let host = host(alloc)?;
+    let Ok(mut link) = dialer.dial(alloc, &host, 3632) else {
+        return Err("the station is there".into());
+    };
+    let given = exchange(alloc, &mut link, sends);
+    dialer.hang_up(link);
+    given
+}
+
+// The same of a new loop, whose station's run may fail.
+fn given_over(alloc: Global, fails: bool, sends: &[u8]) -> Result<Bytes, Fail> {
+    given_by(alloc, dialer(alloc, fails)?, sends)
+}
+
 #[test]
 fn what_a_loop_gives(rt: HostRuntime) -> Result<(), Fail> {
-    let alloc = rt.alloc();
     for (sends, fails, gives) in GIVEN {
-        let mut dialer = LoopDialer::new(station(alloc, *fails)?, table(alloc)?);
-        let Ok(mut link) = dialer.dial(alloc, &host(alloc)?, 3632) else {
-            return Err("the station is there".into());
-        };
-        let given = exchange(alloc, &mut link, sends)?;
-        dialer.hang_up(link);
+        let given = given_over(rt.alloc(), *fails, sends)?;
         assert_eq!(rt; given.as_slice(), *gives);
     }
     Ok(())
 }
 
-// The request whose text is above.
-fn request(alloc: Global) -> Result<Request, Fail> {
-    let words: [&[u8]; 5] = [b"scc", b"-c", b"a.i", b"-o", b"a.o"];
-    let mut list = Words::new(alloc);
-    for word in words {
-        list.try_push(Bytes::from_slice(alloc, word)?)?;
+fn words(alloc: Global, list: &[&[u8]]) -> Result<Words, AllocError> {
+    let mut words = Words::new(alloc);
+    for word in list {
+        words.try_push(Bytes::from_slice(alloc, word)?)?;
     }
-    Ok(Request {
-        words: list,
-        source: Bytes::from_slice(alloc, b"int a = 1;\n")?,
-    })
+    Ok(words)
 }
 
-// One attempt, and the dialer back.
-fn attempt_by(
+// The request whose text is above.
+fn request(alloc: Global) -> Result<Request, AllocError> {
+    let words = words(alloc, &[b"scc", b"-c", b"a.i", b"-o", b"a.o"])?;
+    let source = Bytes::from_slice(alloc, b"int a = 1;\n")?;
+    Ok(Request { words, source })
+}
+
+// One attempt over this loop, where the request fits and the host is a remote one.
+fn attempt_by<S: Station + Drop>(
     alloc: Global,
-    dialer: LoopDialer<MemStation>,
-) -> Result<(LoopDialer<MemStation>, Attempt), Fail> {
+    request: &Request,
+    host: &Host,
+    dialer: LoopDialer<S>,
+) -> Option<Attempt> {
+    if request.fits() && !host.local {
+        let (_, answer) = attempt_over_loop(alloc, request, host, dialer);
+        Some(answer)
+    } else {
+        None
+    }
+}
+
+// Why the exchange was broken, where it was.
+fn cause_of(answer: Option<Attempt>) -> Result<Option<Cause>, Fail> {
+    match answer {
+        Some(Attempt::Whole(_)) => Ok(None),
+        Some(Attempt::Broke(cause)) => Ok(Some(cause)),
+        Some(Attempt::Memory { .. }) => Err("memory lasts".into()),
+        None => Err("the request fits".into()),
+    }
+}
+
+// The same of an exchange over a new loop, whose station's run may fail.
+fn cause_over(alloc: Global, fails: bool) -> Result<Option<Cause>, Fail> {
     let request = request(alloc)?;
     let host = Host {
         name: host(alloc)?,
@@ -129,30 +177,12 @@ fn attempt_by(
         limit: 4,
         local: false,
     };
-    if !request.fits() {
-        return Err("the request fits".into());
-    }
-    Ok(attempt_over_loop(alloc, &request, &host, dialer))
-}
-
-// Why the exchange was broken, where it was.
-fn cause_of(answer: Attempt) -> Result<Option<Cause>, Fail> {
-    match answer {
-        Attempt::Whole(_) => Ok(None),
-        Attempt::Broke(cause) => Ok(Some(cause)),
-        Attempt::Memory { .. } => Err("memory lasts".into()),
-    }
-}
-
-// The same of an exchange over a new loop, whose station's run may fail.
-fn cause_over(alloc: Global, fails: bool) -> Result<Option<Cause>, Fail> {
-    let dialer = LoopDialer::new(station(alloc, fails)?, table(alloc)?);
-    let (_, answer) = attempt_by(alloc, dialer)?;
-    cause_of(answer)
+    let dialer = dialer(alloc, fails)?;
+    cause_of(attempt_by(alloc, &request, &host, dialer))
 }
 
 // How a second dial goes while the first one's link is out.
-fn second_dial<D: Dialer>(alloc: Global, dialer: &mut D) -> Result<EdgeFault, Fail> {
+fn second_dial<D: Dialer + Drop>(alloc: Global, mut dialer: D) -> Result<EdgeFault, Fail> {
     let host = host(alloc)?;
     let Ok(link) = dialer.dial(alloc, &host, 3632) else {
         return Err("the station is there".into());
@@ -172,11 +202,9 @@ fn second_dial<D: Dialer>(alloc: Global, dialer: &mut D) -> Result<EdgeFault, Fa
 fn how_exchanges_go(rt: HostRuntime) -> Result<(), Fail> {
     let alloc = rt.alloc();
     assert_eq!(rt; cause_over(alloc, false)?, None);
-    assert_eq!(rt;
-        cause_over(alloc, true)?,
-        Some(Cause::Truncated { have: 0 })
-    );
-    let mut dialer = LoopDialer::new(station(alloc, false)?, table(alloc)?);
-    assert_eq!(rt; second_dial(alloc, &mut dialer)?, EdgeFault::Failed);
+    let cut = Some(Cause::Truncated { have: 0 });
+    assert_eq!(rt; cause_over(alloc, true)?, cut);
+    let second = second_dial(alloc, dialer(alloc, false)?)?;
+    assert_eq!(rt; second, EdgeFault::Failed);
     Ok(())
 }

@@ -1,17 +1,17 @@
 //! Rows of the program `farmd`.
 
-use crate::scripts::{links, numbers};
+ghost use Rattle.std.specs.Prelude.{◌≡◌, false, IfOk};
+ghost use Rattle.edge_memory.specs.Sinks.{sink_state, sink_shows};
+
+use crate::scripts::{REQUEST, door, numbers};
 use daemon_program::farmd;
 use daemon_worker::DoorKit;
-use edge_memory::{GateStation, MemDoor, MemSink, MemStation, Moves, Peers, RanList};
+use edge_memory::{GateStation, MemDoor, MemSink, MemStation, Moves, RanList};
 use edge_traits::{CallNumbers, Station};
-use farm_types::{Bytes, Ran};
-use std::alloc::Global;
+use std::alloc::{AllocError, Global};
+use std::process::Abort;
 use std::test::Fail;
 use std::thread::Threads;
-
-const REQUEST: &[u8] =
-    b"DIST00000001ARGC00000005ARGV00000003sccARGV00000002-cARGV00000003a.iARGV00000002-oARGV00000003a.oDOTI0000000bint a = 1;\n";
 
 const OTHER: &[u8] =
     b"DIST00000001ARGC00000005ARGV00000003gccARGV00000002-cARGV00000003a.iARGV00000002-oARGV00000003a.oDOTI0000000bint a = 1;\n";
@@ -23,7 +23,8 @@ const NEAR: u32 = 167_838_211;
 
 const HERE: u32 = 2_130_706_433;
 
-// What the doors' links give, one list for each door, and from which peers; which accepts and runs fail; what is printed.
+// What the doors' links give, one list for each door, and from which peers; which accepts and runs fail; which writes of the
+// output take nothing; what is printed.
 #[derive(Drop)]
 struct Row {
     words: &'static [&'static str],
@@ -31,6 +32,7 @@ struct Row {
     peers: &'static [u32],
     accepts_fail: &'static [u64],
     runs_fail: &'static [u64],
+    zeros: &'static [u64],
     out: &'static str,
     status: u8,
 }
@@ -41,8 +43,24 @@ const ONE: Row = Row {
     peers: &[],
     accepts_fail: &[],
     runs_fail: &[],
+    zeros: &[],
     out: "door 1 conn 1 answered 00000000\n",
     status: 0,
+};
+
+// Fewer doors than jobs.
+const TWO_DOORS: Row = Row {
+    words: &["--compiler", "scc=scc", "--serve", "2"],
+    doors: &[&[REQUEST, CUT], &[CUT, REQUEST]],
+    out: "door 1 conn 1 answered 00000000\ndoor 1 conn 2 cut 38\ndoor 2 conn 1 cut 38\ndoor 2 conn 2 answered 00000000\n",
+    ..ONE
+};
+
+const NO_NUMBER: Row = Row {
+    words: &["--jobs"],
+    out: "farmd: bad words at word 1\n",
+    status: 101,
+    ..ONE
 };
 
 const ROWS: &[Row] = &[
@@ -79,12 +97,7 @@ const ROWS: &[Row] = &[
         ..ONE
     },
     // fewer doors than jobs, and more
-    Row {
-        words: &["--compiler", "scc=scc", "--serve", "2"],
-        doors: &[&[REQUEST, CUT], &[CUT, REQUEST]],
-        out: "door 1 conn 1 answered 00000000\ndoor 1 conn 2 cut 38\ndoor 2 conn 1 cut 38\ndoor 2 conn 2 answered 00000000\n",
-        ..ONE
-    },
+    TWO_DOORS,
     Row {
         doors: &[&[REQUEST], &[REQUEST]],
         ..ONE
@@ -130,12 +143,7 @@ const ROWS: &[Row] = &[
         status: 101,
         ..ONE
     },
-    Row {
-        words: &["--jobs"],
-        out: "farmd: bad words at word 1\n",
-        status: 101,
-        ..ONE
-    },
+    NO_NUMBER,
     Row {
         words: &["--version"],
         out: "farmd 0.1, distcc protocol 1\n",
@@ -143,104 +151,144 @@ const ROWS: &[Row] = &[
     },
 ];
 
-fn door(alloc: Global, row: &Row, gives: &[&[u8]]) -> Result<MemDoor, Fail> {
-    let mut peers = Peers::new(alloc);
-    for peer in row.peers {
-        peers.try_push(*peer)?;
+fn strings(alloc: Global, words: &[&str]) -> Result<Vec<String>, AllocError> {
+    let mut list = Vec::new(alloc);
+    for word in words {
+        list.push(String::from_str(alloc, word)?)?;
     }
-    let fails = numbers(alloc, row.accepts_fail)?;
-    Ok(MemDoor::new(alloc, links(alloc, gives)?, peers, fails))
+    Ok(list)
 }
 
-fn kits(alloc: Global, row: &Row) -> Result<Vec<DoorKit<MemDoor, MemStation>>, Fail> {
+// A sink of which these writes take nothing.
+fn sink(alloc: Global, zeros: &[u64]) -> Result<MemSink, AllocError>
+    ensures { IfOk result (λ s. (sink_shows (sink_state s)).stopped ≡ false) }
+{
+    let zeros = numbers(alloc, zeros)?;
+    let moves = Moves {
+        fails: CallNumbers::new(alloc),
+        zeros,
+        most: 1_000,
+    };
+    Ok(MemSink::new(alloc, moves))
+}
+
+fn station(alloc: Global, fails: &[u64]) -> Result<MemStation, AllocError> {
+    let fails = numbers(alloc, fails)?;
+    Ok(MemStation::new(RanList::new(alloc), fails))
+}
+
+fn kit(
+    alloc: Global,
+    row: &Row,
+    gives: &[&[u8]],
+) -> Result<DoorKit<MemDoor, MemStation>, AllocError> {
+    let station = station(alloc, row.runs_fail)?;
+    let door = door(alloc, gives, row.peers, row.accepts_fail)?;
+    Ok(DoorKit { door, station })
+}
+
+fn kits(alloc: Global, row: &Row) -> Result<Vec<DoorKit<MemDoor, MemStation>>, AllocError> {
     let mut doors = Vec::new(alloc);
     for gives in row.doors {
-        doors.push(DoorKit {
-            door: door(alloc, row, gives)?,
-            station: MemStation::new(RanList::new(alloc), numbers(alloc, row.runs_fail)?),
-        })?;
+        doors.push(kit(alloc, row, gives)?)?;
     }
     Ok(doors)
 }
 
-// Runs `farmd` by a row's words, with a sink of which these writes take nothing, and answers the status and what was written.
+// Runs `farmd` by these words.
 fn run<R: Threads + Sync, S: Station + Send + Drop>(
+    rt: &R,
+    alloc: Global,
+    words: &[String],
+    doors: &mut Vec<DoorKit<MemDoor, S>>,
+    out: &mut MemSink,
+) -> Result<u8, Fail>
+    requires { (sink_shows (sink_state out.old)).stopped ≡ false }
+{
+    if doors.is_empty() || 16 < doors.len() {
+        return Err("there are 1 to 16 doors".into());
+    }
+    Ok(farmd(rt, alloc, words, doors, out))
+}
+
+// Runs `farmd` by a row's words and sink over these doors, and compares what is printed, the status, and how many doors are
+// there then.
+fn expect<R: Abort + Threads + Sync, S: Station + Send + Drop>(
     rt: &R,
     alloc: Global,
     row: &Row,
     doors: &mut Vec<DoorKit<MemDoor, S>>,
-    zeros: &[u64],
-) -> Result<(u8, Bytes), Fail> {
-    let mut words = Vec::new(alloc);
-    for word in row.words {
-        words.push(String::from_str(alloc, word)?)?;
+) -> Result<(), Fail> {
+    let words = strings(alloc, row.words)?;
+    let mut out = sink(alloc, row.zeros)?;
+    let status = run(rt, alloc, words.as_slice(), doors, &mut out)?;
+    assert_eq!(rt; out.written(), row.out.as_bytes());
+    assert_eq!(rt; (status, doors.len()), (row.status, row.doors.len()));
+    Ok(())
+}
+
+fn expect_rows<R: Abort + Threads + Sync>(rt: &R, alloc: Global, rows: &[Row]) -> Result<(), Fail> {
+    for row in rows {
+        let mut doors = kits(alloc, row)?;
+        expect(rt, alloc, row, &mut doors)?;
     }
-    if doors.is_empty() || 16 < doors.len() {
-        return Err("there are 1 to 16 doors".into());
-    }
-    let mut out = MemSink::new(
-        alloc,
-        Moves {
-            fails: CallNumbers::new(alloc),
-            zeros: numbers(alloc, zeros)?,
-            most: 1_000,
-        },
-    );
-    let status = farmd(rt, alloc, words.as_slice(), doors, &mut out);
-    Ok((status, Bytes::from_slice(alloc, out.written())?))
+    Ok(())
 }
 
 #[test]
 fn rows(rt: HostRuntime) -> Result<(), Fail> {
-    for row in ROWS {
-        let mut doors = kits(rt.alloc(), row)?;
-        let (status, out) = run(&rt, rt.alloc(), row, &mut doors, &[])?;
-        assert_eq!(rt; out.as_slice(), row.out.as_bytes());
-        assert_eq!(rt; status, row.status);
-        assert_eq!(rt; doors.len(), row.doors.len());
-    }
-    Ok(())
+    expect_rows(&rt, rt.alloc(), ROWS)
 }
 
 // The second line isn't taken: the first one stands, and the status is 100.
+const STOPPED: &[Row] = &[
+    Row {
+        zeros: &[2],
+        out: "door 1 conn 1 answered 00000000\n",
+        status: 100,
+        ..TWO_DOORS
+    },
+    Row {
+        zeros: &[1],
+        out: "",
+        status: 100,
+        ..NO_NUMBER
+    },
+];
+
 #[test]
 fn a_sink_that_stops(rt: HostRuntime) -> Result<(), Fail> {
-    let alloc = rt.alloc();
-    let (status, out) = run(&rt, alloc, &ROWS[7], &mut kits(alloc, &ROWS[7])?, &[2])?;
-    assert_eq!(rt;
-        out.as_slice(),
-        b"door 1 conn 1 answered 00000000\n".as_slice()
-    );
-    assert_eq!(rt; status, 100);
-    let (status, out) = run(&rt, alloc, &ROWS[12], &mut kits(alloc, &ROWS[12])?, &[1])?;
-    assert!(rt; out.is_empty());
-    assert_eq!(rt; status, 100);
-    Ok(())
+    expect_rows(&rt, rt.alloc(), STOPPED)
+}
+
+const SIDE_BY_SIDE: Row = Row {
+    words: &["--compiler", "scc=scc", "--jobs", "2", "--serve", "1"],
+    doors: &[&[REQUEST], &[REQUEST]],
+    out: "door 1 conn 1 answered 00000000\ndoor 2 conn 1 answered 00000000\n",
+    ..ONE
+};
+
+fn one_door<S: Drop>(alloc: Global, station: S) -> Result<DoorKit<MemDoor, S>, AllocError> {
+    let door = door(alloc, &[REQUEST], &[], &[])?;
+    Ok(DoorKit { door, station })
+}
+
+// Two doors of one request each, by these stations.
+fn two_kits<S: Drop>(
+    alloc: Global,
+    first: S,
+    second: S,
+) -> Result<Vec<DoorKit<MemDoor, S>>, AllocError> {
+    let mut doors = Vec::new(alloc);
+    doors.push(one_door(alloc, first)?)?;
+    doors.push(one_door(alloc, second)?)?;
+    Ok(doors)
 }
 
 // The station of door 1 waits until that of door 2 was called, so both doors have to be served at one time.
 #[test]
 fn two_doors_at_one_time(rt: HostRuntime) -> Result<(), Fail> {
-    let alloc = rt.alloc();
-    let (first, second) = GateStation::pair(&rt, alloc)?;
-    let mut doors = Vec::new(alloc);
-    doors.push(DoorKit {
-        door: door(alloc, &ONE, &[REQUEST])?,
-        station: first,
-    })?;
-    doors.push(DoorKit {
-        door: door(alloc, &ONE, &[REQUEST])?,
-        station: second,
-    })?;
-    let row = Row {
-        words: &["--compiler", "scc=scc", "--jobs", "2", "--serve", "1"],
-        ..ONE
-    };
-    let (status, out) = run(&rt, alloc, &row, &mut doors, &[])?;
-    assert_eq!(rt;
-        out.as_slice(),
-        b"door 1 conn 1 answered 00000000\ndoor 2 conn 1 answered 00000000\n".as_slice()
-    );
-    assert_eq!(rt; status, 0);
-    Ok(())
+    let (first, second) = GateStation::pair(&rt, rt.alloc())?;
+    let mut doors = two_kits(rt.alloc(), first, second)?;
+    expect(&rt, rt.alloc(), &SIDE_BY_SIDE, &mut doors)
 }

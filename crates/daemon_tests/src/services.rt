@@ -1,46 +1,13 @@
 //! The service's answer to one connection.
 
-use crate::scripts::numbers;
+use crate::scripts::{REPLY, REQUEST, numbers};
 use daemon_service::{Compiler, CompilerVec, Compilers, Served, fault_number, serve_connection};
 use edge_memory::{LinkScript, MemLink, MemStation, Moves, RanList};
 use farm_types::{Bytes, Ran, Word};
-use std::alloc::Global;
+use std::alloc::{AllocError, Global};
+use std::process::Abort;
 use std::test::Fail;
 use wire_tokens::{RequestFault, Which};
-
-// `scc -c a.i -o a.o` on one line of source: 120 bytes.
-const REQUEST: [u8; 120] =
-    *b"DIST00000001ARGC00000005ARGV00000003sccARGV00000002-cARGV00000003a.iARGV00000002-oARGV00000003a.oDOTI0000000bint a = 1;\n";
-
-// The reply of success, 73 bytes with an object of 13.
-const REPLY: [u8; 73] =
-    *b"DONE00000001STAT00000000SERR00000000SOUT00000000DOTO0000000dSCO1\ndef a 1\n";
-
-fn ran(alloc: Global, status: u32, err: &[u8], object: &[u8]) -> Result<Ran, Fail> {
-    Ok(Ran {
-        status,
-        out: Bytes::new(alloc),
-        err: Bytes::from_slice(alloc, err)?,
-        object: Bytes::from_slice(alloc, object)?,
-    })
-}
-
-// The table names `scc` alone; its program is elsewhere.
-fn table(alloc: Global) -> Result<Compilers, Fail> {
-    let mut rows = CompilerVec::new(alloc);
-    rows.try_push(Compiler {
-        name: Bytes::from_slice(alloc, b"scc")?,
-        program: Bytes::from_slice(alloc, b"/usr/bin/scc")?,
-    })?;
-    Ok(Compilers { rows })
-}
-
-// A station whose one run leaves this, or fails.
-fn station(alloc: Global, ran: Ran, fails: &[u64]) -> Result<MemStation, Fail> {
-    let mut rans = RanList::new(alloc);
-    rans.try_push(ran)?;
-    Ok(MemStation::new(rans, numbers(alloc, fails)?))
-}
 
 // How a link moves bytes: at most so many by one call, and which of its calls fail or move nothing.
 #[derive(Clone, Copy)]
@@ -56,38 +23,144 @@ const PLAIN: Course<'static> = Course {
     zeros: &[],
 };
 
+// What the one run of a station leaves, and which of its calls fail.
+#[derive(Drop)]
+struct Left<'a> {
+    status: u32,
+    err: &'a [u8],
+    object: &'a [u8],
+    fails: &'a [u64],
+}
+
+// The object of the reply of success.
+const OBJECT: Left<'static> = Left {
+    status: 0,
+    err: b"",
+    object: b"SCO1\ndef a 1\n",
+    fails: &[],
+};
+
+// Nothing is left, and the status is 0.
+const NOTHING: Left<'static> = Left {
+    status: 0,
+    err: b"",
+    object: b"",
+    fails: &[],
+};
+
+// The table names `scc` alone; its program is elsewhere.
+fn table(alloc: Global) -> Result<Compilers, AllocError> {
+    let name = Bytes::from_slice(alloc, b"scc")?;
+    let program = Bytes::from_slice(alloc, b"/usr/bin/scc")?;
+    let mut rows = CompilerVec::new(alloc);
+    rows.try_push(Compiler { name, program })?;
+    Ok(Compilers { rows })
+}
+
+fn ran(alloc: Global, left: &Left) -> Result<Ran, AllocError> {
+    let err = Bytes::from_slice(alloc, left.err)?;
+    let object = Bytes::from_slice(alloc, left.object)?;
+    Ok(Ran {
+        status: left.status,
+        out: Bytes::new(alloc),
+        err,
+        object,
+    })
+}
+
+fn station(alloc: Global, left: &Left) -> Result<MemStation, AllocError> {
+    let fails = numbers(alloc, left.fails)?;
+    let mut rans = RanList::new(alloc);
+    rans.try_push(ran(alloc, left)?)?;
+    Ok(MemStation::new(rans, fails))
+}
+
+fn script(alloc: Global, gives: &[u8], course: &Course) -> Result<LinkScript, AllocError> {
+    let fails = numbers(alloc, course.fails)?;
+    let zeros = numbers(alloc, course.zeros)?;
+    let gives = Bytes::from_slice(alloc, gives)?;
+    Ok(LinkScript {
+        gives,
+        moves: Moves {
+            fails,
+            zeros,
+            most: course.most,
+        },
+    })
+}
+
+// Serves one connection over a link of this script, and answers what was written too.
+fn serve_link(
+    alloc: Global,
+    script: LinkScript,
+    station: &mut MemStation,
+    table: &Compilers,
+) -> (Served, Bytes) {
+    let mut link = MemLink::new(alloc, script);
+    let served = serve_connection(alloc, &mut link, station, table);
+    (served, link.into_sent())
+}
+
 // Serves one connection that gives this, and answers what was written too.
 fn serve(
     alloc: Global,
     gives: &[u8],
-    course: Course,
+    course: &Course,
     station: &mut MemStation,
-) -> Result<(Served, Bytes), Fail> {
-    let mut link = MemLink::new(
-        alloc,
-        LinkScript {
-            gives: Bytes::from_slice(alloc, gives)?,
-            moves: Moves {
-                fails: numbers(alloc, course.fails)?,
-                zeros: numbers(alloc, course.zeros)?,
-                most: course.most,
-            },
-        },
-    );
+) -> Result<(Served, Bytes), AllocError> {
     let table = table(alloc)?;
-    let served = serve_connection(alloc, &mut link, station, &table);
-    Ok((served, link.into_sent()))
+    let script = script(alloc, gives, course)?;
+    Ok(serve_link(alloc, script, station, &table))
 }
 
-// The same, over a station whose one run leaves the object of the reply of success.
-fn serve_compile(alloc: Global, gives: &[u8], course: Course) -> Result<(Served, Bytes), Fail> {
-    let ran = ran(alloc, 0, b"", b"SCO1\ndef a 1\n")?;
-    serve(alloc, gives, course, &mut station(alloc, ran, &[])?)
+// The same, over a station whose one run leaves this.
+fn serve_once(
+    alloc: Global,
+    gives: &[u8],
+    course: &Course,
+    left: &Left,
+) -> Result<(Served, Bytes), AllocError> {
+    let mut station = station(alloc, left)?;
+    serve(alloc, gives, course, &mut station)
+}
+
+// A connection that gives this is answered so, and this is written over its link.
+fn expect<R: Abort>(
+    rt: &R,
+    alloc: Global,
+    gives: &[u8],
+    course: &Course,
+    left: &Left,
+    wanted: (Served, &[u8]),
+) -> Result<(), Fail> {
+    let (served, written) = serve_once(alloc, gives, course, left)?;
+    let place = (gives.len(), course.most);
+    assert_eq!(rt; served, wanted.0, "bytes, and most at once: {place:?}");
+    assert_eq!(rt;
+        written.as_slice(),
+        wanted.1,
+        "bytes, and most at once: {place:?}"
+    );
+    Ok(())
+}
+
+// The same, where the link moves at most 1, 50 and 1,000 bytes by one call.
+fn expect_in_pieces<R: Abort>(
+    rt: &R,
+    alloc: Global,
+    gives: &[u8],
+    wanted: (Served, &[u8]),
+) -> Result<(), Fail> {
+    for most in [1, 50, 1_000] {
+        let course = Course { most, ..PLAIN };
+        expect(rt, alloc, gives, &course, &OBJECT, wanted)?;
+    }
+    Ok(())
 }
 
 // What a link gives, the status of the reply, and the reply.
 const REPLIES: &[(&[u8], u32, &[u8])] = &[
-    (&REQUEST, 0, &REPLY),
+    (REQUEST, 0, REPLY),
     (
         b"DIST00000001ARGC00000005ARGV00000003gccARGV00000002-cARGV00000003a.iARGV00000002-oARGV00000003a.oDOTI0000000bint a = 1;\n",
         28_160,
@@ -108,39 +181,21 @@ const REPLIES: &[(&[u8], u32, &[u8])] = &[
 #[test]
 fn replies(rt: HostRuntime) -> Result<(), Fail> {
     for (gives, status, reply) in REPLIES {
-        for most in [1, 50, 1_000] {
-            let course = Course { most, ..PLAIN };
-            let (served, written) = serve_compile(rt.alloc(), gives, course)?;
-            assert_eq!(rt; served, Served::Answered(*status), "at most {most} bytes");
-            assert_eq!(rt; written.as_slice(), *reply, "at most {most} bytes");
-        }
+        expect_in_pieces(&rt, rt.alloc(), gives, (Served::Answered(*status), reply))?;
     }
     Ok(())
 }
 
-#[test]
-fn a_failed_compile_has_no_object(rt: HostRuntime) -> Result<(), Fail> {
-    let alloc = rt.alloc();
-    let ran = ran(alloc, 256, b"bad\n", b"half")?;
-    let mut station = station(alloc, ran, &[])?;
-    let (served, written) = serve(alloc, &REQUEST, PLAIN, &mut station)?;
-    assert_eq!(rt; served, Served::Answered(256));
-    assert_eq!(rt;
-        written.as_slice(),
-        b"DONE00000001STAT00000100SERR00000004bad\nSOUT00000000DOTO00000000".as_slice()
-    );
-    Ok(())
+// A request cut to so many bytes: 120 at most.
+fn cut(len: usize) -> &'static [u8] {
+    REQUEST.get(..len).unwrap_or(REQUEST)
 }
 
 #[test]
 fn cut_requests(rt: HostRuntime) -> Result<(), Fail> {
     for len in 0..120 {
-        for most in [1, 50, 1_000] {
-            let course = Course { most, ..PLAIN };
-            let (served, written) = serve_compile(rt.alloc(), &REQUEST[..len], course)?;
-            assert_eq!(rt; served, Served::Cut { have: len as u64 }, "{len} bytes");
-            assert_eq!(rt; written.len(), 0, "{len} bytes");
-        }
+        let served = Served::Cut { have: len as u64 };
+        expect_in_pieces(&rt, rt.alloc(), cut(len), (served, b""))?;
     }
     Ok(())
 }
@@ -185,104 +240,259 @@ const REFUSED: &[(&[u8], u64, RequestFault, u8)] = &[
 #[test]
 fn refused_requests(rt: HostRuntime) -> Result<(), Fail> {
     for (gives, at, fault, number) in REFUSED {
-        let (served, written) = serve_compile(rt.alloc(), gives, PLAIN)?;
-        let wanted = Served::Refused {
+        let served = Served::Refused {
             at: *at,
             fault: *fault,
         };
-        assert_eq!(rt; served, wanted);
-        assert_eq!(rt; written.len(), 0);
+        expect(&rt, rt.alloc(), gives, &PLAIN, &OBJECT, (served, b""))?;
         assert_eq!(rt; fault_number(*fault), *number);
     }
     Ok(())
 }
 
-// Three receives and two sends of at most 50 bytes: how each call's zero is answered, and what was written by then. There is
-// no sixth call.
-const CALLS: &[(u64, Served, usize)] = &[
-    (1, Served::Cut { have: 0 }, 0),
-    (2, Served::Cut { have: 50 }, 0),
-    (3, Served::Cut { have: 100 }, 0),
-    (4, Served::Stopped, 0),
-    (5, Served::Stopped, 50),
+// One connection of a request: how its link moves bytes, what the station leaves; what is answered and written.
+#[derive(Drop)]
+struct Row {
+    course: Course<'static>,
+    left: Left<'static>,
+    served: Served,
+    written: &'static [u8],
+}
+
+const FIFTY: Course<'static> = Course {
+    most: 50,
+    fails: &[],
+    zeros: &[],
+};
+
+// The first 50 bytes of the reply.
+const BEGUN: &[u8] = b"DONE00000001STAT00000000SERR00000000SOUT00000000DO";
+
+const FAULT: Row = Row {
+    course: FIFTY,
+    left: OBJECT,
+    served: Served::LinkFault,
+    written: b"",
+};
+
+// Three receives and two sends of at most 50 bytes: how each call's failure and its zero are answered, and what was written
+// by then. There is no sixth call.
+const CALLS: &[Row] = &[
+    Row {
+        course: Course {
+            fails: &[1],
+            ..FIFTY
+        },
+        ..FAULT
+    },
+    Row {
+        course: Course {
+            fails: &[2],
+            ..FIFTY
+        },
+        ..FAULT
+    },
+    Row {
+        course: Course {
+            fails: &[3],
+            ..FIFTY
+        },
+        ..FAULT
+    },
+    Row {
+        course: Course {
+            fails: &[4],
+            ..FIFTY
+        },
+        ..FAULT
+    },
+    Row {
+        course: Course {
+            fails: &[5],
+            ..FIFTY
+        },
+        written: BEGUN,
+        ..FAULT
+    },
+    Row {
+        course: Course {
+            zeros: &[1],
+            ..FIFTY
+        },
+        served: Served::Cut { have: 0 },
+        ..FAULT
+    },
+    Row {
+        course: Course {
+            zeros: &[2],
+            ..FIFTY
+        },
+        served: Served::Cut { have: 50 },
+        ..FAULT
+    },
+    Row {
+        course: Course {
+            zeros: &[3],
+            ..FIFTY
+        },
+        served: Served::Cut { have: 100 },
+        ..FAULT
+    },
+    Row {
+        course: Course {
+            zeros: &[4],
+            ..FIFTY
+        },
+        served: Served::Stopped,
+        ..FAULT
+    },
+    Row {
+        course: Course {
+            zeros: &[5],
+            ..FIFTY
+        },
+        served: Served::Stopped,
+        written: BEGUN,
+        ..FAULT
+    },
+    Row {
+        course: Course {
+            most: 50,
+            fails: &[6],
+            zeros: &[6],
+        },
+        served: Served::Answered(0),
+        written: REPLY,
+        ..FAULT
+    },
 ];
 
-#[test]
-fn failing_calls(rt: HostRuntime) -> Result<(), Fail> {
-    for (call, moved_none, len) in CALLS {
-        let fails = Course {
-            most: 50,
-            fails: &[*call],
-            zeros: &[],
-        };
-        let (served, written) = serve_compile(rt.alloc(), &REQUEST, fails)?;
-        assert_eq!(rt; served, Served::LinkFault, "call {call} fails");
-        assert_eq!(rt; written.len(), *len, "call {call} fails");
-        let zeros = Course {
-            most: 50,
-            fails: &[],
-            zeros: &[*call],
-        };
-        let (served, written) = serve_compile(rt.alloc(), &REQUEST, zeros)?;
-        assert_eq!(rt; served, *moved_none, "call {call} moves nothing");
-        assert_eq!(rt; written.len(), *len, "call {call} moves nothing");
+fn expect_rows<R: Abort>(rt: &R, alloc: Global, rows: &[Row]) -> Result<(), Fail> {
+    for row in rows {
+        let wanted = (row.served, row.written);
+        expect(rt, alloc, REQUEST, &row.course, &row.left, wanted)?;
     }
-    let unmade = Course {
-        most: 50,
-        fails: &[6],
-        zeros: &[6],
-    };
-    let (served, _) = serve_compile(rt.alloc(), &REQUEST, unmade)?;
-    assert_eq!(rt; served, Served::Answered(0));
     Ok(())
 }
 
 #[test]
-fn failing_stations(rt: HostRuntime) -> Result<(), Fail> {
-    let alloc = rt.alloc();
-    let mut failing = station(alloc, ran(alloc, 0, b"", b"")?, &[1])?;
-    let (served, written) = serve(alloc, &REQUEST, PLAIN, &mut failing)?;
-    assert_eq!(rt; served, Served::StationFault);
-    assert_eq!(rt; written.len(), 0);
-    let long = vec![in alloc; b'w'; 1_048_577]?;
-    let mut loud = station(alloc, ran(alloc, 0, &long, b"")?, &[])?;
-    let (served, written) = serve(alloc, &REQUEST, PLAIN, &mut loud)?;
-    assert_eq!(rt; served, Served::StationFault);
-    assert_eq!(rt; written.len(), 0);
-    Ok(())
+fn failing_calls(rt: HostRuntime) -> Result<(), Fail> {
+    expect_rows(&rt, rt.alloc(), CALLS)
+}
+
+// A compile that fails has no object in its reply, and a run that fails has no reply.
+const RUNS: &[Row] = &[
+    Row {
+        course: PLAIN,
+        left: Left {
+            status: 256,
+            err: b"bad\n",
+            object: b"half",
+            fails: &[],
+        },
+        served: Served::Answered(256),
+        written: b"DONE00000001STAT00000100SERR00000004bad\nSOUT00000000DOTO00000000",
+    },
+    Row {
+        course: PLAIN,
+        left: Left {
+            fails: &[1],
+            ..NOTHING
+        },
+        served: Served::StationFault,
+        written: b"",
+    },
+];
+
+#[test]
+fn failing_runs(rt: HostRuntime) -> Result<(), Fail> {
+    expect_rows(&rt, rt.alloc(), RUNS)
+}
+
+#[test]
+fn a_run_that_says_too_much(rt: HostRuntime) -> Result<(), Fail> {
+    let long = vec![in rt.alloc(); b'w'; 1_048_577]?;
+    let loud = Left {
+        err: &long,
+        ..NOTHING
+    };
+    expect(
+        &rt,
+        rt.alloc(),
+        REQUEST,
+        &PLAIN,
+        &loud,
+        (Served::StationFault, b""),
+    )
 }
 
 #[test]
 fn surplus_is_ignored(rt: HostRuntime) -> Result<(), Fail> {
-    let alloc = rt.alloc();
-    let mut gives = Bytes::from_slice(alloc, &REQUEST)?;
-    gives.try_extend(b"DIST000000")?;
-    let (served, written) = serve_compile(alloc, gives.as_slice(), PLAIN)?;
-    assert_eq!(rt; served, Served::Answered(0));
-    assert_eq!(rt; written.as_slice(), REPLY.as_slice());
-    Ok(())
+    let gives =
+        b"DIST00000001ARGC00000005ARGV00000003sccARGV00000002-cARGV00000003a.iARGV00000002-oARGV00000003a.oDOTI0000000bint a = 1;\nDIST000000";
+    expect(
+        &rt,
+        rt.alloc(),
+        gives,
+        &PLAIN,
+        &OBJECT,
+        (Served::Answered(0), REPLY),
+    )
+}
+
+// The words of a run, with a blank behind each.
+fn line_of(alloc: Global, words: &[Word]) -> Result<Bytes, AllocError> {
+    let mut line = Bytes::new(alloc);
+    for word in words {
+        let text = match word {
+            Word::Text(text) => text.as_slice(),
+            Word::Input(_) => b"i",
+            Word::Output => b"o",
+        };
+        line.try_extend(text)?;
+        line.try_push(b' ')?;
+    }
+    Ok(line)
+}
+
+// How many runs were made, and of the last one the words and the input.
+fn runs_of(alloc: Global, station: MemStation) -> Result<(u32, Bytes, Bytes), AllocError> {
+    let mut count: u32 = 0;
+    let mut line = Bytes::new(alloc);
+    let mut input = Bytes::new(alloc);
+    let runs = station.into_runs().into_items(alloc)?;
+    for run in runs.as_slice() {
+        count = count.saturating_add(1);
+        line = line_of(alloc, run.words.as_slice())?;
+        input = run.input.copy()?;
+    }
+    Ok((count, line, input))
+}
+
+// The station, once it has served one connection over a link of this script.
+fn after(
+    alloc: Global,
+    script: LinkScript,
+    mut station: MemStation,
+    table: &Compilers,
+) -> MemStation {
+    let _ = serve_link(alloc, script, &mut station, table);
+    station
+}
+
+// The runs of a station by which one request is served.
+fn runs_of_request(alloc: Global) -> Result<(u32, Bytes, Bytes), AllocError> {
+    let table = table(alloc)?;
+    let script = script(alloc, REQUEST, &PLAIN)?;
+    let station = station(alloc, &NOTHING)?;
+    runs_of(alloc, after(alloc, script, station, &table))
 }
 
 #[test]
 fn one_run_by_the_program_of_the_table(rt: HostRuntime) -> Result<(), Fail> {
-    let alloc = rt.alloc();
-    let mut station = station(alloc, Ran::nothing(alloc), &[])?;
-    serve(alloc, &REQUEST, PLAIN, &mut station)?;
-    let mut runs = station.into_runs();
-    let Some(run) = runs.take_last() else {
-        return Err("there is a run".into());
-    };
-    assert!(rt; runs.take_last().is_none());
-    assert_eq!(rt; run.input.as_slice(), b"int a = 1;\n".as_slice());
-    let mut words = Bytes::new(alloc);
-    for word in run.words.as_slice() {
-        match word {
-            Word::Text(text) => words.try_extend(text.as_slice())?,
-            Word::Input(_) => words.try_push(b'i')?,
-            Word::Output => words.try_push(b'o')?,
-        }
-        words.try_push(b' ')?;
-    }
-    assert_eq!(rt; words.as_slice(), b"/usr/bin/scc -c i -o o ".as_slice());
+    let (count, line, input) = runs_of_request(rt.alloc())?;
+    assert_eq!(rt; count, 1);
+    assert_eq!(rt; input.as_slice(), b"int a = 1;\n".as_slice());
+    assert_eq!(rt; line.as_slice(), b"/usr/bin/scc -c i -o o ".as_slice());
     Ok(())
 }

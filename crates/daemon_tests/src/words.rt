@@ -3,7 +3,8 @@ use daemon_words::{
     Command, DoorPlace, Options, compilers_of, door_place, help_text, parse_words, rules_of,
     version_text,
 };
-use std::alloc::Global;
+use std::alloc::{AllocError, Global};
+use std::process::Abort;
 use std::test::Fail;
 
 // The words, and the place of the first that isn't right.
@@ -48,7 +49,7 @@ const GOOD: &[&str] = &[
     "cc=a=b",
 ];
 
-fn owned(alloc: Global, words: &[&str]) -> Result<Vec<String>, Fail> {
+fn owned(alloc: Global, words: &[&str]) -> Result<Vec<String>, AllocError> {
     let mut list = Vec::new(alloc);
     for word in words {
         list.push(String::from_str(alloc, word)?)?;
@@ -56,13 +57,52 @@ fn owned(alloc: Global, words: &[&str]) -> Result<Vec<String>, Fail> {
     Ok(list)
 }
 
+fn expect_read<R: Abort>(rt: &R, words: &[String], read: Result<Command, usize>) {
+    assert_eq!(rt; parse_words(words), read);
+}
+
+// The words are read so, and their door has this place.
+fn expect<R: Abort>(
+    rt: &R,
+    alloc: Global,
+    words: &[&str],
+    read: Result<Command, usize>,
+    place: Option<DoorPlace>,
+) -> Result<(), Fail> {
+    let words = owned(alloc, words)?;
+    expect_read(rt, words.as_slice(), read);
+    assert_eq!(rt; door_place(words.as_slice()), place);
+    Ok(())
+}
+
 #[test]
 fn bad_words(rt: HostRuntime) -> Result<(), Fail> {
     for (words, place) in BAD {
-        let words = owned(rt.alloc(), words)?;
-        assert_eq!(rt; parse_words(words.as_slice()), Err(*place));
-        assert_eq!(rt; door_place(words.as_slice()), None);
+        expect(&rt, rt.alloc(), words, Err(*place), None)?;
     }
+    Ok(())
+}
+
+fn expect_compilers<R: Abort>(rt: &R, alloc: Global, words: &[String]) -> Result<(), Fail> {
+    let compilers = compilers_of(alloc, words)?;
+    assert_eq!(rt; compilers.len(), 2);
+    let Some(last) = compilers.get(1) else {
+        return Err("there are two compilers".into());
+    };
+    assert_eq!(rt; last.name.as_slice(), b"cc".as_slice());
+    assert_eq!(rt; last.program.as_slice(), b"a=b".as_slice());
+    Ok(())
+}
+
+fn expect_rules<R: Abort>(rt: &R, alloc: Global, words: &[String]) -> Result<(), Fail> {
+    let rules = rules_of(alloc, words)?;
+    assert_eq!(rt; rules.len(), 2);
+    let first = Rule {
+        allow: false,
+        net: 167_772_161,
+        bits: 32,
+    };
+    assert_eq!(rt; rules.get(0).copied(), Some(first));
     Ok(())
 }
 
@@ -77,23 +117,9 @@ fn all_options(rt: HostRuntime) -> Result<(), Fail> {
         compilers: 2,
         rules: 2,
     };
-    assert_eq!(rt; parse_words(words.as_slice()), Ok(Command::Serve(options)));
-    let compilers = compilers_of(rt.alloc(), words.as_slice())?;
-    assert_eq!(rt; compilers.len(), 2);
-    let Some(last) = compilers.get(1) else {
-        return Err("there are two compilers".into());
-    };
-    assert_eq!(rt; last.name.as_slice(), b"cc".as_slice());
-    assert_eq!(rt; last.program.as_slice(), b"a=b".as_slice());
-    let rules = rules_of(rt.alloc(), words.as_slice())?;
-    assert_eq!(rt; rules.len(), 2);
-    let first = Rule {
-        allow: false,
-        net: 167_772_161,
-        bits: 32,
-    };
-    assert_eq!(rt; rules.get(0).copied(), Some(first));
-    Ok(())
+    expect_read(&rt, words.as_slice(), Ok(Command::Serve(options)));
+    expect_compilers(&rt, rt.alloc(), words.as_slice())?;
+    expect_rules(&rt, rt.alloc(), words.as_slice())
 }
 
 #[test]
@@ -118,40 +144,54 @@ fn help_and_version(rt: HostRuntime) -> Result<(), Fail> {
         port: 3632,
         doors: 0,
     };
-    let help = owned(rt.alloc(), &["--help"])?;
-    assert_eq!(rt; parse_words(help.as_slice()), Ok(Command::Help));
-    assert_eq!(rt; door_place(help.as_slice()), Some(nowhere));
+    expect(
+        &rt,
+        rt.alloc(),
+        &["--help"],
+        Ok(Command::Help),
+        Some(nowhere),
+    )?;
     let version = owned(rt.alloc(), &["--version"])?;
-    assert_eq!(rt; parse_words(version.as_slice()), Ok(Command::Version));
-    assert_eq!(rt;
-        version_text(),
-        b"farmd 0.1, distcc protocol 1\n".as_slice()
-    );
+    expect_read(&rt, version.as_slice(), Ok(Command::Version));
+    assert!(rt; version_text() == b"farmd 0.1, distcc protocol 1\n".as_slice());
     assert!(rt; help_text().starts_with(b"Usage: farmd"));
     Ok(())
 }
 
-// `count` compilers, and as many rules.
-fn tables(alloc: Global, count: u8) -> Result<(Vec<String>, Vec<String>), Fail> {
-    let mut compilers = Vec::new(alloc);
-    let mut rules = Vec::new(alloc);
+// An option over and over, each time with the next number from 0 as its value, between these texts.
+fn numbered(
+    alloc: Global,
+    option: &str,
+    begin: &str,
+    count: u8,
+    end: &str,
+) -> Result<Vec<String>, AllocError> {
+    let mut words = Vec::new(alloc);
     for number in 0..count {
-        compilers.push(String::from_str(alloc, "--compiler")?)?;
-        compilers.push(format!(in alloc; "c{number}=x")?)?;
-        rules.push(String::from_str(alloc, "--allow")?)?;
-        rules.push(format!(in alloc; "10.0.0.{number}")?)?;
+        words.push(String::from_str(alloc, option)?)?;
+        words.push(format!(in alloc; "{begin}{number}{end}")?)?;
     }
-    Ok((compilers, rules))
+    Ok(words)
+}
+
+// An option may stand 64 times: the 65th is a bad word.
+fn expect_most<R: Abort>(
+    rt: &R,
+    alloc: Global,
+    option: &str,
+    begin: &str,
+    end: &str,
+) -> Result<(), Fail> {
+    let many = numbered(alloc, option, begin, 65, end)?;
+    expect_read(rt, many.as_slice(), Err(129));
+    let most = numbered(alloc, option, begin, 64, end)?;
+    assert!(rt; parse_words(most.as_slice()).is_ok());
+    Ok(())
 }
 
 // The 65th compiler, and the 65th rule, is a bad word.
 #[test]
 fn the_sixty_fifth(rt: HostRuntime) -> Result<(), Fail> {
-    let (compilers, rules) = tables(rt.alloc(), 65)?;
-    assert_eq!(rt; parse_words(compilers.as_slice()), Err(129));
-    assert_eq!(rt; parse_words(rules.as_slice()), Err(129));
-    let (compilers, rules) = tables(rt.alloc(), 64)?;
-    assert!(rt; parse_words(compilers.as_slice()).is_ok());
-    assert!(rt; parse_words(rules.as_slice()).is_ok());
-    Ok(())
+    expect_most(&rt, rt.alloc(), "--compiler", "c", "=x")?;
+    expect_most(&rt, rt.alloc(), "--allow", "10.0.0.", "")
 }
