@@ -1,6 +1,6 @@
 //! Devices of a run of `farm`, and what is seen after it.
 
-ghost use Rattle.std.specs.Prelude.{◌<◌, ◌≤◌, [], false, length, All, IfOk};
+ghost use Rattle.std.specs.Prelude.{◌≡◌, ◌≤◌, false, length, All, IfOk};
 ghost use Rattle.edge_traits.specs.Keepers.{IsIdle};
 ghost use Rattle.edge_traits.specs.Told.{told};
 ghost use Rattle.edge_memory.specs.Keepers.{keeper_state, keeper_shows};
@@ -9,12 +9,11 @@ use edge_memory::{
     LinkScript, LinkScripts, MemClock, MemDialer, MemKeeper, MemSource, MemStation, Moments, Moves,
     RanList,
 };
-use edge_traits::{CallNumbers, Dialer, EdgeFault, FileList, Keeper, Kit, Sink, Station};
+use edge_traits::{CallNumbers, Clock, Dialer, EdgeFault, FileList, Keeper, Kit, Sink, Station};
 use farm_program::farm;
 use farm_types::{Bytes, Ran};
 use std::alloc::{AllocError, Global};
 use std::sync::Wait;
-use std::test::Fail;
 use std::thread::Threads;
 
 pub(crate) type MemKit = Kit<MemDialer, MemStation, MemKeeper, MemClock>;
@@ -101,21 +100,38 @@ pub(crate) fn numbers(alloc: Global, number: u64) -> Result<CallNumbers, AllocEr
     Ok(list)
 }
 
+fn link_of(alloc: Global, script: &Script) -> Result<LinkScript, AllocError> {
+    let fails = numbers(alloc, script.link_fails)?;
+    let zeros = numbers(alloc, script.link_stops)?;
+    let mut gives = Bytes::from_slice(alloc, script.reply)?;
+    gives.truncate(script.given);
+    Ok(LinkScript {
+        gives,
+        moves: Moves {
+            fails,
+            zeros,
+            most: script.most,
+        },
+    })
+}
+
 fn links_of(alloc: Global, script: &Script) -> Result<LinkScripts, AllocError> {
     let mut links = LinkScripts::new(alloc);
     for _ in 0..12 {
-        let mut gives = Bytes::from_slice(alloc, script.reply)?;
-        gives.truncate(script.given);
-        links.try_push(LinkScript {
-            gives,
-            moves: Moves {
-                fails: numbers(alloc, script.link_fails)?,
-                zeros: numbers(alloc, script.link_stops)?,
-                most: script.most,
-            },
-        })?;
+        links.try_push(link_of(alloc, script)?)?;
     }
     Ok(links)
+}
+
+fn ran_of(alloc: Global, status: u32, out: &[u8], err: &[u8]) -> Result<Ran, AllocError> {
+    let out = Bytes::from_slice(alloc, out)?;
+    let err = Bytes::from_slice(alloc, err)?;
+    Ok(Ran {
+        status,
+        out,
+        err,
+        object: Bytes::new(alloc),
+    })
 }
 
 // Where it isn't quiet, the first run gives its status, a source and a message, and the second one its status and nothing.
@@ -124,28 +140,17 @@ fn rans_of(alloc: Global, script: &Script) -> Result<RanList, AllocError> {
     if script.quiet {
         return Ok(rans);
     }
-    rans.try_push(Ran {
-        status: script.run_status,
-        out: Bytes::from_slice(alloc, b"int a = 1;\n")?,
-        err: Bytes::from_slice(alloc, b"note\n")?,
-        object: Bytes::new(alloc),
-    })?;
-    rans.try_push(Ran {
-        status: script.compile_status,
-        out: Bytes::new(alloc),
-        err: Bytes::new(alloc),
-        object: Bytes::new(alloc),
-    })?;
+    rans.try_push(ran_of(alloc, script.run_status, b"int a = 1;\n", b"note\n")?)?;
+    rans.try_push(ran_of(alloc, script.compile_status, b"", b"")?)?;
     Ok(rans)
 }
 
 fn files_of(alloc: Global, script: &Script) -> Result<FileList, AllocError> {
     let mut files = FileList::new(alloc);
     if let Some(name) = script.file {
-        files.try_put(
-            Bytes::from_slice(alloc, name.as_bytes())?,
-            Bytes::from_slice(alloc, b"int a = 1;\n")?,
-        )?;
+        let path = Bytes::from_slice(alloc, name.as_bytes())?;
+        let text = Bytes::from_slice(alloc, b"int a = 1;\n")?;
+        files.try_put(path, text)?;
     }
     Ok(files)
 }
@@ -162,14 +167,37 @@ pub(crate) fn standing_clock(alloc: Global) -> MemClock {
     MemClock::new(Moments::new(alloc))
 }
 
+fn dialer_of(alloc: Global, script: &Script) -> Result<MemDialer, AllocError> {
+    let fails = numbers(alloc, script.dial_fails)?;
+    let links = links_of(alloc, script)?;
+    Ok(MemDialer::new(links, fails))
+}
+
+fn station_of(alloc: Global, script: &Script) -> Result<MemStation, AllocError> {
+    let fails = numbers(alloc, script.run_fails)?;
+    let rans = rans_of(alloc, script)?;
+    Ok(MemStation::new(rans, fails))
+}
+
+fn keeper_of(alloc: Global, script: &Script) -> Result<MemKeeper, AllocError>
+    ensures { IfOk result (λ keeper. IsIdle (keeper_shows (keeper_state keeper))) }
+{
+    let fails = numbers(alloc, script.put_fails)?;
+    let files = files_of(alloc, script)?;
+    Ok(MemKeeper::new(files, fails))
+}
+
 /// One kit of a script.
 pub(crate) fn kit(alloc: Global, script: &Script) -> Result<MemKit, AllocError>
     ensures { IfOk result (λ kit. IsIdle (keeper_shows (keeper_state kit.keeper))) }
 {
+    let keeper = keeper_of(alloc, script)?;
+    let station = station_of(alloc, script)?;
+    let dialer = dialer_of(alloc, script)?;
     Ok(Kit {
-        dialer: MemDialer::new(links_of(alloc, script)?, numbers(alloc, script.dial_fails)?),
-        station: MemStation::new(rans_of(alloc, script)?, numbers(alloc, script.run_fails)?),
-        keeper: MemKeeper::new(files_of(alloc, script)?, numbers(alloc, script.put_fails)?),
+        dialer,
+        station,
+        keeper,
         clock: standing_clock(alloc),
     })
 }
@@ -209,13 +237,19 @@ pub(crate) fn strings(alloc: Global, words: &[&str]) -> Result<Vec<String>, Allo
     Ok(list)
 }
 
-fn variables_of(alloc: Global, script: &Script) -> Result<Vec<(String, String)>, AllocError> {
+fn variable(alloc: Global, name: &str, value: &str) -> Result<(String, String), AllocError> {
+    let name = String::from_str(alloc, name)?;
+    let value = String::from_str(alloc, value)?;
+    Ok((name, value))
+}
+
+fn variables_of(
+    alloc: Global,
+    env: &[(&'static str, &'static str)],
+) -> Result<Vec<(String, String)>, AllocError> {
     let mut variables = Vec::new(alloc);
-    for (name, value) in script.env {
-        variables.push((
-            String::from_str(alloc, name)?,
-            String::from_str(alloc, value)?,
-        ))?;
+    for (name, value) in env {
+        variables.push(variable(alloc, name, value)?)?;
     }
     Ok(variables)
 }
@@ -245,37 +279,137 @@ pub(crate) struct Seen {
     pub(crate) object: Option<Bytes>,
 }
 
-/// One run over the kits of a script. The object is the file `x.o` of the last kit.
-pub(crate) fn run<W: Threads + Wait + Sync>(
+/// What `farm` is asked: its words and variables, and its input, of which a read takes all or little, and these reads fail.
+#[derive(Drop)]
+pub(crate) struct Asked {
+    words: Vec<String>,
+    variables: Vec<(String, String)>,
+    text: Bytes,
+    whole: bool,
+    fails: CallNumbers,
+}
+
+/// Words, and this input.
+pub(crate) fn asked_for(alloc: Global, words: &[&str], text: Bytes) -> Result<Asked, AllocError> {
+    let words = strings(alloc, words)?;
+    Ok(Asked {
+        words,
+        variables: Vec::new(alloc),
+        text,
+        whole: true,
+        fails: CallNumbers::new(alloc),
+    })
+}
+
+fn asked_by(alloc: Global, script: &Script) -> Result<Asked, AllocError> {
+    let words = strings(alloc, script.words)?;
+    let variables = variables_of(alloc, script.env)?;
+    let text = Bytes::from_slice(alloc, script.input)?;
+    let fails = numbers(alloc, script.read_fails)?;
+    Ok(Asked {
+        words,
+        variables,
+        text,
+        whole: false,
+        fails,
+    })
+}
+
+// How many bytes a read takes at most.
+fn most_at_once(whole: bool) -> u32
+    ensures { 1 ≤ result }
+{
+    if whole { 4_096 } else { 7 }
+}
+
+/// The call of `farm`, over any kits and sinks: its status.
+pub(crate) fn call<
+    W: Threads + Wait + Sync,
+    D: Dialer + Send + Drop,
+    S: Station + Send + Drop,
+    K: Keeper + Send + Drop,
+    C: Clock + Send + Drop,
+    O: Sink,
+    E: Sink,
+>(
     rt: &W,
     alloc: Global,
-    script: &Script,
-) -> Result<Seen, Fail> {
-    let words = strings(alloc, script.words)?;
-    let variables = variables_of(alloc, script)?;
-    let text = Bytes::from_slice(alloc, script.input)?;
-    let mut input = MemSource::new(text, numbers(alloc, script.read_fails)?, 7);
-    let mut kits = kits(alloc, script)?;
-    let mut out = Page::new(alloc);
-    let mut err = Page::new(alloc);
+    asked: Asked,
+    kits: &mut Vec<Kit<D, S, K, C>>,
+    out: &mut O,
+    err: &mut E,
+) -> u8
+where
+    D::Link: Send,
+    requires some { 1 ≤ length kits.old.items }
+    requires most { length kits.old.items ≤ 16 }
+    requires idle { All (λ kit. IsIdle (K.shows kit.keeper)) kits.old.items }
+    requires out { (O.shows out.old).stopped ≡ false }
+    requires err { (E.shows err.old).stopped ≡ false }
+{
+    let Asked {
+        words,
+        variables,
+        text,
+        whole,
+        fails,
+    } = asked;
+    let mut input = MemSource::new(text, fails, most_at_once(whole));
     let ended = farm(
         rt,
         alloc,
         words.as_slice(),
         variables.as_slice(),
         &mut input,
-        &mut kits,
-        &mut out,
-        &mut err,
+        kits,
+        out,
+        err,
     );
-    let mut object = None;
-    for kit in kits.iter_mut() {
-        object = content_of(alloc, kit, b"x.o")?;
-    }
-    Ok(Seen {
-        status: ended.status,
+    ended.status
+}
+
+/// The same, over sinks that take all: what was printed and answered.
+pub(crate) fn told<
+    W: Threads + Wait + Sync,
+    D: Dialer + Send + Drop,
+    S: Station + Send + Drop,
+    K: Keeper + Send + Drop,
+    C: Clock + Send + Drop,
+>(rt: &W, alloc: Global, asked: Asked, kits: &mut Vec<Kit<D, S, K, C>>) -> Seen
+where
+    D::Link: Send,
+    requires some { 1 ≤ length kits.old.items }
+    requires most { length kits.old.items ≤ 16 }
+    requires idle { All (λ kit. IsIdle (K.shows kit.keeper)) kits.old.items }
+{
+    let mut out = Page::new(alloc);
+    let mut err = Page::new(alloc);
+    let status = call(rt, alloc, asked, kits, &mut out, &mut err);
+    Seen {
+        status,
         out: out.text,
         err: err.text,
-        object,
-    })
+        object: None,
+    }
+}
+
+// The file `x.o` of the last kit, where it is there.
+fn last_object(alloc: Global, kits: &mut Vec<MemKit>) -> Result<Option<Bytes>, AllocError> {
+    match kits.last_mut() {
+        Some(kit) => content_of(alloc, kit, b"x.o"),
+        None => Ok(None),
+    }
+}
+
+/// One run over the kits of a script. The object is the file `x.o` of the last kit.
+pub(crate) fn run<W: Threads + Wait + Sync>(
+    rt: &W,
+    alloc: Global,
+    script: &Script,
+) -> Result<Seen, AllocError> {
+    let asked = asked_by(alloc, script)?;
+    let mut kits = kits(alloc, script)?;
+    let mut seen = told(rt, alloc, asked, &mut kits);
+    seen.object = last_object(alloc, &mut kits)?;
+    Ok(seen)
 }

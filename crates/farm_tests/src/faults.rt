@@ -3,12 +3,12 @@
 ghost use Rattle.std.specs.Prelude.{◌≡◌, false, IfOk};
 ghost use Rattle.edge_memory.specs.Sinks.{sink_state, sink_shows};
 
-use crate::devices::{FIRST, Script, Seen, kits, numbers, run, strings};
-use edge_memory::{MemSink, MemSource, Moves};
+use crate::devices::{FIRST, Script, asked_for, call, kits, numbers, run};
+use edge_memory::{MemSink, Moves};
 use edge_traits::CallNumbers;
-use farm_program::farm;
 use farm_types::Bytes;
 use std::alloc::{AllocError, Global};
+use std::process::Abort;
 use std::sync::Wait;
 use std::test::Fail;
 use std::thread::Threads;
@@ -25,151 +25,176 @@ const JOB: Script = Script {
     ..FIRST
 };
 
-fn shows(seen: &Seen, status: u8, out: &str) -> bool {
-    seen.status == status && seen.out.as_slice() == out.as_bytes()
+// What is seen of the run of a script, where a call is made to fail or the reply is cut: the status, the output, and whether
+// there is an object.
+fn expect<R: Abort + Threads + Wait + Sync>(
+    rt: &R,
+    alloc: Global,
+    script: &Script,
+    wanted: (u8, &str, bool),
+) -> Result<(), Fail> {
+    let seen = run(rt, alloc, script)?;
+    let place = (script.link_fails, script.put_fails, script.given);
+    let got = (seen.status, seen.object.is_some());
+    assert_eq!(rt; got, (wanted.0, wanted.2), "{place:?}");
+    assert_eq!(rt; seen.out.as_slice(), wanted.1.as_bytes(), "{place:?}");
+    Ok(())
 }
 
 // The request is 22 pieces and the reply 15, so 37 calls are made on the link; a later one makes no difference.
-#[test]
-fn a_failed_dial_or_link_is_made_good_here(rt: HostRuntime) -> Result<(), Fail> {
-    let alloc = rt.alloc();
-    let seen = run(
-        &rt,
-        alloc,
-        &Script {
-            dial_fails: 1,
-            ..JOB
-        },
-    )?;
-    assert!(rt; shows(&seen, 0, HERE));
-    for call in 1..40 {
-        let seen = run(
-            &rt,
-            alloc,
-            &Script {
-                link_fails: call,
-                ..JOB
-            },
-        )?;
-        let out = if call <= 37 { HERE } else { REMOTE };
-        assert!(rt; shows(&seen, 0, out), "{call}: {:?}", seen.out);
-        assert!(rt; seen.object.is_some(), "{call}");
+fn expect_made_good<R: Abort + Threads + Wait + Sync>(rt: &R, alloc: Global) -> Result<(), Fail> {
+    for link_fails in 1..40 {
+        let script = Script { link_fails, ..JOB };
+        let out = if link_fails <= 37 { HERE } else { REMOTE };
+        expect(rt, alloc, &script, (0, out, true))?;
     }
     Ok(())
 }
 
-// The put begins, takes three pieces and is committed; the sixth call of the keeper is the look for the object.
+const NO_DIAL: Script = Script {
+    dial_fails: 1,
+    ..JOB
+};
+
 #[test]
-fn a_failed_run_or_put_fails_the_job(rt: HostRuntime) -> Result<(), Fail> {
-    let alloc = rt.alloc();
-    let seen = run(
-        &rt,
-        alloc,
-        &Script {
-            run_fails: 1,
-            ..JOB
-        },
-    )?;
-    assert!(rt; shows(&seen, 107, "1 failed child\ntotal 1 ok 0\n"));
-    for call in 1..7 {
-        let seen = run(
-            &rt,
-            alloc,
-            &Script {
-                put_fails: call,
-                ..JOB
-            },
-        )?;
-        let (status, out) = if call <= 5 {
+fn a_failed_dial_or_link_is_made_good_here(rt: HostRuntime) -> Result<(), Fail> {
+    expect(&rt, rt.alloc(), &NO_DIAL, (0, HERE, true))?;
+    expect_made_good(&rt, rt.alloc())
+}
+
+// The put begins, takes three pieces and is committed; the sixth call of the keeper is the look for the object.
+fn expect_failed_puts<R: Abort + Threads + Wait + Sync>(rt: &R, alloc: Global) -> Result<(), Fail> {
+    for put_fails in 1..7 {
+        let script = Script { put_fails, ..JOB };
+        let (status, out) = if put_fails <= 5 {
             (107, "1 failed put\ntotal 1 ok 0\n")
         } else {
             (0, REMOTE)
         };
-        assert!(rt; shows(&seen, status, out), "{call}: {:?}", seen.out);
-        assert!(rt; seen.object.is_none(), "{call}");
+        expect(rt, alloc, &script, (status, out, false))?;
     }
     Ok(())
+}
+
+const NO_RUN: Script = Script {
+    run_fails: 1,
+    ..JOB
+};
+
+#[test]
+fn a_failed_run_or_put_fails_the_job(rt: HostRuntime) -> Result<(), Fail> {
+    let out = "1 failed child\ntotal 1 ok 0\n";
+    expect(&rt, rt.alloc(), &NO_RUN, (107, out, false))?;
+    expect_failed_puts(&rt, rt.alloc())
 }
 
 // The reply ends after each number of its bytes.
-#[test]
-fn a_reply_cut_anywhere_is_never_put(rt: HostRuntime) -> Result<(), Fail> {
-    let alloc = rt.alloc();
+fn expect_cut_replies<R: Abort + Threads + Wait + Sync>(rt: &R, alloc: Global) -> Result<(), Fail> {
     for given in 0..73 {
-        let seen = run(
-            &rt,
-            alloc,
-            &Script {
-                given,
-                quiet: true,
-                ..FIRST
-            },
-        )?;
+        let script = Script {
+            given,
+            quiet: true,
+            ..FIRST
+        };
         let out = format!(in alloc; "1 failed H:3632 cut {given}\ntotal 1 ok 0\n")?;
-        assert!(rt; shows(&seen, 108, out.as_str()), "{given}: {:?}", seen.out);
-        assert!(rt; seen.object.is_none(), "{given}");
+        expect(rt, alloc, &script, (108, out.as_str(), false))?;
     }
     Ok(())
 }
 
-// The status and what was written, where a sink takes nothing at one of its calls.
-fn stopped<W: Threads + Wait + Sync>(
-    rt: &W,
-    alloc: Global,
+#[test]
+fn a_reply_cut_anywhere_is_never_put(rt: HostRuntime) -> Result<(), Fail> {
+    expect_cut_replies(&rt, rt.alloc())
+}
+
+// The calls of the two sinks that take nothing, where 0 names none; the status and what was written.
+struct Row {
     out_stops: u64,
     err_stops: u64,
-) -> Result<(u8, MemSink, MemSink), Fail> {
-    let words = strings(alloc, FIRST.words)?;
-    let mut input = MemSource::new(
-        Bytes::from_slice(alloc, FIRST.input)?,
-        CallNumbers::new(alloc),
-        100,
-    );
-    let mut kits = kits(alloc, &FIRST)?;
-    let mut out = sink(alloc, out_stops)?;
-    let mut err = sink(alloc, err_stops)?;
-    let ended = farm(
-        rt,
-        alloc,
-        words.as_slice(),
-        &[],
-        &mut input,
-        &mut kits,
-        &mut out,
-        &mut err,
-    );
-    Ok((ended.status, out, err))
+    status: u8,
+    out: &'static str,
+    err: &'static str,
 }
 
 // A sink that takes a piece whole, and nothing at the call of this number.
 fn sink(alloc: Global, stops: u64) -> Result<MemSink, AllocError>
     ensures { IfOk result (λ s. (sink_shows (sink_state s)).stopped ≡ false) }
 {
-    Ok(MemSink::new(
-        alloc,
-        Moves {
-            fails: CallNumbers::new(alloc),
-            zeros: numbers(alloc, stops)?,
-            most: 4_096,
-        },
-    ))
+    let zeros = numbers(alloc, stops)?;
+    let moves = Moves {
+        fails: CallNumbers::new(alloc),
+        zeros,
+        most: 4_096,
+    };
+    Ok(MemSink::new(alloc, moves))
 }
 
 // The pieces are the job's messages, its line, and the total: those before the stop are whole, and nothing comes after it.
+const STOPS: &[Row] = &[
+    Row {
+        out_stops: 0,
+        err_stops: 1,
+        status: 100,
+        out: "",
+        err: "",
+    },
+    Row {
+        out_stops: 1,
+        err_stops: 0,
+        status: 100,
+        out: "",
+        err: "note\n",
+    },
+    Row {
+        out_stops: 2,
+        err_stops: 0,
+        status: 100,
+        out: "1 remote H:3632 stat 00000000\n",
+        err: "note\n",
+    },
+    Row {
+        out_stops: 3,
+        err_stops: 2,
+        status: 0,
+        out: REMOTE,
+        err: "note\n",
+    },
+];
+
+// The status of the first job over these sinks.
+fn status_over<W: Threads + Wait + Sync>(
+    rt: &W,
+    alloc: Global,
+    out: &mut MemSink,
+    err: &mut MemSink,
+) -> Result<u8, AllocError>
+    requires out { (sink_shows (sink_state out.old)).stopped ≡ false }
+    requires err { (sink_shows (sink_state err.old)).stopped ≡ false }
+{
+    let text = Bytes::from_slice(alloc, FIRST.input)?;
+    let asked = asked_for(alloc, FIRST.words, text)?;
+    let mut kits = kits(alloc, &FIRST)?;
+    Ok(call(rt, alloc, asked, &mut kits, out, err))
+}
+
+fn expect_stop<R: Abort + Threads + Wait + Sync>(
+    rt: &R,
+    alloc: Global,
+    row: &Row,
+) -> Result<(), Fail> {
+    let mut out = sink(alloc, row.out_stops)?;
+    let mut err = sink(alloc, row.err_stops)?;
+    let status = status_over(rt, alloc, &mut out, &mut err)?;
+    assert_eq!(rt; status, row.status);
+    assert_eq!(rt; out.written(), row.out.as_bytes());
+    assert_eq!(rt; err.written(), row.err.as_bytes());
+    Ok(())
+}
+
 #[test]
 fn printing_stops_at_each_piece(rt: HostRuntime) -> Result<(), Fail> {
-    let alloc = rt.alloc();
-    let line = "1 remote H:3632 stat 00000000\n";
-    for (out_stops, err_stops, status, out, err) in [
-        (0, 1, 100, "", ""),
-        (1, 0, 100, "", "note\n"),
-        (2, 0, 100, line, "note\n"),
-        (3, 2, 0, REMOTE, "note\n"),
-    ] {
-        let (got, out_sink, err_sink) = stopped(&rt, alloc, out_stops, err_stops)?;
-        assert_eq!(rt; got, status);
-        assert_eq!(rt; out_sink.written(), out.as_bytes());
-        assert_eq!(rt; err_sink.written(), err.as_bytes());
+    for row in STOPS {
+        expect_stop(&rt, rt.alloc(), row)?;
     }
     Ok(())
 }

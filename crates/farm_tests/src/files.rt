@@ -5,13 +5,13 @@ ghost use Rattle.edge_traits.specs.Keepers.{IsIdle};
 ghost use Rattle.object_delivery.specs.ScriptedFiles.{files_state, files_shows};
 ghost use Rattle.object_delivery.specs.Staging.{keeper_view};
 
-use crate::devices::{FIRST, Page, Script, kit, strings};
-use edge_memory::{MemClock, MemDialer, MemSource, MemStation};
+use crate::devices::{FIRST, Script, Seen, asked_for, kit, told};
+use edge_memory::{MemClock, MemDialer, MemKeeper, MemStation};
 use edge_traits::{CallNumbers, FileList, Kit};
-use farm_program::farm;
 use farm_types::Bytes;
 use object_delivery::{FileKeeper, Files, MemFiles};
 use std::alloc::{AllocError, Global};
+use std::process::Abort;
 use std::sync::Wait;
 use std::test::Fail;
 use std::thread::Threads;
@@ -41,20 +41,52 @@ const FAILED: &[(&[u64], Option<&[u8]>)] = &[
     (&[5, 6], Some(b"SCO1\ndef a 1\n")),
 ];
 
-// A keeper over files with an old `x.o`.
-fn keeper(alloc: Global, fails: &[u64]) -> Result<FileKeeper<MemFiles>, AllocError>
-    ensures { IfOk result (λ k. IsIdle (keeper_view (files_shows (files_state k.files)) k.pending)) }
-{
+// The one file `x.o`, which is old.
+fn old_file(alloc: Global) -> Result<FileList, AllocError> {
+    let path = Bytes::from_slice(alloc, b"x.o")?;
+    let text = Bytes::from_slice(alloc, b"old")?;
     let mut files = FileList::new(alloc);
-    files.try_put(
-        Bytes::from_slice(alloc, b"x.o")?,
-        Bytes::from_slice(alloc, b"old")?,
-    )?;
+    files.try_put(path, text)?;
+    Ok(files)
+}
+
+fn numbers(alloc: Global, fails: &[u64]) -> Result<CallNumbers, AllocError> {
     let mut numbers = CallNumbers::new(alloc);
     for number in fails {
         numbers.try_push(*number)?;
     }
+    Ok(numbers)
+}
+
+// A keeper over files with an old `x.o`.
+fn keeper(alloc: Global, fails: &[u64]) -> Result<FileKeeper<MemFiles>, AllocError>
+    ensures { IfOk result (λ k. IsIdle (keeper_view (files_shows (files_state k.files)) k.pending)) }
+{
+    let numbers = numbers(alloc, fails)?;
+    let files = old_file(alloc)?;
     Ok(FileKeeper::new(MemFiles::new(files, numbers, 4_096)))
+}
+
+// The same devices over another keeper.
+fn over<D, S, C>(
+    kit: Kit<D, S, MemKeeper, C>,
+    keeper: FileKeeper<MemFiles>,
+) -> Kit<D, S, FileKeeper<MemFiles>, C>
+    requires { IsIdle (keeper_view (files_shows (files_state keeper.files)) keeper.pending) }
+    ensures { IsIdle (keeper_view (files_shows (files_state result.keeper.files)) result.keeper.pending) }
+{
+    let Kit {
+        dialer,
+        station,
+        clock,
+        ..
+    } = kit;
+    Kit {
+        dialer,
+        station,
+        keeper,
+        clock,
+    }
 }
 
 // The kit of the job.
@@ -62,49 +94,31 @@ fn kits(alloc: Global, fails: &[u64]) -> Result<Vec<FileKit>, AllocError>
     ensures one { IfOk result (λ kits. length kits.items ≡ 1) }
     ensures idle { IfOk result (λ kits. All (λ kit. IsIdle (keeper_view (files_shows (files_state kit.keeper.files)) kit.keeper.pending)) kits.items) }
 {
-    let Kit {
-        dialer,
-        station,
-        clock,
-        ..
-    } = kit(alloc, &JOB)?;
+    let keeper = keeper(alloc, fails)?;
+    let kit = over(kit(alloc, &JOB)?, keeper);
     let mut kits = Vec::new(alloc);
-    kits.push(Kit {
-        dialer,
-        station,
-        keeper: keeper(alloc, fails)?,
-        clock,
-    })?;
+    kits.push(kit)?;
     Ok(kits)
 }
 
-// The status, what was printed, and the files.
+// What is seen, and the files.
 fn run<W: Threads + Wait + Sync>(
     rt: &W,
     alloc: Global,
     fails: &[u64],
-) -> Result<(u8, Bytes, Option<MemFiles>), Fail> {
-    let words = strings(alloc, JOB.words)?;
+) -> Result<(Seen, Option<MemFiles>), AllocError> {
     let text = Bytes::from_slice(alloc, JOB.input)?;
-    let mut input = MemSource::new(text, CallNumbers::new(alloc), 100);
+    let asked = asked_for(alloc, JOB.words, text)?;
     let mut kits = kits(alloc, fails)?;
-    let mut out = Page::new(alloc);
-    let mut err = Page::new(alloc);
-    let ended = farm(
-        rt,
-        alloc,
-        words.as_slice(),
-        &[],
-        &mut input,
-        &mut kits,
-        &mut out,
-        &mut err,
-    );
-    let files = match kits.pop() {
+    let seen = told(rt, alloc, asked, &mut kits);
+    Ok((seen, files_of(&mut kits)))
+}
+
+fn files_of(kits: &mut Vec<FileKit>) -> Option<MemFiles> {
+    match kits.pop() {
         Some(kit) => Some(kit.keeper.into_files()),
         None => None,
-    };
-    Ok((ended.status, out.text, files))
+    }
 }
 
 // The content of a file, where it is there.
@@ -128,17 +142,29 @@ fn is_content(file: &Option<Bytes>, wanted: Option<&[u8]>) -> bool {
     }
 }
 
+fn expect<R: Abort + Threads + Wait + Sync>(
+    rt: &R,
+    alloc: Global,
+    fails: &[u64],
+    stays: Option<&[u8]>,
+) -> Result<(), Fail> {
+    let (seen, mut files) = run(rt, alloc, fails)?;
+    let old = content(alloc, &mut files, b"x.o")?;
+    let left = content(alloc, &mut files, b"x.o.farm~")?;
+    assert_eq!(rt; seen.status, 107);
+    assert_eq!(rt;
+        seen.out.as_slice(),
+        b"1 failed put\ntotal 1 ok 0\n".as_slice()
+    );
+    assert!(rt; is_content(&old, Some(b"old")));
+    assert!(rt; is_content(&left, stays), "{:?}", left);
+    Ok(())
+}
+
 #[test]
 fn a_failed_put_leaves_the_old_file(rt: HostRuntime) -> Result<(), Fail> {
-    let alloc = rt.alloc();
     for (fails, stays) in FAILED {
-        let (status, out, mut files) = run(&rt, alloc, fails)?;
-        let old = content(alloc, &mut files, b"x.o")?;
-        let left = content(alloc, &mut files, b"x.o.farm~")?;
-        assert_eq!(rt; status, 107);
-        assert_eq!(rt; out.as_slice(), b"1 failed put\ntotal 1 ok 0\n".as_slice());
-        assert!(rt; is_content(&old, Some(b"old")));
-        assert!(rt; is_content(&left, *stays), "{:?}", left);
+        expect(&rt, rt.alloc(), fails, *stays)?;
     }
     Ok(())
 }

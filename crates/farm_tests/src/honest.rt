@@ -18,6 +18,7 @@ use loop_link::LoopDialer;
 use rehearsal::{compiler_table, loops_answer_as_the_compiler};
 use sample_compiler::SampleStation;
 use std::alloc::{AllocError, Global};
+use std::process::Abort;
 use std::sync::Wait;
 use std::test::Fail;
 use std::thread::Threads;
@@ -75,19 +76,37 @@ fn build_over_loops<W: Threads + Wait + Sync>(
     Ok(farm(rt, alloc, words.as_slice(), &[], &mut input, kits, out, err))
 }
 
-#[test]
-fn a_build_over_loops_puts_what_the_compiler_leaves(rt: HostRuntime) -> Result<(), Fail> {
-    let alloc = rt.alloc();
-    let mut kits = one_kit(alloc)?;
+// The status of a build over these kits.
+fn status_of<W: Threads + Wait + Sync>(
+    rt: &W,
+    alloc: Global,
+    kits: &mut Vec<LoopKit>,
+) -> Result<u8, Fail>
+    requires one { length kits.old.items ≤ 1 }
+    requires some { 1 ≤ length kits.old.items }
+    requires loops { All (λ kit. IsLoop kit) kits.old.items }
+    requires idle { All (λ kit. IsIdle (keeper_shows (keeper_state kit.keeper))) kits.old.items }
+{
     let mut out = Page::new(alloc);
     let mut err = Page::new(alloc);
-    let ended = build_over_loops(&rt, alloc, &mut kits, &mut out, &mut err)?;
-    assert_eq!(rt; ended.status, 0);
+    let ended = build_over_loops(rt, alloc, kits, &mut out, &mut err)?;
+    Ok(ended.status)
+}
+
+fn expect_object<R: Abort>(rt: &R, alloc: Global, kit: &mut LoopKit) -> Result<(), Fail> {
+    let Some(object) = content_of(alloc, kit, b"j1.o")? else {
+        return Err("the object stands".into());
+    };
+    assert_eq!(rt; object.as_slice(), b"SCO1\ndef j1 496 7 * 1 +\n".as_slice());
+    Ok(())
+}
+
+#[test]
+fn a_build_over_loops_puts_what_the_compiler_leaves(rt: HostRuntime) -> Result<(), Fail> {
+    let mut kits = one_kit(rt.alloc())?;
+    assert_eq!(rt; status_of(&rt, rt.alloc(), &mut kits)?, 0);
     for kit in kits.iter_mut() {
-        let Some(object) = content_of(alloc, kit, b"j1.o")? else {
-            return Err("the object stands".into());
-        };
-        assert_eq!(rt; object.as_slice(), b"SCO1\ndef j1 496 7 * 1 +\n".as_slice());
+        expect_object(&rt, rt.alloc(), kit)?;
     }
     Ok(())
 }

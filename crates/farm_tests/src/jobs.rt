@@ -271,27 +271,29 @@ fn is_as_expected(seen: &Seen, row: &Row) -> bool {
         && seen.err.as_slice() == row.err
 }
 
-fn check_rows<R: Abort + Threads + Wait + Sync>(
+fn check_row<R: Abort + Threads + Wait + Sync>(
     rt: &R,
     alloc: Global,
-    rows: &[Row],
+    at: usize,
+    row: &Row,
 ) -> Result<(), Fail> {
-    for (at, row) in rows.iter().enumerate() {
-        let seen = run(rt, alloc, &row.script)?;
-        assert!(rt;
-            is_as_expected(&seen, row),
-            "row {at}: {} {:?} {:?}",
-            seen.status,
-            seen.out,
-            seen.err
-        );
-    }
+    let seen = run(rt, alloc, &row.script)?;
+    assert!(rt;
+        is_as_expected(&seen, row),
+        "row {at}: {} {:?} {:?}",
+        seen.status,
+        seen.out,
+        seen.err
+    );
     Ok(())
 }
 
 #[test]
 fn jobs_end_as_their_devices_let_them(rt: HostRuntime) -> Result<(), Fail> {
-    check_rows(&rt, rt.alloc(), JOBS)
+    for (at, row) in JOBS.iter().enumerate() {
+        check_row(&rt, rt.alloc(), at, row)?;
+    }
+    Ok(())
 }
 
 // Jobs that no host gets, whichever worker has them: they stay here by their words, or there is no host for them.
@@ -320,6 +322,24 @@ const STAYING: &[(&[&str], &[u8], &[u8])] = &[
     ),
 ];
 
+fn check_staying<R: Abort + Threads + Wait + Sync>(
+    rt: &R,
+    alloc: Global,
+    script: &Script,
+    out: &[u8],
+) -> Result<(), Fail> {
+    let seen = run(rt, alloc, script)?;
+    assert_eq!(rt; seen.status, 0, "{:?} {}", script.words, script.kits);
+    assert_eq!(rt;
+        seen.out.as_slice(),
+        out,
+        "{:?} {}",
+        script.words,
+        script.kits
+    );
+    Ok(())
+}
+
 #[test]
 fn jobs_stay_here_whoever_has_them(rt: HostRuntime) -> Result<(), Fail> {
     for kits in [1, 2, 4, 16] {
@@ -332,9 +352,7 @@ fn jobs_stay_here_whoever_has_them(rt: HostRuntime) -> Result<(), Fail> {
                 dial_fails: 1,
                 ..FIRST
             };
-            let seen = run(&rt, rt.alloc(), &script)?;
-            assert_eq!(rt; seen.status, 0, "{words:?} {kits}");
-            assert_eq!(rt; seen.out.as_slice(), out, "{words:?} {kits}");
+            check_staying(&rt, rt.alloc(), &script, out)?;
         }
     }
     Ok(())

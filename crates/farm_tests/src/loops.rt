@@ -4,16 +4,16 @@ ghost use Rattle.std.specs.Prelude.{◌≤◌, length, All, IfOk};
 ghost use Rattle.edge_traits.specs.Keepers.{IsIdle};
 ghost use Rattle.edge_memory.specs.Keepers.{keeper_state, keeper_shows};
 
-use crate::devices::{Page, content_of, empty_keeper, standing_clock, strings};
-use edge_memory::{MemClock, MemKeeper, MemSource};
-use edge_traits::{CallNumbers, Exchange, Kit};
-use farm_program::{Ended, farm};
+use crate::devices::{Seen, asked_for, content_of, empty_keeper, standing_clock, told};
+use edge_memory::{MemClock, MemKeeper};
+use edge_traits::{Exchange, Kit};
 use farm_types::Bytes;
 use loop_link::LoopDialer;
 use rehearsal::compiler_table;
 use sample_compiler::SampleStation;
 use sample_lang::FileMap;
 use std::alloc::{AllocError, Global};
+use std::process::Abort;
 use std::sync::Wait;
 use std::test::Fail;
 use std::thread::Threads;
@@ -24,26 +24,37 @@ type LoopKit = Kit<LoopDialer<SampleStation>, SampleStation, MemKeeper, MemClock
 const REQUEST: &[u8] =
     b"DIST00000001ARGC00000006ARGV00000003sccARGV00000003-O2ARGV00000002-cARGV00000004f1.cARGV00000002-oARGV00000004f1.oDOTI0000000cint f1 = 3;\n";
 
+fn put_source(alloc: Global, files: &mut FileMap, number: u32) -> Result<(), AllocError> {
+    let name = format!(in alloc; "f{number}.c")?;
+    let text = format!(in alloc; "int f{number} = N;\n")?;
+    let path = Bytes::from_slice(alloc, name.as_bytes())?;
+    let content = Bytes::from_slice(alloc, text.as_bytes())?;
+    files.try_put(path, content)
+}
+
 // Twelve sources, each with an item of its own.
 fn sources(alloc: Global) -> Result<FileMap, AllocError> {
     let mut files = FileMap::new(alloc);
     for number in 1..13 {
-        let name = format!(in alloc; "f{number}.c")?;
-        let text = format!(in alloc; "int f{number} = N;\n")?;
-        files.try_put(
-            Bytes::from_slice(alloc, name.as_bytes())?,
-            Bytes::from_slice(alloc, text.as_bytes())?,
-        )?;
+        put_source(alloc, &mut files, number)?;
     }
     Ok(files)
+}
+
+fn dialer(alloc: Global) -> Result<LoopDialer<SampleStation>, AllocError> {
+    let table = compiler_table(alloc)?;
+    let sources = sources(alloc)?;
+    Ok(LoopDialer::new(SampleStation::new(sources), table))
 }
 
 fn loop_kit(alloc: Global) -> Result<LoopKit, AllocError>
     ensures { IfOk result (λ kit. IsIdle (keeper_shows (keeper_state kit.keeper))) }
 {
+    let sources = sources(alloc)?;
+    let dialer = dialer(alloc)?;
     Ok(Kit {
-        dialer: LoopDialer::new(SampleStation::new(sources(alloc)?), compiler_table(alloc)?),
-        station: SampleStation::new(sources(alloc)?),
+        dialer,
+        station: SampleStation::new(sources),
         keeper: empty_keeper(alloc),
         clock: standing_clock(alloc),
     })
@@ -82,16 +93,22 @@ fn lines(alloc: Global) -> Result<Bytes, AllocError> {
     Ok(text)
 }
 
+// Whether the object of this number stands in a kit's files, with its own item.
+fn has_object(alloc: Global, kit: &mut LoopKit, number: u32) -> Result<bool, AllocError> {
+    let name = format!(in alloc; "f{number}.o")?;
+    let object = format!(in alloc; "SCO1\ndef f{number} 3\n")?;
+    match content_of(alloc, kit, name.as_bytes())? {
+        Some(content) => Ok(content.as_slice() == object.as_bytes()),
+        None => Ok(false),
+    }
+}
+
 // How many of the twelve objects stand in a kit's files, each with its own item.
 fn objects_in(alloc: Global, kit: &mut LoopKit) -> Result<u32, AllocError> {
     let mut found: u32 = 0;
     for number in 1..13 {
-        let name = format!(in alloc; "f{number}.o")?;
-        let object = format!(in alloc; "SCO1\ndef f{number} 3\n")?;
-        if let Some(content) = content_of(alloc, kit, name.as_bytes())? {
-            if content.as_slice() == object.as_bytes() {
-                found = found.saturating_add(1);
-            }
+        if has_object(alloc, kit, number)? {
+            found = found.saturating_add(1);
         }
     }
     Ok(found)
@@ -115,6 +132,19 @@ fn is_sent(exchanges: &[Exchange], request: &[u8]) -> bool {
     false
 }
 
+fn is_sent_by(
+    alloc: Global,
+    dialer: LoopDialer<SampleStation>,
+    request: &[u8],
+) -> Result<bool, AllocError> {
+    let exchanges = dialer.into_exchanges().into_items(alloc)?;
+    Ok(is_sent(exchanges.as_slice(), request))
+}
+
+fn dialer_of<D, S: Drop, K: Drop, C: Drop>(kit: Kit<D, S, K, C>) -> D {
+    kit.dialer
+}
+
 fn is_sent_by_any(
     alloc: Global,
     mut kits: Vec<LoopKit>,
@@ -122,52 +152,60 @@ fn is_sent_by_any(
 ) -> Result<bool, AllocError> {
     let mut sent = false;
     'looking: while let Some(kit) = kits.pop() {
-        let Kit { dialer, .. } = kit;
-        let exchanges = dialer.into_exchanges().into_items(alloc)?;
-        sent = sent || is_sent(exchanges.as_slice(), request);
+        let found = is_sent_by(alloc, dialer_of(kit), request)?;
+        sent = sent || found;
     }
     Ok(sent)
 }
+
+const WORDS: &[&str] = &[
+    "build",
+    "--hosts",
+    "127.0.0.1:3632/4 localhost/2",
+    "--workers",
+    "4",
+];
 
 fn build_twelve<W: Threads + Wait + Sync>(
     rt: &W,
     alloc: Global,
     kits: &mut Vec<LoopKit>,
-    out: &mut Page,
-    err: &mut Page,
-) -> Result<Ended, Fail>
+) -> Result<Seen, AllocError>
     requires some { 1 ≤ length kits.old.items }
     requires most { length kits.old.items ≤ 16 }
     requires idle { All (λ kit. IsIdle (keeper_shows (keeper_state kit.keeper))) kits.old.items }
 {
-    let words = strings(
-        alloc,
-        &[
-            "build",
-            "--hosts",
-            "127.0.0.1:3632/4 localhost/2",
-            "--workers",
-            "4",
-        ],
-    )?;
-    let mut input = MemSource::new(job_list(alloc)?, CallNumbers::new(alloc), 4_096);
-    Ok(farm(rt, alloc, words.as_slice(), &[], &mut input, kits, out, err))
+    let asked = asked_for(alloc, WORDS, job_list(alloc)?)?;
+    Ok(told(rt, alloc, asked, kits))
+}
+
+fn expect_printed<R: Abort>(rt: &R, alloc: Global, seen: &Seen) -> Result<(), Fail> {
+    let lines = lines(alloc)?;
+    assert_eq!(rt; seen.status, 0);
+    assert_eq!(rt; seen.out.as_slice(), lines.as_slice());
+    assert!(rt; seen.err.is_empty());
+    Ok(())
+}
+
+fn expect_twelve<R: Abort + Threads + Wait + Sync>(
+    rt: &R,
+    alloc: Global,
+    count: usize,
+) -> Result<(), Fail>
+    requires some { 1 ≤ count }
+    requires most { count ≤ 16 }
+{
+    let mut kits = loop_kits(alloc, count)?;
+    let seen = build_twelve(rt, alloc, &mut kits)?;
+    expect_printed(rt, alloc, &seen)?;
+    let objects = all_objects(alloc, &mut kits)?;
+    let sent = is_sent_by_any(alloc, kits, REQUEST)?;
+    assert_eq!(rt; (objects, sent), (12, true));
+    Ok(())
 }
 
 #[test]
 fn twelve_jobs_over_loops(rt: HostRuntime) -> Result<(), Fail> {
-    let alloc = rt.alloc();
-    let lines = lines(alloc)?;
-    for count in [1, 4] {
-        let mut kits = loop_kits(alloc, count)?;
-        let mut out = Page::new(alloc);
-        let mut err = Page::new(alloc);
-        let ended = build_twelve(&rt, alloc, &mut kits, &mut out, &mut err)?;
-        assert_eq!(rt; ended.status, 0);
-        assert_eq!(rt; out.text.as_slice(), lines.as_slice());
-        assert!(rt; err.text.is_empty());
-        assert_eq!(rt; all_objects(alloc, &mut kits)?, 12);
-        assert!(rt; is_sent_by_any(alloc, kits, REQUEST)?);
-    }
-    Ok(())
+    expect_twelve(&rt, rt.alloc(), 1)?;
+    expect_twelve(&rt, rt.alloc(), 4)
 }

@@ -1,6 +1,6 @@
 //! Requests to the daemon's service, whose station is the sample compiler.
 
-use daemon_service::{Served, serve_connection};
+use daemon_service::{Compilers, Served, serve_connection};
 use edge_memory::{LinkScript, MemLink, Moves};
 use edge_traits::CallNumbers;
 use farm_types::Bytes;
@@ -8,6 +8,7 @@ use rehearsal::compiler_table;
 use sample_compiler::SampleStation;
 use sample_lang::FileMap;
 use std::alloc::{AllocError, Global};
+use std::process::Abort;
 use std::test::Fail;
 
 // What a client sends, `scc -c a.i -o a.o` on one line of source; the status; and the reply.
@@ -26,8 +27,9 @@ const SERVED: &[(&[u8], u32, &[u8])] = &[
 
 // A link that gives this, and moves at most so many bytes by one call.
 fn script(alloc: Global, gives: &[u8], most: u32) -> Result<LinkScript, AllocError> {
+    let gives = Bytes::from_slice(alloc, gives)?;
     Ok(LinkScript {
-        gives: Bytes::from_slice(alloc, gives)?,
+        gives,
         moves: Moves {
             fails: CallNumbers::new(alloc),
             zeros: CallNumbers::new(alloc),
@@ -36,24 +38,38 @@ fn script(alloc: Global, gives: &[u8], most: u32) -> Result<LinkScript, AllocErr
     })
 }
 
-// Serves one connection that gives this, and answers what was written too.
-fn serve(alloc: Global, gives: &[u8], most: u32) -> Result<(Served, Bytes), AllocError> {
-    let script = script(alloc, gives, most)?;
-    let table = compiler_table(alloc)?;
+fn serve_link(alloc: Global, script: LinkScript, table: &Compilers) -> (Served, Bytes) {
     let mut link = MemLink::new(alloc, script);
     let mut station = SampleStation::new(FileMap::new(alloc));
-    let served = serve_connection(alloc, &mut link, &mut station, &table);
-    Ok((served, link.into_sent()))
+    let served = serve_connection(alloc, &mut link, &mut station, table);
+    (served, link.into_sent())
+}
+
+// Serves one connection that gives this, and answers what was written too.
+fn serve(alloc: Global, gives: &[u8], most: u32) -> Result<(Served, Bytes), AllocError> {
+    let table = compiler_table(alloc)?;
+    let script = script(alloc, gives, most)?;
+    Ok(serve_link(alloc, script, &table))
+}
+
+fn expect<R: Abort>(
+    rt: &R,
+    alloc: Global,
+    gives: &[u8],
+    most: u32,
+    wanted: (u32, &[u8]),
+) -> Result<(), Fail> {
+    let (served, written) = serve(alloc, gives, most)?;
+    assert_eq!(rt; served, Served::Answered(wanted.0));
+    assert_eq!(rt; written.as_slice(), wanted.1);
+    Ok(())
 }
 
 #[test]
 fn the_service_answers_with_what_the_compiler_leaves(rt: HostRuntime) -> Result<(), Fail> {
     for (gives, status, reply) in SERVED {
-        for most in [7, 1_000] {
-            let (served, written) = serve(rt.alloc(), gives, most)?;
-            assert_eq!(rt; served, Served::Answered(*status));
-            assert_eq!(rt; written.as_slice(), *reply);
-        }
+        expect(&rt, rt.alloc(), gives, 7, (*status, reply))?;
+        expect(&rt, rt.alloc(), gives, 1_000, (*status, reply))?;
     }
     Ok(())
 }

@@ -21,7 +21,7 @@ struct Row {
 }
 
 // Words of one command each. What a build is asked for is the first run's job.
-const COMMANDS: [Row; 21] = [
+const COMMANDS: &[Row] = &[
     Row {
         words: &[
             "build",
@@ -208,7 +208,7 @@ const COMMANDS: [Row; 21] = [
 ];
 
 // Builds by other hosts, and with fallback: the host compiles, or none is there.
-const BUILDS: [Row; 5] = [
+const BUILDS: &[Row] = &[
     Row {
         words: &["build", "--hosts", "H"],
         env: &[],
@@ -247,7 +247,7 @@ const BUILDS: [Row; 5] = [
 ];
 
 // Builds that compile here: the compile gives an empty object.
-const HERE: [(&[&str], &str); 2] = [
+const HERE: &[(&[&str], &str)] = &[
     (&["build"], "1 here stat 00000000\ntotal 1 ok 1\n"),
     (
         &["build", "--no-fallback", "--hosts", "localhost"],
@@ -256,7 +256,7 @@ const HERE: [(&[&str], &str); 2] = [
 ];
 
 // Words that don't fit, and the place of the first that doesn't.
-const BAD_WORDS: [(&[&str], &str); 19] = [
+const BAD_WORDS: &[(&[&str], &str)] = &[
     (&[], "0"),
     (&["make"], "0"),
     (&["build", "--workers", "0"], "2"),
@@ -282,7 +282,7 @@ const BAD_WORDS: [(&[&str], &str); 19] = [
 ];
 
 // What the help of each command begins with.
-const HELP: [(&[&str], &str); 6] = [
+const HELP: &[(&[&str], &str)] = &[
     (
         &["--help"],
         "Usage: farm build --hosts 'build1/4 build2/4' --workers 8 <jobs\n",
@@ -330,74 +330,100 @@ fn shows(seen: &Seen, status: u8, out: &str, err: &str) -> bool {
         && seen.object.is_some() == (out == DONE)
 }
 
+// Nothing but this is printed in the run of a script.
+fn check_run<R: Abort + Threads + Wait + Sync>(
+    rt: &R,
+    alloc: Global,
+    script: &Script,
+    wanted: (u8, &str, &str),
+) -> Result<(), Fail> {
+    let seen = run(rt, alloc, script)?;
+    assert!(rt;
+        shows(&seen, wanted.0, wanted.1, wanted.2),
+        "{:?}: {} {:?} {:?}",
+        script.words,
+        seen.status,
+        seen.out,
+        seen.err
+    );
+    Ok(())
+}
+
 fn check_rows<R: Abort + Threads + Wait + Sync>(
     rt: &R,
     alloc: Global,
     rows: &[Row],
 ) -> Result<(), Fail> {
-    for (at, row) in rows.iter().enumerate() {
+    for row in rows {
         let script = Script {
             words: row.words,
             env: row.env,
             ..FIRST
         };
-        let seen = run(rt, alloc, &script)?;
-        assert!(rt;
-            shows(&seen, row.status, row.out, row.err),
-            "row {at}: {} {:?} {:?}",
-            seen.status,
-            seen.out,
-            seen.err
-        );
+        check_run(rt, alloc, &script, (row.status, row.out, row.err))?;
     }
     Ok(())
 }
 
 #[test]
 fn commands_answer_by_their_words(rt: HostRuntime) -> Result<(), Fail> {
-    check_rows(&rt, rt.alloc(), &COMMANDS)?;
-    check_rows(&rt, rt.alloc(), &BUILDS)
+    check_rows(&rt, rt.alloc(), COMMANDS)?;
+    check_rows(&rt, rt.alloc(), BUILDS)
+}
+
+// What is printed in the run of these words begins with this.
+fn check_begin<R: Abort + Threads + Wait + Sync>(
+    rt: &R,
+    alloc: Global,
+    words: &'static [&'static str],
+    begin: &str,
+) -> Result<Seen, Fail> {
+    let seen = run(rt, alloc, &Script { words, ..FIRST })?;
+    assert_eq!(rt; seen.status, 0, "{words:?}");
+    assert!(rt;
+        seen.out.as_slice().starts_with(begin.as_bytes()),
+        "{words:?}"
+    );
+    Ok(seen)
 }
 
 #[test]
 fn this_machine_compiles_where_no_host_does(rt: HostRuntime) -> Result<(), Fail> {
-    for (words, out) in HERE {
-        let seen = run(&rt, rt.alloc(), &Script { words, ..FIRST })?;
-        assert_eq!(rt; seen.status, 0, "{words:?}");
-        assert_eq!(rt; seen.out.as_slice(), out.as_bytes(), "{words:?}");
+    for &(words, out) in HERE {
+        let seen = check_begin(&rt, rt.alloc(), words, out)?;
+        assert_eq!(rt; seen.out.len(), out.len(), "{words:?}");
         assert!(rt; seen.object.is_some(), "{words:?}");
     }
     Ok(())
 }
 
+fn check_bad_words<R: Abort + Threads + Wait + Sync>(
+    rt: &R,
+    alloc: Global,
+    words: &'static [&'static str],
+    place: &str,
+) -> Result<(), Fail> {
+    let script = Script {
+        words,
+        read_fails: 1,
+        ..FIRST
+    };
+    let err = format!(in alloc; "farm: bad words at word {place}\n")?;
+    check_run(rt, alloc, &script, (101, "", err.as_str()))
+}
+
 #[test]
 fn words_that_do_not_fit_are_named_by_their_place(rt: HostRuntime) -> Result<(), Fail> {
-    for (words, place) in BAD_WORDS {
-        let script = Script {
-            words,
-            read_fails: 1,
-            ..FIRST
-        };
-        let seen = run(&rt, rt.alloc(), &script)?;
-        let err = format!(in rt.alloc(); "farm: bad words at word {place}\n")?;
-        assert!(rt;
-            shows(&seen, 101, "", err.as_str()),
-            "{words:?}: {:?}",
-            seen.err
-        );
+    for &(words, place) in BAD_WORDS {
+        check_bad_words(&rt, rt.alloc(), words, place)?;
     }
     Ok(())
 }
 
 #[test]
 fn help_is_printed(rt: HostRuntime) -> Result<(), Fail> {
-    for (words, usage) in HELP {
-        let seen = run(&rt, rt.alloc(), &Script { words, ..FIRST })?;
-        assert_eq!(rt; seen.status, 0, "{words:?}");
-        assert!(rt;
-            seen.out.as_slice().starts_with(usage.as_bytes()),
-            "{words:?}"
-        );
+    for &(words, usage) in HELP {
+        let seen = check_begin(&rt, rt.alloc(), words, usage)?;
         assert!(rt; seen.err.is_empty(), "{words:?}");
     }
     Ok(())
@@ -406,16 +432,12 @@ fn help_is_printed(rt: HostRuntime) -> Result<(), Fail> {
 #[test]
 fn inputs_without_a_job_are_refused(rt: HostRuntime) -> Result<(), Fail> {
     for &(input, read_fails, status, err) in INPUTS {
-        let seen = run(
-            &rt,
-            rt.alloc(),
-            &Script {
-                input,
-                read_fails,
-                ..FIRST
-            },
-        )?;
-        assert!(rt; shows(&seen, status, "", err), "{input:?}: {:?}", seen.err);
+        let script = Script {
+            input,
+            read_fails,
+            ..FIRST
+        };
+        check_run(&rt, rt.alloc(), &script, (status, "", err))?;
     }
     Ok(())
 }
