@@ -10,4 +10,6 @@ mod laws;
 #[cfg(test)]
 mod rows;
 #[cfg(test)]
+mod same;
+#[cfg(test)]
 mod scripted;

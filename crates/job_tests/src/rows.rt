@@ -1,9 +1,10 @@
 //! Jobs over devices that follow scripts, and the slots of one thread.
 
+use crate::same::holds;
 use crate::scripted::{
-    Ended, Left, Passed, Row, done, expect_end, expect_over, files, kit, numbers,
+    Ended, Left, Passed, Row, expect_done, expect_over, files, memory, memory_kit, numbers,
 };
-use edge_memory::{MemKeeper, MemStation, RanList};
+use edge_memory::{MemStation, RanList};
 use edge_traits::{Cause, FetchFault, FileList};
 use farm_machine::{By, End, Event, Why5};
 use farm_types::{Bytes, Ran};
@@ -118,7 +119,7 @@ const HERE: Row = Row {
 };
 
 fn expect_row<R: Wait + Abort>(rt: &R, alloc: Global, row: &Row) -> Result<(), Fail> {
-    let keeper = MemKeeper::new(files(alloc)?, numbers(alloc, row.keeper_fails)?);
+    let keeper = memory(alloc, files(alloc)?, row.keeper_fails)?;
     expect_over(rt, alloc, row, keeper)?;
     Ok(())
 }
@@ -226,13 +227,23 @@ fn no_file<F: Files>(alloc: Global, files: &mut F, name: &[u8]) -> Result<bool, 
     Ok(matches!(files.load(alloc, &name, 100), Err(FetchFault::Absent)))
 }
 
+fn expect_no_file<R: Abort>(rt: &R, alloc: Global, files: &mut MemFiles) -> Result<(), Fail> {
+    let none = no_file(alloc, files, b"x.o.farm~")?;
+    holds(rt, none, &"no file");
+    Ok(())
+}
+
+fn made(alloc: Global, row: &Row) -> Result<MemFiles, Fail> {
+    let files = files(alloc)?;
+    Ok(MemFiles::new(files, numbers(alloc, row.keeper_fails)?, 1_000))
+}
+
 /// Nothing is left under the name that the file has while it is written.
 fn expect_file<R: Wait + Abort>(rt: &R, alloc: Global, row: &Row) -> Result<(), Fail> {
-    let made = MemFiles::new(files(alloc)?, numbers(alloc, row.keeper_fails)?, 1_000);
+    let made = made(alloc, row)?;
     let keeper = expect_over(rt, alloc, row, FileKeeper::new(made))?;
     let mut made = keeper.into_files();
-    assert!(rt; no_file(alloc, &mut made, b"x.o.farm~")?);
-    Ok(())
+    expect_no_file(rt, alloc, &mut made)
 }
 
 fn expect_files<R: Wait + Abort>(rt: &R, alloc: Global, rows: &[Row]) -> Result<(), Fail> {
@@ -505,10 +516,8 @@ const LEFT_ALONE: &[Row] = &[
 
 /// Does the job of a row twice, and compares the end of the second one.
 fn expect_second_end<R: Wait + Abort>(rt: &R, alloc: Global, row: &Row) -> Result<(), Fail> {
-    let keeper = MemKeeper::new(files(alloc)?, numbers(alloc, &[])?);
-    let mut kit = kit(alloc, row, keeper)?;
-    let report = done(rt, alloc, row, true, &mut kit)?;
-    expect_end(rt, &report, row)
+    let mut kit = memory_kit(alloc, row, files(alloc)?)?;
+    expect_done(rt, alloc, row, true, &mut kit)
 }
 
 fn expect_second_ends<R: Wait + Abort>(rt: &R, alloc: Global, rows: &[Row]) -> Result<(), Fail> {
@@ -574,6 +583,11 @@ fn long_rans(alloc: Global, length: usize) -> Result<RanList, Fail> {
     Ok(rans)
 }
 
+fn long_station(alloc: Global, length: usize) -> Result<MemStation, Fail> {
+    let rans = long_rans(alloc, length)?;
+    Ok(MemStation::new(rans, numbers(alloc, &[])?))
+}
+
 /// Does the job of a row whose preprocessor leaves so many bytes.
 fn expect_length<R: Wait + Abort>(
     rt: &R,
@@ -581,11 +595,10 @@ fn expect_length<R: Wait + Abort>(
     length: usize,
     row: &Row,
 ) -> Result<(), Fail> {
-    let keeper = MemKeeper::new(files(alloc)?, numbers(alloc, &[])?);
-    let mut kit = kit(alloc, row, keeper)?;
-    kit.station = MemStation::new(long_rans(alloc, length)?, numbers(alloc, &[])?);
-    let report = done(rt, alloc, row, false, &mut kit)?;
-    expect_end(rt, &report, row)
+    let station = long_station(alloc, length)?;
+    let mut kit = memory_kit(alloc, row, files(alloc)?)?;
+    kit.station = station;
+    expect_done(rt, alloc, row, false, &mut kit)
 }
 
 fn expect_lengths<R: Wait + Abort>(
@@ -640,10 +653,8 @@ fn expect_fetched<R: Wait + Abort>(
     length: usize,
     row: &Row,
 ) -> Result<(), Fail> {
-    let keeper = MemKeeper::new(long_file(alloc, length)?, numbers(alloc, &[])?);
-    let mut kit = kit(alloc, row, keeper)?;
-    let report = done(rt, alloc, row, false, &mut kit)?;
-    expect_end(rt, &report, row)
+    let mut kit = memory_kit(alloc, row, long_file(alloc, length)?)?;
+    expect_done(rt, alloc, row, false, &mut kit)
 }
 
 fn expect_all_fetched<R: Wait + Abort>(

@@ -5,8 +5,9 @@ ghost use Rattle.slot_table.specs.History.{outstanding};
 ghost use Rattle.slot_table.specs.Grants.{cost};
 ghost use Rattle.farm_machine.specs.Jobs.{AreLimitsOf};
 
+use crate::same::{same, same_bytes};
 use edge_memory::{
-    LinkScript, LinkScripts, MemClock, MemDialer, MemStation, Moments, Moves, RanList,
+    LinkScript, LinkScripts, MemClock, MemDialer, MemKeeper, MemStation, Moments, Moves, RanList,
 };
 use edge_traits::{
     CallNumbers, Clock, Dialer, Exchange, FileList, Keeper, Kit, Run, Station, is_staged,
@@ -82,45 +83,79 @@ pub(crate) fn numbers(alloc: Global, list: &[u64]) -> Result<CallNumbers, Fail> 
     Ok(numbers)
 }
 
+fn link(alloc: Global, gives: &[u8], most: u32) -> Result<LinkScript, Fail> {
+    Ok(LinkScript {
+        gives: Bytes::from_slice(alloc, gives)?,
+        moves: Moves {
+            fails: CallNumbers::new(alloc),
+            zeros: CallNumbers::new(alloc),
+            most,
+        },
+    })
+}
+
 fn links(alloc: Global, row: &Row) -> Result<LinkScripts, Fail> {
     let mut links = LinkScripts::new(alloc);
     for gives in row.gives {
-        links.try_push(LinkScript {
-            gives: Bytes::from_slice(alloc, gives)?,
-            moves: Moves {
-                fails: CallNumbers::new(alloc),
-                zeros: CallNumbers::new(alloc),
-                most: row.most,
-            },
-        })?;
+        links.try_push(link(alloc, gives, row.most)?)?;
     }
     Ok(links)
+}
+
+fn ran(alloc: Global, left: &Left) -> Result<Ran, Fail> {
+    Ok(Ran {
+        status: left.0,
+        out: Bytes::from_slice(alloc, left.1)?,
+        err: Bytes::from_slice(alloc, left.2)?,
+        object: Bytes::from_slice(alloc, left.3)?,
+    })
 }
 
 fn rans(alloc: Global, row: &Row) -> Result<RanList, Fail> {
     let mut rans = RanList::new(alloc);
     for left in row.rans {
-        rans.try_push(Ran {
-            status: left.0,
-            out: Bytes::from_slice(alloc, left.1)?,
-            err: Bytes::from_slice(alloc, left.2)?,
-            object: Bytes::from_slice(alloc, left.3)?,
-        })?;
+        rans.try_push(ran(alloc, left)?)?;
     }
     Ok(rans)
+}
+
+fn put(alloc: Global, files: &mut FileList, path: &[u8], content: &[u8]) -> Result<(), Fail> {
+    let path = Bytes::from_slice(alloc, path)?;
+    files.try_put(path, Bytes::from_slice(alloc, content)?)?;
+    Ok(())
 }
 
 /// The file `x.o` holds `old`, and `a.i` a source.
 pub(crate) fn files(alloc: Global) -> Result<FileList, Fail> {
     let mut files = FileList::new(alloc);
-    let cases: [(&[u8], &[u8]); 2] = [(b"x.o", b"old"), (b"a.i", b"int a = 1;\n")];
-    for (path, content) in cases {
-        files.try_put(
-            Bytes::from_slice(alloc, path)?,
-            Bytes::from_slice(alloc, content)?,
-        )?;
-    }
+    put(alloc, &mut files, b"x.o", b"old")?;
+    put(alloc, &mut files, b"a.i", b"int a = 1;\n")?;
     Ok(files)
+}
+
+fn dialer(alloc: Global, row: &Row) -> Result<MemDialer, Fail> {
+    let links = links(alloc, row)?;
+    Ok(MemDialer::new(links, numbers(alloc, row.dial_fails)?))
+}
+
+fn station(alloc: Global, row: &Row) -> Result<MemStation, Fail> {
+    let rans = rans(alloc, row)?;
+    Ok(MemStation::new(rans, numbers(alloc, row.run_fails)?))
+}
+
+fn clock(alloc: Global, row: &Row) -> Result<MemClock, Fail> {
+    let mut moments = Moments::new(alloc);
+    for moment in row.moments {
+        moments.try_push(*moment)?;
+    }
+    Ok(MemClock::new(moments))
+}
+
+fn devices(alloc: Global, row: &Row) -> Result<(MemClock, MemStation, MemDialer), Fail> {
+    let clock = clock(alloc, row)?;
+    let station = station(alloc, row)?;
+    let dialer = dialer(alloc, row)?;
+    Ok((clock, station, dialer))
 }
 
 /// The devices of a row, over this keeper.
@@ -129,16 +164,28 @@ pub(crate) fn kit<K: Keeper + Drop>(
     row: &Row,
     keeper: K,
 ) -> Result<Scripted<K>, Fail> {
-    let mut moments = Moments::new(alloc);
-    for moment in row.moments {
-        moments.try_push(*moment)?;
-    }
+    let (clock, station, dialer) = devices(alloc, row)?;
     Ok(Kit {
-        dialer: MemDialer::new(links(alloc, row)?, numbers(alloc, row.dial_fails)?),
-        station: MemStation::new(rans(alloc, row)?, numbers(alloc, row.run_fails)?),
+        dialer,
+        station,
         keeper,
-        clock: MemClock::new(moments),
+        clock,
     })
+}
+
+/// A keeper in memory of these files, whose calls of these numbers fail.
+pub(crate) fn memory(alloc: Global, files: FileList, fails: &[u64]) -> Result<MemKeeper, Fail> {
+    Ok(MemKeeper::new(files, numbers(alloc, fails)?))
+}
+
+/// The devices of a row, over a keeper in memory of these files.
+pub(crate) fn memory_kit(
+    alloc: Global,
+    row: &Row,
+    files: FileList,
+) -> Result<Scripted<MemKeeper>, Fail> {
+    let keeper = memory(alloc, files, &[])?;
+    kit(alloc, row, keeper)
 }
 
 fn words(alloc: Global, line: &str) -> Result<Words, Fail> {
@@ -149,21 +196,29 @@ fn words(alloc: Global, line: &str) -> Result<Words, Fail> {
     Ok(words)
 }
 
-fn config(alloc: Global, row: &Row) -> Result<JobConfig, Fail> {
+fn host(alloc: Global, name: &str, local: bool) -> Result<Host, Fail> {
+    Ok(Host {
+        name: HostName {
+            text: Bytes::from_slice(alloc, name.as_bytes())?,
+        },
+        port: 3632,
+        limit: 1,
+        local,
+    })
+}
+
+fn hosts(alloc: Global, row: &Row) -> Result<HostVec, Fail> {
     let mut list = HostVec::new(alloc);
     for (name, local) in row.hosts {
-        list.try_push(Host {
-            name: HostName {
-                text: Bytes::from_slice(alloc, name.as_bytes())?,
-            },
-            port: 3632,
-            limit: 1,
-            local: *local,
-        })?;
+        list.try_push(host(alloc, name, *local)?)?;
     }
+    Ok(list)
+}
+
+fn config(alloc: Global, row: &Row) -> Result<JobConfig, Fail> {
     Ok(JobConfig {
         hosts: Hosts {
-            list,
+            list: hosts(alloc, row)?,
             local_slots: 1,
             local_cpp: 8,
             randomize: false,
@@ -236,6 +291,29 @@ fn slots_of(alloc: Global, hosts: &Hosts) -> Result<OneThread<16>, Fail>
     Ok(OneThread::new(alloc, limits, 256)?)
 }
 
+/// Does this job, and where it is to be done again a second one with the same slots.
+fn done_with<R: Wait, K: Keeper>(
+    rt: &R,
+    alloc: Global,
+    words: &Words,
+    config: &JobConfig,
+    again: bool,
+    kit: &mut Scripted<K>,
+) -> Result<Report, Fail> {
+    if words.is_empty() || kit.keeper.is_pending() {
+        return Err("the command has a word, and no put is pending".into());
+    }
+    if config.hosts.list.len() > 16 || config.tries == 0 || config.tries > 16 {
+        return Err("there are at most 16 entries, and 1 to 16 tries".into());
+    }
+    let mut slots = slots_of(alloc, &config.hosts)?;
+    let report = job_at(rt, alloc, words, 0, config, &mut slots, kit)?;
+    if !again {
+        return Ok(report);
+    }
+    job_at(rt, alloc, words, 1, config, &mut slots, kit)
+}
+
 /// Does the job of a row, with slots of one thread, and where it is to be done again a second one with the same slots.
 pub(crate) fn done<R: Wait, K: Keeper>(
     rt: &R,
@@ -246,18 +324,19 @@ pub(crate) fn done<R: Wait, K: Keeper>(
 ) -> Result<Report, Fail> {
     let words = words(alloc, row.line)?;
     let config = config(alloc, row)?;
-    if words.is_empty() || kit.keeper.is_pending() {
-        return Err("the command has a word, and no put is pending".into());
-    }
-    if config.hosts.list.len() > 16 || config.tries == 0 || config.tries > 16 {
-        return Err("there are at most 16 entries, and 1 to 16 tries".into());
-    }
-    let mut slots = slots_of(alloc, &config.hosts)?;
-    let report = job_at(rt, alloc, &words, 0, &config, &mut slots, kit)?;
-    if !again {
-        return Ok(report);
-    }
-    job_at(rt, alloc, &words, 1, &config, &mut slots, kit)
+    done_with(rt, alloc, &words, &config, again, kit)
+}
+
+/// Does the job of a row, or a second one after it, and compares its end.
+pub(crate) fn expect_done<R: Wait + Abort, K: Keeper>(
+    rt: &R,
+    alloc: Global,
+    row: &Row,
+    again: bool,
+    kit: &mut Scripted<K>,
+) -> Result<(), Fail> {
+    let report = done(rt, alloc, row, again, kit)?;
+    expect_end(rt, &report, row)
 }
 
 /// What a file holds, which is nothing where it isn't there.
@@ -303,41 +382,71 @@ pub(crate) fn expect_end<R: Abort>(rt: &R, report: &Report, row: &Row) -> Result
             },
             Ended::Done(wanted, messages, one),
         ) => {
-            assert_eq!(rt; *status, wanted, "{}", row.line);
-            assert_eq!(rt; err.as_slice(), messages, "{}", row.line);
-            assert_eq!(rt; *by, one, "{}", row.line);
+            same(rt, status, &wanted, &row.line);
+            same_bytes(rt, err.as_slice(), messages, &row.line);
+            same(rt, by, &one, &row.line);
         }
-        (End::Failed(why), Ended::Failed(wanted)) => {
-            assert_eq!(rt; *why, wanted, "{}", row.line);
-        }
+        (End::Failed(why), Ended::Failed(wanted)) => same(rt, why, &wanted, &row.line),
         _ => return Err("the job has this end".into()),
     }
     Ok(())
 }
 
+fn expect_exchange<R: Abort>(rt: &R, exchange: &Exchange, passed: &Passed, row: &Row) {
+    let name = exchange.host.text.as_slice();
+    same_bytes(rt, name, passed.0.as_bytes(), &row.line);
+    same(rt, &exchange.dialed, &!passed.1.is_empty(), &row.line);
+    same_bytes(rt, exchange.sent.as_slice(), passed.1, &row.line);
+    same_bytes(rt, exchange.given.as_slice(), passed.2, &row.line);
+}
+
 fn expect_exchanges<R: Abort>(rt: &R, exchanges: &[Exchange], row: &Row) {
-    assert_eq!(rt; exchanges.len(), row.exchanges.len(), "{}", row.line);
+    same(rt, &exchanges.len(), &row.exchanges.len(), &row.line);
     for (exchange, passed) in exchanges.iter().zip(row.exchanges) {
-        assert_eq!(rt;
-            exchange.host.text.as_slice(),
-            passed.0.as_bytes(),
-            "{}",
-            row.line
-        );
-        assert_eq!(rt; exchange.dialed, !passed.1.is_empty(), "{}", row.line);
-        assert_eq!(rt; exchange.sent.as_slice(), passed.1, "{}", row.line);
-        assert_eq!(rt; exchange.given.as_slice(), passed.2, "{}", row.line);
+        expect_exchange(rt, exchange, passed, row);
     }
 }
 
+fn expect_run<R: Abort>(
+    rt: &R,
+    alloc: Global,
+    run: &Run,
+    words: &str,
+    input: &[u8],
+) -> Result<(), Fail> {
+    let line = line_of(alloc, run.words.as_slice())?;
+    same_bytes(rt, line.as_slice(), words.as_bytes(), &words);
+    same_bytes(rt, run.input.as_slice(), input, &words);
+    Ok(())
+}
+
 fn expect_runs<R: Abort>(rt: &R, alloc: Global, runs: &[Run], row: &Row) -> Result<(), Fail> {
-    assert_eq!(rt; runs.len(), row.runs.len(), "{}", row.line);
+    same(rt, &runs.len(), &row.runs.len(), &row.line);
     for (run, (words, input)) in runs.iter().zip(row.runs) {
-        let line = line_of(alloc, run.words.as_slice())?;
-        assert_eq!(rt; line.as_slice(), words.as_bytes(), "{}", row.line);
-        assert_eq!(rt; run.input.as_slice(), *input, "{}", row.line);
+        expect_run(rt, alloc, run, words, input)?;
     }
     Ok(())
+}
+
+fn expect_dialer<R: Abort>(
+    rt: &R,
+    alloc: Global,
+    row: &Row,
+    dialer: MemDialer,
+) -> Result<(), Fail> {
+    let exchanges: Items<Exchange> = dialer.into_exchanges().into_items(alloc)?;
+    expect_exchanges(rt, exchanges.as_slice(), row);
+    Ok(())
+}
+
+fn expect_station<R: Abort>(
+    rt: &R,
+    alloc: Global,
+    row: &Row,
+    station: MemStation,
+) -> Result<(), Fail> {
+    let runs: Items<Run> = station.into_runs().into_items(alloc)?;
+    expect_runs(rt, alloc, runs.as_slice(), row)
 }
 
 /// Compares what the devices kept with the row, and gives the keeper back.
@@ -353,11 +462,41 @@ fn expect_kept<R: Abort, K: Keeper + Drop>(
         keeper,
         ..
     } = kit;
-    let exchanges: Items<Exchange> = dialer.into_exchanges().into_items(alloc)?;
-    expect_exchanges(rt, exchanges.as_slice(), row);
-    let runs: Items<Run> = station.into_runs().into_items(alloc)?;
-    expect_runs(rt, alloc, runs.as_slice(), row)?;
+    expect_dialer(rt, alloc, row, dialer)?;
+    expect_station(rt, alloc, row, station)?;
     Ok(keeper)
+}
+
+fn expect_report<R: Abort>(rt: &R, report: &Report, row: &Row) -> Result<(), Fail> {
+    expect_events(rt, report.events.as_slice(), row);
+    expect_end(rt, report, row)
+}
+
+fn expect_events<R: Abort>(rt: &R, events: &[Event], row: &Row) {
+    assert_eq!(rt; events, row.events, "{}", row.line);
+}
+
+fn expect_object<R: Abort, K: Keeper>(
+    rt: &R,
+    alloc: Global,
+    keeper: &mut K,
+    row: &Row,
+) -> Result<(), Fail> {
+    let object = content(alloc, keeper, b"x.o")?;
+    same_bytes(rt, object.as_slice(), row.object, &row.line);
+    Ok(())
+}
+
+/// Does the job of a row over these devices, and compares its report and its object.
+fn expect_job<R: Wait + Abort, K: Keeper>(
+    rt: &R,
+    alloc: Global,
+    row: &Row,
+    kit: &mut Scripted<K>,
+) -> Result<(), Fail> {
+    let report = done(rt, alloc, row, false, kit)?;
+    expect_report(rt, &report, row)?;
+    expect_object(rt, alloc, &mut kit.keeper, row)
 }
 
 /// Does the job of a row over this keeper, compares all but its files with the row, and gives the keeper back.
@@ -368,10 +507,6 @@ pub(crate) fn expect_over<R: Wait + Abort, K: Keeper + Drop>(
     keeper: K,
 ) -> Result<K, Fail> {
     let mut kit = kit(alloc, row, keeper)?;
-    let report = done(rt, alloc, row, false, &mut kit)?;
-    assert_eq!(rt; report.events.as_slice(), row.events, "{}", row.line);
-    expect_end(rt, &report, row)?;
-    let object = content(alloc, &mut kit.keeper, b"x.o")?;
-    assert_eq!(rt; object.as_slice(), row.object, "{}", row.line);
+    expect_job(rt, alloc, row, &mut kit)?;
     expect_kept(rt, alloc, row, kit)
 }

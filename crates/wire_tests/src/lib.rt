@@ -6,6 +6,8 @@ mod replies;
 #[cfg(test)]
 mod requests;
 #[cfg(test)]
+mod same;
+#[cfg(test)]
 mod streams;
 #[cfg(test)]
 mod tokens;

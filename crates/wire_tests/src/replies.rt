@@ -1,6 +1,8 @@
+use crate::same::{same, same_bytes};
 use compile_reply::{Reply, decode, encode};
 use farm_types::{Bytes, Outcome};
 use std::alloc::{AllocError, Global};
+use std::process::Abort;
 use std::test::Fail;
 use wire_tokens::{ReplyFault, Which};
 
@@ -42,7 +44,10 @@ const BESIDE_FAILURE: ReplyFault = ReplyFault::ObjectWithFailure {
     len: 4,
 };
 
-const DECODED: [(&str, &[u8], Shown); 20] = [
+/// A text, and what it is read as.
+type Decoded = (&'static str, &'static [u8], Shown);
+
+const DECODED: &[Decoded] = &[
     (
         "a success",
         b"DONE00000001STAT00000000SERR00000000SOUT00000000DOTO0000000dSCO1\ndef a 1\n",
@@ -210,28 +215,37 @@ const DECODED: [(&str, &[u8], Shown); 20] = [
     ),
 ];
 
-const ENCODED: [(u32, &[u8], &[u8], &[u8], &[u8]); 3] = [
-    (
-        0,
-        b"",
-        b"",
-        b"SCO1\ndef a 1\n",
-        b"DONE00000001STAT00000000SERR00000000SOUT00000000DOTO0000000dSCO1\ndef a 1\n",
-    ),
-    (
-        256,
-        b"bad\n",
-        b"",
-        b"",
-        b"DONE00000001STAT00000100SERR00000004bad\nSOUT00000000DOTO00000000",
-    ),
-    (
-        28_160,
-        b"unknown compiler gcc\n",
-        b"",
-        b"",
-        b"DONE00000001STAT00006e00SERR00000015unknown compiler gcc\nSOUT00000000DOTO00000000",
-    ),
+/// The parts of an outcome, and its text.
+struct Written {
+    status: u32,
+    err: &'static [u8],
+    out: &'static [u8],
+    object: &'static [u8],
+    text: &'static [u8],
+}
+
+const ENCODED: &[Written] = &[
+    Written {
+        status: 0,
+        err: b"",
+        out: b"",
+        object: b"SCO1\ndef a 1\n",
+        text: b"DONE00000001STAT00000000SERR00000000SOUT00000000DOTO0000000dSCO1\ndef a 1\n",
+    },
+    Written {
+        status: 256,
+        err: b"bad\n",
+        out: b"",
+        object: b"",
+        text: b"DONE00000001STAT00000100SERR00000004bad\nSOUT00000000DOTO00000000",
+    },
+    Written {
+        status: 28_160,
+        err: b"unknown compiler gcc\n",
+        out: b"",
+        object: b"",
+        text: b"DONE00000001STAT00006e00SERR00000015unknown compiler gcc\nSOUT00000000DOTO00000000",
+    },
 ];
 
 fn summary(reply: Reply) -> Shown {
@@ -249,43 +263,58 @@ fn summary(reply: Reply) -> Shown {
     }
 }
 
-fn outcome(
-    alloc: Global,
-    status: u32,
-    err: &[u8],
-    out: &[u8],
-    object: &[u8],
-) -> Result<Outcome, AllocError> {
+fn outcome(alloc: Global, row: &Written) -> Result<Outcome, AllocError> {
     Ok(Outcome {
-        status,
-        err: Bytes::from_slice(alloc, err)?,
-        out: Bytes::from_slice(alloc, out)?,
-        object: Bytes::from_slice(alloc, object)?,
+        status: row.status,
+        err: Bytes::from_slice(alloc, row.err)?,
+        out: Bytes::from_slice(alloc, row.out)?,
+        object: Bytes::from_slice(alloc, row.object)?,
     })
+}
+
+fn expect_decoded<R: Abort>(rt: &R, alloc: Global, rows: &[Decoded]) {
+    for (row, text, answer) in rows {
+        same(rt, &summary(decode(alloc, text)), answer, row);
+    }
 }
 
 #[test]
 fn decodes(rt: HostRuntime) {
-    for (row, text, answer) in DECODED {
-        assert_eq!(rt; summary(decode(rt.alloc(), text)), answer, "{row}");
+    expect_decoded(&rt, rt.alloc(), DECODED);
+}
+
+/// The text of a row is read as what was written.
+fn expect_read<R: Abort>(rt: &R, alloc: Global, row: &Written) -> Result<(), Fail> {
+    match decode(alloc, row.text) {
+        Reply::Whole { outcome, used } => {
+            same(rt, &used, &row.text.len(), &row.status);
+            same_bytes(rt, outcome.err.as_slice(), row.err, &row.status);
+            same_bytes(rt, outcome.object.as_slice(), row.object, &row.status);
+            Ok(())
+        }
+        _ => Err("what is written is read again".into()),
     }
+}
+
+fn expect_written<R: Abort>(rt: &R, alloc: Global, row: &Written) -> Result<(), Fail> {
+    let outcome = outcome(alloc, row)?;
+    if !outcome.fits() {
+        return Err("the outcome is within its limits".into());
+    }
+    let written = encode(alloc, &outcome)?;
+    same_bytes(rt, written.as_slice(), row.text, &row.status);
+    Ok(())
+}
+
+fn expect_encoded<R: Abort>(rt: &R, alloc: Global, rows: &[Written]) -> Result<(), Fail> {
+    for row in rows {
+        expect_written(rt, alloc, row)?;
+        expect_read(rt, alloc, row)?;
+    }
+    Ok(())
 }
 
 #[test]
 fn encodes(rt: HostRuntime) -> Result<(), Fail> {
-    for (status, err, out, object, text) in ENCODED {
-        let outcome = outcome(rt.alloc(), status, err, out, object)?;
-        assert!(rt; outcome.fits());
-        let written = encode(rt.alloc(), &outcome)?;
-        assert_eq!(rt; written.as_slice(), text);
-        match decode(rt.alloc(), written.as_slice()) {
-            Reply::Whole { outcome, used } => {
-                assert_eq!(rt; used, text.len());
-                assert_eq!(rt; outcome.err.as_slice(), err);
-                assert_eq!(rt; outcome.object.as_slice(), object);
-            }
-            _ => return Err("what is written is read again".into()),
-        }
-    }
-    Ok(())
+    expect_encoded(&rt, rt.alloc(), ENCODED)
 }

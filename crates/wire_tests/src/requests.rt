@@ -1,8 +1,10 @@
+use crate::same::{holds, same, same_bytes};
 use compile_request::{RequestReader, Step, encode};
 use farm_types::{Bytes, Request, Words};
 use std::alloc::{AllocError, Global};
+use std::process::Abort;
 use std::test::Fail;
-use wire_tokens::{ARGC, ARGV, DIST, RequestFault, Which, push_body, push_token};
+use wire_tokens::{ARGV, RequestFault, Which, push_body};
 
 /// What a text in pieces came to, without its bytes.
 #[derive(Clone, Copy, Debug, PartialEq, Eq)]
@@ -38,11 +40,14 @@ const ONE_BYTE_TOO_MANY: RequestFault = RequestFault::TooLarge {
 const TEXT: &[u8] =
     b"DIST00000001ARGC00000005ARGV00000003sccARGV00000002-cARGV00000003a.iARGV00000002-oARGV00000003a.oDOTI0000000bint a = 1;\n";
 
-const WORDS: [&str; 5] = ["scc", "-c", "a.i", "-o", "a.o"];
+const WORDS: &[&str] = &["scc", "-c", "a.i", "-o", "a.o"];
 
-const PIECES: [usize; 5] = [1, 2, 7, 12, 1_000];
+const PIECES: &[usize] = &[1, 2, 7, 12, 1_000];
 
-const READ: [(&str, &[u8], Shown); 17] = [
+/// A text, and what it came to.
+type Case = (&'static str, &'static [u8], Shown);
+
+const READ: &[Case] = &[
     (
         "a compile",
         b"DIST00000001ARGC00000005ARGV00000003sccARGV00000002-cARGV00000003a.iARGV00000002-oARGV00000003a.oDOTI0000000bint a = 1;\n",
@@ -195,13 +200,17 @@ fn read(alloc: Global, text: &[u8], len: usize) -> Shown {
     last
 }
 
-fn request(alloc: Global) -> Result<Request, AllocError> {
+fn words(alloc: Global, texts: &[&str]) -> Result<Words, AllocError> {
     let mut words = Words::new(alloc);
-    for word in WORDS {
-        words.try_push(Bytes::from_slice(alloc, word.as_bytes())?)?;
+    for text in texts {
+        words.try_push(Bytes::from_slice(alloc, text.as_bytes())?)?;
     }
+    Ok(words)
+}
+
+fn request(alloc: Global) -> Result<Request, AllocError> {
     Ok(Request {
-        words,
+        words: words(alloc, WORDS)?,
         source: Bytes::from_slice(alloc, b"int a = 1;\n")?,
     })
 }
@@ -209,31 +218,63 @@ fn request(alloc: Global) -> Result<Request, AllocError> {
 // The front of a request whose sixteen words have all the bytes that they may have together.
 fn full_of_words(alloc: Global) -> Result<Bytes, AllocError> {
     let word = Bytes::from_vec(vec![in alloc; b'x'; 65_536]?);
-    let mut text = Bytes::new(alloc);
-    push_token(&mut text, DIST, 1)?;
-    push_token(&mut text, ARGC, 17)?;
+    let mut text = Bytes::from_slice(alloc, b"DIST00000001ARGC00000011")?;
     for _ in 0..16 {
         push_body(&mut text, ARGV, &word)?;
     }
     Ok(text)
 }
 
-#[test]
-fn reads_in_pieces(rt: HostRuntime) {
-    for (row, text, answer) in READ {
-        for len in PIECES {
-            assert_eq!(rt; read(rt.alloc(), text, len), answer, "{row} by {len}");
-        }
+/// What a text comes to in pieces of these lengths.
+fn expect_pieces<R: Abort>(
+    rt: &R,
+    alloc: Global,
+    row: &str,
+    text: &[u8],
+    lengths: &[usize],
+    answer: &Shown,
+) {
+    for len in lengths {
+        same(rt, &read(alloc, text, *len), answer, &(row, *len));
+    }
+}
+
+fn expect_cases<R: Abort>(rt: &R, alloc: Global, cases: &[Case]) {
+    for (row, text, answer) in cases {
+        expect_pieces(rt, alloc, row, text, PIECES, answer);
     }
 }
 
 #[test]
+fn reads_in_pieces(rt: HostRuntime) {
+    expect_cases(&rt, rt.alloc(), READ);
+}
+
+/// The text of a request.
+fn encoded(alloc: Global, request: &Request) -> Result<Bytes, Fail> {
+    if !request.fits() {
+        return Err("the request is within its limits".into());
+    }
+    Ok(encode(alloc, request)?)
+}
+
+#[test]
 fn writes(rt: HostRuntime) -> Result<(), Fail> {
-    let request = request(rt.alloc())?;
-    assert!(rt; request.fits());
-    let text = encode(rt.alloc(), &request)?;
-    assert_eq!(rt; text.as_slice(), TEXT);
+    let text = encoded(rt.alloc(), &request(rt.alloc())?)?;
+    same_bytes(&rt, text.as_slice(), TEXT, &"a request");
     Ok(())
+}
+
+fn expect_words<R: Abort>(rt: &R, words: &[Bytes], texts: &[&str]) {
+    for (word, text) in words.iter().zip(texts) {
+        same_bytes(rt, word.as_slice(), text.as_bytes(), text);
+    }
+}
+
+fn expect_request<R: Abort>(rt: &R, request: &Request) {
+    same_bytes(rt, request.source.as_slice(), b"int a = 1;\n", &"a source");
+    same(rt, &request.words.len(), &5, &"words");
+    expect_words(rt, request.words.as_slice(), WORDS);
 }
 
 #[test]
@@ -241,54 +282,64 @@ fn reads_the_words(rt: HostRuntime) -> Result<(), Fail> {
     let mut reader = RequestReader::new(rt.alloc());
     match reader.feed(TEXT) {
         Step::Whole { request, used } => {
-            assert_eq!(rt; used, 120);
-            assert_eq!(rt; request.source.as_slice(), b"int a = 1;\n".as_slice());
-            for (word, text) in request.words.as_slice().iter().zip(WORDS) {
-                assert_eq!(rt; word.as_slice(), text.as_bytes());
-            }
+            same(&rt, &used, &120, &"bytes");
+            expect_request(&rt, &request);
         }
         _ => return Err("the text is whole".into()),
     }
-    assert!(rt; reader.is_spent());
+    holds(&rt, reader.is_spent(), &"after a request");
+    Ok(())
+}
+
+/// Words that have all their bytes, and what they come to with this behind them.
+fn expect_full<R: Abort>(
+    rt: &R,
+    alloc: Global,
+    behind: &[u8],
+    fault: RequestFault,
+) -> Result<(), Fail> {
+    let mut text = full_of_words(alloc)?;
+    let at = text.len() as u64;
+    expect_pieces(rt, alloc, "full", text.as_slice(), &[1_460], &Shown::More);
+    text.try_extend(behind)?;
+    let answer = Shown::Bad {
+        at: at.saturating_add(11),
+        fault,
+    };
+    expect_pieces(rt, alloc, "a word more", text.as_slice(), &[1_460], &answer);
     Ok(())
 }
 
 #[test]
 fn counts_all_words(rt: HostRuntime) -> Result<(), Fail> {
-    let mut text = full_of_words(rt.alloc())?;
-    assert_eq!(rt; read(rt.alloc(), text.as_slice(), 1_460), Shown::More);
-    let len = text.len() as u64;
-    text.try_extend(b"ARGV00000001")?;
-    let fault = Shown::Bad {
-        at: len.saturating_add(11),
-        fault: ONE_BYTE_TOO_MANY,
+    expect_full(&rt, rt.alloc(), b"ARGV00000001", ONE_BYTE_TOO_MANY)?;
+    expect_full(&rt, rt.alloc(), b"ARGV00010001", TOO_LARGE_WORD)
+}
+
+/// The text of a request whose source has the greatest length.
+fn large_text(alloc: Global) -> Result<Bytes, Fail> {
+    let request = Request {
+        words: words(alloc, WORDS)?,
+        source: Bytes::from_vec(vec![in alloc; b'x'; 33_554_432]?),
     };
-    assert_eq!(rt; read(rt.alloc(), text.as_slice(), 1_460), fault);
-    text.truncate(len as usize);
-    text.try_extend(b"ARGV00010001")?;
-    let fault = Shown::Bad {
-        at: len.saturating_add(11),
-        fault: TOO_LARGE_WORD,
-    };
-    assert_eq!(rt; read(rt.alloc(), text.as_slice(), 1_460), fault);
-    Ok(())
+    encoded(alloc, &request)
 }
 
 #[test]
 fn reads_large_sources(rt: HostRuntime) -> Result<(), Fail> {
-    let request = Request {
-        words: request(rt.alloc())?.words,
-        source: Bytes::from_vec(vec![in rt.alloc(); b'x'; 33_554_432]?),
-    };
-    assert!(rt; request.fits());
-    let text = encode(rt.alloc(), &request)?;
+    let text = large_text(rt.alloc())?;
     let answer = Shown::Whole {
         read: text.len(),
         words: 5,
         source: 33_554_432,
     };
-    for len in [1, 1_460, 65_536] {
-        assert_eq!(rt; read(rt.alloc(), text.as_slice(), len), answer);
-    }
+    expect_pieces(
+        &rt,
+        rt.alloc(),
+        "a large source",
+        text.as_slice(),
+        &[1, 1_460, 65_536],
+        &answer,
+    );
     Ok(())
 }

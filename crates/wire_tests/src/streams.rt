@@ -1,8 +1,10 @@
+use crate::same::{holds, same, same_bytes};
 use farm_types::{Bytes, Outcome};
 use reply_stream::{Part, ReplyReader, Span};
-use std::alloc::Global;
+use std::alloc::{AllocError, Global};
+use std::process::Abort;
 use std::test::Fail;
-use wire_tokens::{DONE, DOTO, ReplyFault, SERR, SOUT, STAT, Which, push_body, push_token};
+use wire_tokens::{DOTO, Name4, ReplyFault, SERR, Which, push_body};
 
 /// What a text in pieces came to.
 #[derive(Clone, Copy, Debug, PartialEq, Eq)]
@@ -13,9 +15,12 @@ enum Shown {
     Memory,
 }
 
-const PIECES: [usize; 7] = [1, 2, 5, 7, 12, 61, 1_000];
+const PIECES: &[usize] = &[1, 2, 5, 7, 12, 61, 1_000];
 
-const CASES: [(&str, &[u8], &[u8], Shown); 15] = [
+/// A text, the bytes of its object, and what it came to.
+type Case = (&'static str, &'static [u8], &'static [u8], Shown);
+
+const CASES: &[Case] = &[
     (
         "an object",
         b"DONE00000001STAT00000000SERR00000000SOUT00000000DOTO0000000dSCO1\ndef a 1\n",
@@ -195,33 +200,66 @@ fn read(alloc: Global, text: &[u8], len: usize) -> Result<(Shown, Bytes), Fail> 
     Ok((last, object))
 }
 
+/// What this text comes to in pieces of this length, and the bytes of its object.
+fn expect_read<R: Abort>(
+    rt: &R,
+    alloc: Global,
+    case: &Case,
+    text: &[u8],
+    len: usize,
+) -> Result<(), Fail> {
+    let (shown, object) = read(alloc, text, len)?;
+    same(rt, &shown, &case.3, &(case.0, len));
+    same_bytes(rt, object.as_slice(), case.2, &(case.0, len));
+    Ok(())
+}
+
+fn expect_pieces<R: Abort>(rt: &R, alloc: Global, case: &Case) -> Result<(), Fail> {
+    for len in PIECES {
+        expect_read(rt, alloc, case, case.1, *len)?;
+    }
+    Ok(())
+}
+
+fn expect_cases<R: Abort>(rt: &R, alloc: Global, cases: &[Case]) -> Result<(), Fail> {
+    for case in cases {
+        expect_pieces(rt, alloc, case)?;
+    }
+    Ok(())
+}
+
 #[test]
 fn reads_in_pieces(rt: HostRuntime) -> Result<(), Fail> {
-    for (row, text, want, answer) in CASES {
-        for len in PIECES {
-            let (shown, object) = read(rt.alloc(), text, len)?;
-            assert_eq!(rt; shown, answer, "{row} by {len}");
-            assert_eq!(rt; object.as_slice(), want, "{row} by {len}");
-        }
+    expect_cases(&rt, rt.alloc(), CASES)
+}
+
+const WHOLE: &[u8] = b"DONE00000001STAT00000000SERR00000000SOUT00000000DOTO0000000dSCO1\ndef a 1\n";
+
+/// What a text that isn't whole comes to in pieces, and the length of its object.
+fn expect_cut<R: Abort>(rt: &R, alloc: Global, text: &[u8]) -> Result<(), Fail> {
+    for size in PIECES {
+        let (shown, object) = read(alloc, text, *size)?;
+        same(rt, &shown, &Shown::More, &(text.len(), *size));
+        same(
+            rt,
+            &object.len(),
+            &text.len().saturating_sub(60),
+            &(text.len(), *size),
+        );
+    }
+    Ok(())
+}
+
+fn expect_cuts<R: Abort>(rt: &R, alloc: Global, text: &[u8]) -> Result<(), Fail> {
+    for len in 0..text.len() {
+        expect_cut(rt, alloc, &text[..len])?;
     }
     Ok(())
 }
 
 #[test]
 fn reads_every_cut(rt: HostRuntime) -> Result<(), Fail> {
-    let text = b"DONE00000001STAT00000000SERR00000000SOUT00000000DOTO0000000dSCO1\ndef a 1\n";
-    for len in 0..73 {
-        for size in PIECES {
-            let (shown, object) = read(rt.alloc(), &text[..len], size)?;
-            assert_eq!(rt; shown, Shown::More, "{len} bytes by {size}");
-            assert_eq!(rt;
-                object.len(),
-                len.saturating_sub(60),
-                "{len} bytes by {size}"
-            );
-        }
-    }
-    Ok(())
+    expect_cuts(&rt, rt.alloc(), WHOLE)
 }
 
 fn whole(alloc: Global, text: &[u8]) -> Result<Outcome, Fail> {
@@ -232,71 +270,81 @@ fn whole(alloc: Global, text: &[u8]) -> Result<Outcome, Fail> {
     }
 }
 
+fn expect_messages<R: Abort>(rt: &R, outcome: &Outcome) {
+    same_bytes(rt, outcome.err.as_slice(), b"warn", &"err");
+    same_bytes(rt, outcome.out.as_slice(), b"ok", &"out");
+    same_bytes(rt, outcome.object.as_slice(), b"", &"object");
+}
+
 #[test]
 fn reads_the_messages(rt: HostRuntime) -> Result<(), Fail> {
     let text = b"DONE00000001STAT00000000SERR00000004warnSOUT00000002okDOTO00000003obj";
-    let outcome = whole(rt.alloc(), text)?;
-    assert_eq!(rt; outcome.err.as_slice(), b"warn".as_slice());
-    assert_eq!(rt; outcome.out.as_slice(), b"ok".as_slice());
-    assert!(rt; outcome.object.is_empty());
+    expect_messages(&rt, &whole(rt.alloc(), text)?);
     Ok(())
 }
 
 #[test]
 fn is_spent_after_a_reply(rt: HostRuntime) {
     let mut reader = ReplyReader::new(rt.alloc());
-    assert!(rt; !reader.is_spent());
+    holds(&rt, !reader.is_spent(), &"before");
     let _ = reader.feed(b"DONE00000001STAT00000000SERR00000000SOUT00000000DOTO00000000");
-    assert!(rt; reader.is_spent());
+    holds(&rt, reader.is_spent(), &"after");
 }
 
-#[test]
-fn reads_long_messages(rt: HostRuntime) -> Result<(), Fail> {
-    let alloc = rt.alloc();
-    let mut text = Bytes::new(alloc);
-    push_token(&mut text, DONE, 1)?;
-    push_token(&mut text, STAT, 0)?;
-    push_body(
-        &mut text,
-        SERR,
-        &Bytes::from_vec(vec![in alloc; b'e'; 1_048_576]?),
-    )?;
-    text.try_extend(b"SOUT00000000DOTO00000003obj")?;
+/// A text, and behind it a part of this name with so many bytes.
+fn with_body(
+    alloc: Global,
+    text: &[u8],
+    name: Name4,
+    byte: u8,
+    len: u32,
+) -> Result<Bytes, AllocError> {
+    let body = Bytes::from_vec(vec![in alloc; byte; len as usize]?);
+    let mut text = Bytes::from_slice(alloc, text)?;
+    push_body(&mut text, name, &body)?;
+    Ok(text)
+}
+
+/// With the front of its text.
+const LONG_MESSAGES: Case = (
+    "long messages",
+    b"DONE00000001STAT00000000",
+    b"obj",
+    Shown::Whole {
+        read: 1_048_639,
+        status: 0,
+    },
+);
+
+fn expect_long_messages<R: Abort>(
+    rt: &R,
+    alloc: Global,
+    case: &Case,
+    text: &[u8],
+) -> Result<(), Fail> {
     for len in [1, 1_460, 65_536] {
-        let (shown, object) = read(alloc, text.as_slice(), len)?;
-        assert_eq!(rt;
-            shown,
-            Shown::Whole {
-                read: text.len(),
-                status: 0,
-            }
-        );
-        assert_eq!(rt; object.as_slice(), b"obj".as_slice());
+        expect_read(rt, alloc, case, text, len)?;
     }
     Ok(())
 }
 
 #[test]
+fn reads_long_messages(rt: HostRuntime) -> Result<(), Fail> {
+    let mut text = with_body(rt.alloc(), LONG_MESSAGES.1, SERR, b'e', 1_048_576)?;
+    text.try_extend(b"SOUT00000000DOTO00000003obj")?;
+    expect_long_messages(&rt, rt.alloc(), &LONG_MESSAGES, text.as_slice())
+}
+
+#[test]
 fn reads_the_largest_object(rt: HostRuntime) -> Result<(), Fail> {
-    let alloc = rt.alloc();
-    let mut text = Bytes::new(alloc);
-    push_token(&mut text, DONE, 1)?;
-    push_token(&mut text, STAT, 0)?;
-    push_token(&mut text, SERR, 0)?;
-    push_token(&mut text, SOUT, 0)?;
-    push_body(
-        &mut text,
-        DOTO,
-        &Bytes::from_vec(vec![in alloc; b'o'; 33_554_432]?),
-    )?;
-    let (shown, object) = read(alloc, text.as_slice(), 65_536)?;
-    assert_eq!(rt;
-        shown,
-        Shown::Whole {
-            read: 33_554_492,
-            status: 0,
-        }
-    );
-    assert_eq!(rt; object.len(), 33_554_432);
+    let front = b"DONE00000001STAT00000000SERR00000000SOUT00000000";
+    let text = with_body(rt.alloc(), front, DOTO, b'o', 33_554_432)?;
+    let (shown, object) = read(rt.alloc(), text.as_slice(), 65_536)?;
+    let answer = Shown::Whole {
+        read: 33_554_492,
+        status: 0,
+    };
+    same(&rt, &shown, &answer, &"an object");
+    same(&rt, &object.len(), &33_554_432, &"an object");
     Ok(())
 }

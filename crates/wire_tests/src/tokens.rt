@@ -1,11 +1,16 @@
+use crate::same::{same, same_bytes};
 use farm_types::Bytes;
+use std::process::Abort;
 use std::test::Fail;
 use wire_tokens::{
     ARGC, DIST, DONE, DOTI, DOTO, Name4, SERR, STAT, TokenFault, one_reading_of_replies,
     one_reading_of_requests, push_body, push_token, read_token, write_token,
 };
 
-const READ: [(&[u8; 12], Name4, Result<u32, TokenFault>); 12] = [
+/// A text, the name that is wanted, and what is read.
+type Read = (&'static [u8; 12], Name4, Result<u32, TokenFault>);
+
+const READ: &[Read] = &[
     (b"DOTI0000000B", DOTI, Ok(11)),
     (b"DOTI0000000b", DOTI, Ok(11)),
     (b"STAT00006e00", STAT, Ok(28_160)),
@@ -20,33 +25,47 @@ const READ: [(&[u8; 12], Name4, Result<u32, TokenFault>); 12] = [
     (b"DATI+000000b", DOTI, Err(TokenFault::WrongName { at: 1 })),
 ];
 
-const WRITTEN: [(Name4, u32, &[u8; 12]); 4] = [
+/// A name, a number, and their text.
+type Written = (Name4, u32, &'static [u8; 12]);
+
+const WRITTEN: &[Written] = &[
     (DOTI, 11, b"DOTI0000000b"),
     (STAT, 28_160, b"STAT00006e00"),
     (DIST, 1, b"DIST00000001"),
     (DOTO, 4_294_967_295, b"DOTOffffffff"),
 ];
 
+fn expect_read<R: Abort>(rt: &R, rows: &[Read]) {
+    for (text, expected, answer) in rows {
+        same(rt, &read_token(text, *expected), answer, text);
+    }
+}
+
 #[test]
 fn reads_tokens(rt: HostRuntime) {
-    for (text, expected, answer) in READ {
-        assert_eq!(rt; read_token(text, expected), answer);
+    expect_read(&rt, READ);
+}
+
+fn expect_written<R: Abort>(rt: &R, rows: &[Written]) {
+    for (name, number, text) in rows {
+        let mut room = [0; 12];
+        write_token(*name, *number, &mut room);
+        same_bytes(rt, room.as_slice(), text.as_slice(), text);
     }
 }
 
 #[test]
 fn writes_tokens(rt: HostRuntime) -> Result<(), Fail> {
-    for (name, number, text) in WRITTEN {
-        let mut room = [0; 12];
-        write_token(name, number, &mut room);
-        assert_eq!(rt; room.as_slice(), text.as_slice());
-    }
+    expect_written(&rt, WRITTEN);
+    let body = Bytes::from_slice(rt.alloc(), b"bad\n")?;
     let mut text = Bytes::new(rt.alloc());
     push_token(&mut text, DONE, 1)?;
-    push_body(&mut text, SERR, &Bytes::from_slice(rt.alloc(), b"bad\n")?)?;
-    assert_eq!(rt;
+    push_body(&mut text, SERR, &body)?;
+    same_bytes(
+        &rt,
         text.as_slice(),
-        b"DONE00000001SERR00000004bad\n".as_slice()
+        b"DONE00000001SERR00000004bad\n",
+        &"two tokens",
     );
     one_reading_of_requests();
     one_reading_of_replies();
