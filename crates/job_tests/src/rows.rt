@@ -2,7 +2,7 @@
 
 use crate::same::holds;
 use crate::scripted::{
-    Ended, Left, Passed, Row, expect_done, expect_over, files, memory, memory_kit, numbers,
+    Ended, Left, Passed, Row, expect_ended, expect_over, files, memory, numbers, station,
 };
 use edge_memory::{MemStation, RanList};
 use edge_traits::{Cause, FetchFault, FileList};
@@ -516,8 +516,8 @@ const LEFT_ALONE: &[Row] = &[
 
 /// Does the job of a row twice, and compares the end of the second one.
 fn expect_second_end<R: Wait + Abort>(rt: &R, alloc: Global, row: &Row) -> Result<(), Fail> {
-    let mut kit = memory_kit(alloc, row, files(alloc)?)?;
-    expect_done(rt, alloc, row, true, &mut kit)
+    let keeper = memory(alloc, files(alloc)?, &[])?;
+    expect_ended(rt, alloc, row, true, station(alloc, row)?, keeper)
 }
 
 fn expect_second_ends<R: Wait + Abort>(rt: &R, alloc: Global, rows: &[Row]) -> Result<(), Fail> {
@@ -595,10 +595,9 @@ fn expect_length<R: Wait + Abort>(
     length: usize,
     row: &Row,
 ) -> Result<(), Fail> {
+    let keeper = memory(alloc, files(alloc)?, &[])?;
     let station = long_station(alloc, length)?;
-    let mut kit = memory_kit(alloc, row, files(alloc)?)?;
-    kit.station = station;
-    expect_done(rt, alloc, row, false, &mut kit)
+    expect_ended(rt, alloc, row, false, station, keeper)
 }
 
 fn expect_lengths<R: Wait + Abort>(
@@ -653,8 +652,8 @@ fn expect_fetched<R: Wait + Abort>(
     length: usize,
     row: &Row,
 ) -> Result<(), Fail> {
-    let mut kit = memory_kit(alloc, row, long_file(alloc, length)?)?;
-    expect_done(rt, alloc, row, false, &mut kit)
+    let keeper = memory(alloc, long_file(alloc, length)?, &[])?;
+    expect_ended(rt, alloc, row, false, station(alloc, row)?, keeper)
 }
 
 fn expect_all_fetched<R: Wait + Abort>(

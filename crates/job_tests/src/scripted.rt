@@ -138,7 +138,8 @@ fn dialer(alloc: Global, row: &Row) -> Result<MemDialer, Fail> {
     Ok(MemDialer::new(links, numbers(alloc, row.dial_fails)?))
 }
 
-fn station(alloc: Global, row: &Row) -> Result<MemStation, Fail> {
+/// The station of a row.
+pub(crate) fn station(alloc: Global, row: &Row) -> Result<MemStation, Fail> {
     let rans = rans(alloc, row)?;
     Ok(MemStation::new(rans, numbers(alloc, row.run_fails)?))
 }
@@ -151,20 +152,19 @@ fn clock(alloc: Global, row: &Row) -> Result<MemClock, Fail> {
     Ok(MemClock::new(moments))
 }
 
-fn devices(alloc: Global, row: &Row) -> Result<(MemClock, MemStation, MemDialer), Fail> {
+fn devices(alloc: Global, row: &Row) -> Result<(MemClock, MemDialer), Fail> {
     let clock = clock(alloc, row)?;
-    let station = station(alloc, row)?;
-    let dialer = dialer(alloc, row)?;
-    Ok((clock, station, dialer))
+    Ok((clock, dialer(alloc, row)?))
 }
 
-/// The devices of a row, over this keeper.
-pub(crate) fn kit<K: Keeper + Drop>(
+/// The devices of a row, over this station and this keeper.
+fn kit<K: Keeper + Drop>(
     alloc: Global,
     row: &Row,
+    station: MemStation,
     keeper: K,
 ) -> Result<Scripted<K>, Fail> {
-    let (clock, station, dialer) = devices(alloc, row)?;
+    let (clock, dialer) = devices(alloc, row)?;
     Ok(Kit {
         dialer,
         station,
@@ -176,16 +176,6 @@ pub(crate) fn kit<K: Keeper + Drop>(
 /// A keeper in memory of these files, whose calls of these numbers fail.
 pub(crate) fn memory(alloc: Global, files: FileList, fails: &[u64]) -> Result<MemKeeper, Fail> {
     Ok(MemKeeper::new(files, numbers(alloc, fails)?))
-}
-
-/// The devices of a row, over a keeper in memory of these files.
-pub(crate) fn memory_kit(
-    alloc: Global,
-    row: &Row,
-    files: FileList,
-) -> Result<Scripted<MemKeeper>, Fail> {
-    let keeper = memory(alloc, files, &[])?;
-    kit(alloc, row, keeper)
 }
 
 fn words(alloc: Global, line: &str) -> Result<Words, Fail> {
@@ -315,7 +305,7 @@ fn done_with<R: Wait, K: Keeper>(
 }
 
 /// Does the job of a row, with slots of one thread, and where it is to be done again a second one with the same slots.
-pub(crate) fn done<R: Wait, K: Keeper>(
+fn done<R: Wait, K: Keeper>(
     rt: &R,
     alloc: Global,
     row: &Row,
@@ -328,7 +318,7 @@ pub(crate) fn done<R: Wait, K: Keeper>(
 }
 
 /// Does the job of a row, or a second one after it, and compares its end.
-pub(crate) fn expect_done<R: Wait + Abort, K: Keeper>(
+fn expect_done<R: Wait + Abort, K: Keeper>(
     rt: &R,
     alloc: Global,
     row: &Row,
@@ -337,6 +327,19 @@ pub(crate) fn expect_done<R: Wait + Abort, K: Keeper>(
 ) -> Result<(), Fail> {
     let report = done(rt, alloc, row, again, kit)?;
     expect_end(rt, &report, row)
+}
+
+/// Does the job of a row over this station and this keeper, or a second one after it, and compares its end.
+pub(crate) fn expect_ended<R: Wait + Abort, K: Keeper + Drop>(
+    rt: &R,
+    alloc: Global,
+    row: &Row,
+    again: bool,
+    station: MemStation,
+    keeper: K,
+) -> Result<(), Fail> {
+    let mut kit = kit(alloc, row, station, keeper)?;
+    expect_done(rt, alloc, row, again, &mut kit)
 }
 
 /// What a file holds, which is nothing where it isn't there.
@@ -371,7 +374,7 @@ fn line_of(alloc: Global, words: &[Word]) -> Result<Bytes, Fail> {
     Ok(line)
 }
 
-pub(crate) fn expect_end<R: Abort>(rt: &R, report: &Report, row: &Row) -> Result<(), Fail> {
+fn expect_end<R: Abort>(rt: &R, report: &Report, row: &Row) -> Result<(), Fail> {
     match (&report.end, row.end) {
         (
             End::Done {
@@ -506,7 +509,7 @@ pub(crate) fn expect_over<R: Wait + Abort, K: Keeper + Drop>(
     row: &Row,
     keeper: K,
 ) -> Result<K, Fail> {
-    let mut kit = kit(alloc, row, keeper)?;
+    let mut kit = kit(alloc, row, station(alloc, row)?, keeper)?;
     expect_job(rt, alloc, row, &mut kit)?;
     expect_kept(rt, alloc, row, kit)
 }
