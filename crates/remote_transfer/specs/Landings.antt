@@ -1,5 +1,5 @@
 -- Where the object of a reply lands.
-use Rattle.std.specs.Prelude.{◌≡◌, ◌≢◌, ℕ, ◌≤◌, List, [], Result, Ok, Err, IfOk}
+use Rattle.std.specs.Prelude.{◌≡◌, ◌≢◌, ℕ, ◌≤◌, false, List, [], Result, Ok, Err, IfOk}
 use Rattle.farm_types.specs.declared.request.Request.{Request}
 use Rattle.farm_types.specs.declared.hosts.Host.{Host}
 use Rattle.farm_types.specs.declared.ran.Outcome.{Outcome}
@@ -60,6 +60,11 @@ pub record LandedAdds (may_give : List ℕ → List ℕ → Type 0) (q : Request
 abbrev pub LandedCause : Landed → ℕ → ℕ → Type 0
 LandedCause (landeds.Broke Dial) before now = Rose before now
 LandedCause other before now = Still before now
+
+-- Where memory ran out before the dial had succeeded, the keeper wasn't asked and shows what it did.
+abbrev pub IsUnasked : Landed → KeeperView → KeeperView → Type 0
+IsUnasked (landeds.Memory false) before now = now ≡ before
+IsUnasked other before now = Unit {0}
 
 -- ---- the parts of such an attempt
 

@@ -9,7 +9,7 @@ ghost use Rattle.edge_traits.specs.Keepers.{IsIdle};
 ghost use Rattle.edge_traits.specs.Links.{IsNew};
 ghost use Rattle.remote_transfer.specs.Answers;
 ghost use Rattle.remote_transfer.specs.Attempts.{ExchangeIs, EndsBy, AttemptAdds, DialCause};
-ghost use Rattle.remote_transfer.specs.Landings.{KeeperStays, PassedInto, LandedAdds, LandedCause};
+ghost use Rattle.remote_transfer.specs.Landings.{KeeperStays, PassedInto, LandedAdds, LandedCause, IsUnasked};
 ghost use Rattle.remote_transfer.specs.Links.{IsFor, Passed};
 
 use crate::answers::{Attempt, Landed, Landing, Stop};
@@ -144,6 +144,7 @@ pub fn attempt_into<D: Dialer, K: Keeper>(
     ensures adds { LandedAdds (D.may_give dialer.new) request.now host.now result path.now
         (D.shows dialer.old).exchanges (D.shows dialer.new).exchanges (K.shows keeper.old) (K.shows keeper.new) }
     ensures stays { KeeperStays (K.shows keeper.old) (K.shows keeper.new) }
+    ensures unasked { IsUnasked result (K.shows keeper.old) (K.shows keeper.new) }
     ensures may_give { SameRelation (D.may_give dialer.old) (D.may_give dialer.new) }
     ensures later { (D.shows dialer.old).faults ≤ (D.shows dialer.new).faults }
     ensures cause { LandedCause result (D.shows dialer.old).faults (D.shows dialer.new).faults }
