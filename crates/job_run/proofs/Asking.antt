@@ -1,5 +1,5 @@
 -- One try after another.
-use Rattle.std.proofs.Common.{◌≡◌, inl, inr, ℕ, suc, ◌+◌, ◌<◌, ◌≤◌, Bool, true, false, ◌&&◌, ◌||◌, not, cond, nat_eq, nat_lt, List, [], ◌∷◌, length, get_or, Result, Ok, Err, refl, sym, ap, ◌∙◌, subst, arith, eq-eqb, ne_eqb}
+use Rattle.std.proofs.Common.{◌≡◌, ◌≢◌, inl, inr, ℕ, suc, ◌+◌, ◌<◌, ◌≤◌, Bool, true, false, ◌&&◌, ◌||◌, not, cond, nat_eq, nat_lt, List, [], ◌∷◌, length, get_or, Result, Ok, Err, refl, sym, ap, ◌∙◌, subst, arith, eq-eqb, ne_eqb}
 use Rattle.slot_table.specs.declared.limits.Limits.{Limits}
 use Rattle.std.proofs.lemmas.Bool.{lt-ltb, le-ltb, cases_eq}
 use Rattle.std.proofs.lemmas.List.{get_or_read}
@@ -13,20 +13,20 @@ use Rattle.remote_transfer.specs.declared.answers.Landing.TheVariants as landing
 use Rattle.farm_machine.specs.declared.reports.By.TheVariants.{Remote, Here}
 use Rattle.edge_traits.specs.declared.cause.Cause.{Cause}
 use Rattle.farm_machine.specs.declared.reports.Why5.{Why5}
-use Rattle.farm_machine.specs.declared.reports.Why5.TheVariants.{Memory, Broke, Put}
+use Rattle.farm_machine.specs.declared.reports.Why5.TheVariants.{Memory, Broke, Put, Fetch}
 use Rattle.farm_machine.specs.declared.reports.End.{End}
 use Rattle.farm_machine.specs.declared.reports.End.TheVariants.{Done, Failed}
 use Rattle.farm_machine.specs.Causes.{HasEndCause}
 use Rattle.farm_machine.specs.Course.{At, Send, Locally, Finish, Over, no_host, or_here, after_whole, after_broken, Tried, tried_too, Reach, Ends, From}
 use Rattle.farm_machine.specs.Acts.{Act}
-use Rattle.farm_machine.specs.Jobs.{Job, no_host_entry, output_name}
+use Rattle.farm_machine.specs.Jobs.{Job, no_host_entry, output_name, source_name}
 use Rattle.job_run.specs.declared.step.Step.{Step}
 use Rattle.job_run.specs.declared.step.Step.TheVariants as step
 use Rattle.job_run.specs.declared.exchanging.Answer.{Answer}
 use Rattle.job_run.specs.declared.exchanging.Answer.TheVariants as answer
 use Rattle.job_run.specs.Stages.{IsAtKeeper, AnswerIs, answer_by, LocalIs, StepIs, SentIs, step_of, step_after, compiled_at}
 use Rattle.job_run.specs.Worlds.{World, WentOn, Ended}
-use Rattle.job_run.proofs.Composing.{cause-before, rose-before, stands-by, on-then, on-ended}
+use Rattle.job_run.proofs.Composing.{cause-before, rose-before, stands-by, keeps-by, unfetched, on-then, on-ended}
 
 -- what follows from a compile in a slot that was lent
 pub lent-step : {h : ℕ} (j : Job) (l l' : Limits h) (caller caller' number : ℕ) (a b c : World) (at mid : At) (source note : List ℕ) (r : Result Outcome Why5)
@@ -63,13 +63,13 @@ whole-answer j l caller number a b at host source note tried o where_is path obj
 
 -- with fallback the job is compiled here, and else it has failed
 pub here-step : {h : ℕ} (j : Job) (l : Limits h) (caller number : ℕ) (a b : World) (at : At) (source note : List ℕ) (why : Why5)
-    → WentOn j l caller number a b at (or_here j source note (Failed why)) → HasEndCause (Failed why) a.kit b.kit
+    → WentOn j l caller number a b at (or_here j source note (Failed why)) → HasEndCause (Failed why) a.kit b.kit → why ≢ Fetch
     → StepIs j l caller number a b at source note (cond j.config.fallback step.Here (step.Failed why))
-here-step j l caller number a b at source note why went cause = go j.config.fallback went
+here-step j l caller number a b at source note why went cause other = go j.config.fallback went
   where
     go : (fallback : Bool) → WentOn j l caller number a b at (cond fallback (Locally source note) (Over (Failed why))) → StepIs j l caller number a b at source note (cond fallback step.Here (step.Failed why))
     go true w = w
-    go false w = record { to = Over (Failed why); went = w.went; ends = refl; cause = cause; station = stands-by (Failed why) a.kit.station b.kit.station w.station }
+    go false w = record { to = Over (Failed why); went = w.went; ends = refl; cause = cause; station = stands-by (Failed why) a.kit.station b.kit.station w.station; keeper = keeps-by (Failed why) w.went.acts a.kit.keeper b.kit.keeper w.keeper; fetch = unfetched (source_name j) why w.went.acts a.kit.keeper b.kit.keeper other }
 
 -- from the start to a place where the job may end so, its acts are a course
 pub course-of : (j : Job) (acts : List Act) (at to : At) (end : End) → Reach j at acts to → Ends j to end → From j at acts end
@@ -106,6 +106,8 @@ took-lost j l l' caller caller' n number host a b c at mid source note tried sam
       ends = inl (well, inr refl);
       cause = rose-before a.kit.keeper.faults b.kit.keeper.faults c.kit.keeper.faults first.went.later.keeper rose;
       station = both.station;
+      keeper = tt;
+      fetch = tt;
     }
 
 pub took-broke : {h : ℕ} (j : Job) (l l' : Limits h) (caller caller' n number host place : ℕ) (cause : Cause) (a b c : World) (at mid : At) (source note : List ℕ) (tried : List Tried)
@@ -123,7 +125,7 @@ pub took-wanted : {h : ℕ} (j : Job) (l l' : Limits h) (caller caller' n number
     → l' ≡ l → caller' ≡ caller → n ≡ number → WentOn j l' caller' n b c mid (Over (Failed Memory)) → WentOn j l caller number a b at mid → Ended j l caller number a c at (Failed Memory)
 took-wanted j l l' caller caller' n number a b c at mid same_limits same_caller same_number last first =
     let both = on-then j l l' caller caller' number a b c at mid (Over (Failed Memory)) same_limits same_caller first (went-as j l' caller' n number b c mid (Over (Failed Memory)) same_number last) in
-    record { to = Over (Failed Memory); went = both.went; ends = refl; cause = tt; station = both.station }
+    record { to = Over (Failed Memory); went = both.went; ends = refl; cause = tt; station = both.station; keeper = keeps-by (Failed Memory) both.went.acts a.kit.keeper c.kit.keeper both.keeper; fetch = tt }
 
 -- an entry of the mask was not tried
 pub fresh-entry : (masked below tried : Bool) → masked ≡ true → masked ≡ (below && not tried) → tried ≡ false
@@ -137,6 +139,11 @@ pub host_found : (xs ys : List Host) (place host : ℕ) (x : Host) → xs ≡ ys
 host_found xs ys place host x same_list same_host is below =
     let e : x ≡ get_or ys host x = is ∙ ap (λ (zs : List Host). get_or zs place x) same_list ∙ ap (λ (k : ℕ). get_or ys k x) same_host in
     sym (get_or_read ys host x below e no_host_entry)
+
+-- what the tries came to is no fetch
+pub no-host-unfetched : (tried : List Tried) → no_host tried ≢ Fetch
+no-host-unfetched [] e = cc
+no-host-unfetched (t ∷ tried) e = cc
 
 -- where a job stands after these tries: it asks the next host, or has no tries left
 abbrev pub stage : Job → List ℕ → List ℕ → List Tried → At
@@ -159,10 +166,10 @@ pub arrive : {h : ℕ} (j : Job) (l : Limits h) (caller number : ℕ) (a b : Wor
 arrive j l caller number a b at to other same went = subst (λ (t : At). WentOn j l caller number a b at t) same went
 
 pub here-as : {h : ℕ} (j : Job) (l : Limits h) (caller number : ℕ) (a b : World) (at : At) (source note : List ℕ) (s : Step) (last why : Why5)
-    → s ≡ cond j.config.fallback step.Here (step.Failed last) → last ≡ why → WentOn j l caller number a b at (or_here j source note (Failed why)) → HasEndCause (Failed last) a.kit b.kit → StepIs j l caller number a b at source note s
-here-as j l caller number a b at source note s last why is same went cause =
+    → s ≡ cond j.config.fallback step.Here (step.Failed last) → last ≡ why → WentOn j l caller number a b at (or_here j source note (Failed why)) → HasEndCause (Failed last) a.kit b.kit → why ≢ Fetch → StepIs j l caller number a b at source note s
+here-as j l caller number a b at source note s last why is same went cause other =
     subst (λ (t : Step). StepIs j l caller number a b at source note t) (sym (is ∙ ap (λ (w : Why5). cond j.config.fallback step.Here (step.Failed w)) same))
-    (here-step j l caller number a b at source note why went (subst (λ (w : Why5). HasEndCause (Failed w) a.kit b.kit) same cause))
+    (here-step j l caller number a b at source note why went (subst (λ (w : Why5). HasEndCause (Failed w) a.kit b.kit) same cause) other)
 
 -- which entries were not tried: at first all, and after a try one less
 pub untried-all : (masked : Bool) (i n count : ℕ) → masked ≡ nat_lt i n → n ≡ count → masked ≡ (nat_lt i count && true)

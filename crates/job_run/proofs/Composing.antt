@@ -1,15 +1,19 @@
 -- One part of a job after another.
-use Rattle.std.proofs.Common.{◌≡◌, ℕ, ◌≤◌, List, ◌++◌, refl, sym, ap, ◌∙◌, subst, append_assoc, arith, inl, inr}
+use Rattle.std.proofs.Common.{◌≡◌, ◌≢◌, ℕ, ◌≤◌, List, ◌++◌, refl, sym, ap, ◌∙◌, subst, append_assoc, arith, inl, inr}
 use Rattle.slot_table.specs.declared.limits.Limits.{Limits}
 use Rattle.slot_table.specs.declared.calls.CallEntry.{CallEntry}
 use Rattle.edge_traits.specs.declared.cause.Cause.TheVariants.{Dial, Send as CutSend, Recv, Truncated, BadReply, Stopped}
 use Rattle.edge_traits.specs.Kits.{KitView}
 use Rattle.edge_traits.specs.Causes.{Rose}
 use Rattle.edge_traits.specs.Stations.{StationView, NoneRose}
+use Rattle.edge_traits.specs.declared.faults.FetchFault.{FetchFault}
+use Rattle.edge_traits.specs.declared.faults.FetchFault.TheVariants as fetch
+use Rattle.edge_traits.specs.Keepers.{KeeperView, FetchCause}
 use Rattle.edge_traits.specs.Deeds.{Deed, exchanges_in, moments_in, DidIn, MayAll}
 use Rattle.edge_traits.proofs.DeedLemmas.{DidIn-join}
 use Rattle.farm_machine.specs.declared.reports.Event.{Event}
 use Rattle.farm_machine.specs.declared.reports.Places.{Places}
+use Rattle.farm_machine.specs.declared.reports.Why5.{Why5}
 use Rattle.farm_machine.specs.declared.reports.Why5.TheVariants.{Station, Put, Broke, NoHost, Memory, Fetch}
 use Rattle.farm_machine.specs.declared.reports.End.{End}
 use Rattle.farm_machine.specs.declared.reports.End.TheVariants.{Done, Failed}
@@ -17,12 +21,14 @@ use Rattle.farm_machine.specs.Acts.{SlotEvent, Act, slots_of, deeds_of}
 use Rattle.farm_machine.specs.Causes.{HasEndCause, StationStands, KitLater}
 use Rattle.farm_machine.specs.Course.{At, Reach}
 use Rattle.farm_machine.specs.Farm.{wanted}
-use Rattle.farm_machine.specs.Jobs.{Job}
+use Rattle.farm_machine.specs.Jobs.{Job, source_name}
 use Rattle.farm_machine.specs.Moments.{AreMoments}
 use Rattle.farm_machine.specs.Numbered.{numbered, advanced, untimed}
 use Rattle.farm_machine.specs.Own.{Serves}
+use Rattle.job_run.specs.Failures.{fetch_failure}
+use Rattle.job_run.specs.Stands.{KeepsStill, KeeperStands, FetchEnds}
 use Rattle.job_run.specs.Worlds.{World, HasTaken, Went, WentOn, Ended}
-use Rattle.job_run.proofs.Lists.{slots-append, deeds-append, untimed-append, slots-untimed, advanced-append, numbered-append, ran-append, ran-along, may-append, may-along, moments-append, reach-append, serves-append, exchanges-append, moments_in-append, leaves-append}
+use Rattle.job_run.proofs.Lists.{slots-append, deeds-append, untimed-append, slots-untimed, advanced-append, numbered-append, ran-append, ran-along, may-append, may-along, moments-append, reach-append, serves-append, exchanges-append, moments_in-append, leaves-append, exchangeless-both}
 use Rattle.job_run.proofs.Taken.{taken-reach}
 
 pub later-then : {a b c : KitView} → KitLater a b → KitLater b c → KitLater a c
@@ -76,8 +82,8 @@ none-rose s = record { faults = refl; overruns = refl }
 none-rose-then : (a b c : StationView) → NoneRose a b → NoneRose b c → NoneRose a c
 none-rose-then a b c first second = record { faults = second.faults ∙ first.faults; overruns = second.overruns ∙ first.overruns }
 
-pub went-on : {h : ℕ} {j : Job} {l : Limits h} {caller number : ℕ} {a b : World} {at to : At} → Went j l caller number a b at to → NoneRose a.kit.station b.kit.station → WentOn j l caller number a b at to
-went-on went none = record { went = went; station = none }
+pub went-on : {h : ℕ} {j : Job} {l : Limits h} {caller number : ℕ} {a b : World} {at to : At} → (went : Went j l caller number a b at to) → NoneRose a.kit.station b.kit.station → KeepsStill went.acts a.kit.keeper b.kit.keeper → WentOn j l caller number a b at to
+went-on went none keeper = record { went = went; station = none; keeper = keeper }
 
 -- where no count of the station rose, it stands at any end
 pub stands-by : (end : End) (old new : StationView) → NoneRose old new → StationStands end old new
@@ -97,6 +103,62 @@ stands-before a b c (Failed Fetch) first last = none-rose-then a b c first last
 stands-before a b c (Failed (Broke host cause)) first last = none-rose-then a b c first last
 stands-before a b c (Failed NoHost) first last = none-rose-then a b c first last
 stands-before a b c (Failed Memory) first last = none-rose-then a b c first last
+
+-- where the keeper's faults stand still, they do at any end
+pub keeps-by : (end : End) (acts : List Act) (old new : KeeperView) → KeepsStill acts old new → KeeperStands end acts old new
+keeps-by (Done status note err out by) acts old new still = still
+keeps-by (Failed Station) acts old new still = still
+keeps-by (Failed Put) acts old new still = tt
+keeps-by (Failed Fetch) acts old new still = tt
+keeps-by (Failed (Broke host cause)) acts old new still = still
+keeps-by (Failed NoHost) acts old new still = still
+keeps-by (Failed Memory) acts old new still = λ none. let e = still none in omega (arith, e)
+
+still-then : (xs ys : List Act) (a b c : KeeperView) → KeepsStill xs a b → KeepsStill ys b c → KeepsStill (xs ++ ys) a c
+still-then xs ys a b c first second = λ none.
+    let both = exchangeless-both xs ys none in
+    second both.1 ∙ first both.0
+
+keeps-before : (xs ys : List Act) (a b c : KeeperView) (end : End) → KeepsStill xs a b → KeeperStands end ys b c → KeeperStands end (xs ++ ys) a c
+keeps-before xs ys a b c (Done status note err out by) first last = still-then xs ys a b c first last
+keeps-before xs ys a b c (Failed Station) first last = still-then xs ys a b c first last
+keeps-before xs ys a b c (Failed Put) first last = tt
+keeps-before xs ys a b c (Failed Fetch) first last = tt
+keeps-before xs ys a b c (Failed (Broke host cause)) first last = still-then xs ys a b c first last
+keeps-before xs ys a b c (Failed NoHost) first last = still-then xs ys a b c first last
+keeps-before xs ys a b c (Failed Memory) first last = λ none.
+    let both = exchangeless-both xs ys none in
+    let still = first both.0 in
+    let removal = last both.1 in
+    omega (arith, still, removal)
+
+-- an end that isn't by a fetch
+pub unfetched : (name : List ℕ) (why : Why5) (acts : List Act) (old new : KeeperView) → why ≢ Fetch → FetchEnds name (Failed why) acts old new
+unfetched name Station acts old new other = tt
+unfetched name Put acts old new other = tt
+unfetched name Fetch acts old new other = absurd (other refl)
+unfetched name (Broke host cause) acts old new other = tt
+unfetched name NoHost acts old new other = tt
+unfetched name Memory acts old new other = tt
+
+-- the cause of a fetch is one also from a moment before, since when the faults stood still
+fetch-cause-before : (name : List ℕ) (bound : ℕ) (fault : FetchFault) (a b c : KeeperView) → fetch_failure fault ≡ Fetch → b.faults ≡ a.faults → a.overruns ≤ b.overruns → FetchCause name bound b c fault → FetchCause name bound a c fault
+fetch-cause-before name bound fetch.Failed a b c is still later cause = rose-before a.faults b.faults c.faults (omega (arith, still)) cause
+fetch-cause-before name bound fetch.Absent a b c is still later cause = record { rose = rose-before a.overruns b.overruns c.overruns later cause.rose; calm = cause.calm ∙ still; absent = cause.absent }
+fetch-cause-before name bound (fetch.TooMuch bytes) a b c is still later cause = record { rose = rose-before a.overruns b.overruns c.overruns later cause.rose; calm = cause.calm ∙ still; above = cause.above; long = cause.long }
+fetch-cause-before name bound fetch.Memory a b c is still later cause = absurd (cc)
+
+fetch-before : (name : List ℕ) (xs ys : List Act) (a b c : KeeperView) (end : End) → a.overruns ≤ b.overruns → KeepsStill xs a b → FetchEnds name end ys b c → FetchEnds name end (xs ++ ys) a c
+fetch-before name xs ys a b c (Done status note err out by) later first last = tt
+fetch-before name xs ys a b c (Failed Station) later first last = tt
+fetch-before name xs ys a b c (Failed Put) later first last = tt
+fetch-before name xs ys a b c (Failed Fetch) later first last = λ none.
+    let both = exchangeless-both xs ys none in
+    let found = last both.1 in
+    (found.0, found.1, fetch-cause-before name 41943040 found.0 a b c found.1 (first both.0) later found.2)
+fetch-before name xs ys a b c (Failed (Broke host cause)) later first last = tt
+fetch-before name xs ys a b c (Failed NoHost) later first last = tt
+fetch-before name xs ys a b c (Failed Memory) later first last = tt
 
 -- One part after another: by the limits and the caller that the first has, which stayed the same.
 went-then : {h : ℕ} (j : Job) (l l' : Limits h) (caller caller' number : ℕ) (a b c : World) (at mid to : At)
@@ -130,17 +192,22 @@ went-then {h = h} j l l' caller caller' number a b c at mid to same_limits same_
 
 pub on-then : {h : ℕ} (j : Job) (l l' : Limits h) (caller caller' number : ℕ) (a b c : World) (at mid to : At)
     → l' ≡ l → caller' ≡ caller → WentOn j l caller number a b at mid → WentOn j l' caller' number b c mid to → WentOn j l caller number a c at to
+unfolding went-then
 on-then j l l' caller caller' number a b c at mid to same_limits same_caller first second = record {
   went = went-then j l l' caller caller' number a b c at mid to same_limits same_caller first.went second.went;
   station = none-rose-then a.kit.station b.kit.station c.kit.station first.station second.station;
+  keeper = still-then first.went.acts second.went.acts a.kit.keeper b.kit.keeper c.kit.keeper first.keeper second.keeper;
 }
 
 pub on-ended : {h : ℕ} (j : Job) (l l' : Limits h) (caller caller' number : ℕ) (a b c : World) (at mid : At) (end : End)
     → l' ≡ l → caller' ≡ caller → WentOn j l caller number a b at mid → Ended j l' caller' number b c mid end → Ended j l caller number a c at end
+unfolding went-then
 on-ended j l l' caller caller' number a b c at mid end same_limits same_caller first last = record {
   to = last.to;
   went = went-then j l l' caller caller' number a b c at mid last.to same_limits same_caller first.went last.went;
   ends = last.ends;
   cause = cause-before a.kit b.kit c.kit end first.went.later last.cause;
   station = stands-before a.kit.station b.kit.station c.kit.station end first.station last.station;
+  keeper = keeps-before first.went.acts last.went.acts a.kit.keeper b.kit.keeper c.kit.keeper end first.keeper last.keeper;
+  fetch = fetch-before (source_name j) first.went.acts last.went.acts a.kit.keeper b.kit.keeper c.kit.keeper end first.went.later.keeper_overruns first.keeper last.fetch;
 }

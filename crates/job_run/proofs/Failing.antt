@@ -1,5 +1,5 @@
 -- What a fault of a device makes of a job, and what a part leaves of the calls.
-use Rattle.std.proofs.Common.{◌≡◌, ◌⊎◌, inl, inr, ℕ, Bool, true, false, ◌++◌, List, [], ◌∷◌, refl, sym, ap, ◌∙◌, subst, append_assoc}
+use Rattle.std.proofs.Common.{◌≡◌, ◌≢◌, ◌⊎◌, inl, inr, ℕ, Bool, true, false, ◌++◌, List, [], ◌∷◌, refl, sym, ap, ◌∙◌, subst, append_assoc, arith}
 use Rattle.slot_table.specs.declared.calls.CallEntry.{CallEntry}
 use Rattle.slot_table.specs.declared.calls.SlotCall.TheVariants.{GiveBad as GiveBadCall, GiveLocal}
 use Rattle.slot_table.specs.declared.calls.SlotReply.TheVariants.{Given}
@@ -14,9 +14,9 @@ use Rattle.edge_traits.specs.declared.faults.EdgeFault.{EdgeFault}
 use Rattle.edge_traits.specs.declared.faults.EdgeFault.TheVariants as edge
 use Rattle.edge_traits.specs.declared.cause.Cause.{Cause}
 use Rattle.edge_traits.specs.declared.cause.Cause.TheVariants.{Dial, Send as CutSend, Recv, Truncated, BadReply, Stopped}
-use Rattle.edge_traits.specs.Causes.{Rose}
+use Rattle.edge_traits.specs.Causes.{Rose, IsRemoval}
 use Rattle.edge_traits.specs.Kits.{KitView}
-use Rattle.edge_traits.specs.Keepers.{FetchCause}
+use Rattle.edge_traits.specs.Keepers.{KeeperView, FetchCause}
 use Rattle.edge_traits.specs.Stations.{StationView, RunFault}
 use Rattle.farm_types.specs.declared.request.Request.{Request}
 use Rattle.farm_types.specs.declared.hosts.Host.{Host}
@@ -25,9 +25,9 @@ use Rattle.edge_traits.specs.declared.entries.Exchange.{Exchange}
 use Rattle.edge_traits.specs.Exchanges.{IsBegun, IsWhole, IsBroken}
 use Rattle.edge_traits.specs.Told.{Told, Grew}
 use Rattle.remote_transfer.specs.Attempts.{Adds, AttemptAdds}
-use Rattle.remote_transfer.specs.Landings.{LandedCause}
+use Rattle.remote_transfer.specs.Landings.{LandedCause, IsUnasked}
 use Rattle.remote_transfer.specs.declared.answers.Attempt.TheVariants.{Memory as AttemptMemory}
-use Rattle.remote_transfer.specs.declared.answers.Landed.TheVariants.{Broke as LandedBroke}
+use Rattle.remote_transfer.specs.declared.answers.Landed.TheVariants.{Broke as LandedBroke, Memory as LandedMemory}
 use Rattle.farm_machine.specs.declared.reports.Event.{Event}
 use Rattle.farm_machine.specs.declared.reports.Event.TheVariants.{Took, Gave, GaveBad}
 use Rattle.farm_machine.specs.declared.reports.Why5.{Why5}
@@ -35,12 +35,13 @@ use Rattle.farm_machine.specs.declared.reports.Why5.TheVariants.{Station, Put, F
 use Rattle.farm_machine.specs.declared.reports.By.{By}
 use Rattle.farm_machine.specs.declared.reports.End.{End}
 use Rattle.farm_machine.specs.declared.reports.End.TheVariants.{Done, Failed}
-use Rattle.farm_machine.specs.Acts.{TakesLocal, Met}
+use Rattle.farm_machine.specs.Acts.{Act, TakesLocal, Met}
 use Rattle.farm_machine.specs.Causes.{HasEndCause, StationStands}
 use Rattle.farm_machine.specs.Course.{At, LentHere, Over, Next}
 use Rattle.farm_machine.specs.Jobs.{Job, request_for, host_at}
 use Rattle.job_run.specs.Failures.{station_failure, fetch_failure, put_failure}
 use Rattle.job_run.specs.Gives.{IsUnhurt}
+use Rattle.job_run.specs.Stands.{KeeperStands, FetchEnds}
 use Rattle.job_run.specs.Stages.{IsForHere}
 use Rattle.job_run.specs.Waits.{borrowed}
 
@@ -64,6 +65,12 @@ not-run-stands bounds station.Failed why old new is rose = subst (λ (w : Why5).
 not-run-stands bounds (station.TooMuch stream bytes) why old new is rose = subst (λ (w : Why5). StationStands (Failed w) old new) (sym is) tt
 not-run-stands bounds station.Memory why old new is none = subst (λ (w : Why5). StationStands (Failed w) old new) (sym is) none
 
+-- no run is a fetch
+pub not-run-unfetched : (fault : StationFault) (why : Why5) → why ≡ station_failure fault → why ≢ Fetch
+not-run-unfetched station.Failed why is e = cc
+not-run-unfetched (station.TooMuch stream bytes) why is e = cc
+not-run-unfetched station.Memory why is e = cc
+
 pub not-fetched : (fault : FetchFault) (why : Why5) → why ≡ fetch_failure fault → (why ≡ Fetch) ⊎ (why ≡ Memory)
 not-fetched fetch.Failed why is = inl is
 not-fetched fetch.Absent why is = inl is
@@ -76,13 +83,41 @@ not-fetched-cause path bound fetch.Absent why old new is gone = subst (λ (w : W
 not-fetched-cause path bound (fetch.TooMuch bytes) why old new is long = subst (λ (w : Why5). HasEndCause (Failed w) old new) (sym is) (inr long.rose)
 not-fetched-cause path bound fetch.Memory why old new is free = subst (λ (w : Why5). HasEndCause (Failed w) old new) (sym is) tt
 
+-- where the fetch wanted memory, the keeper's faults stand still
+pub not-fetched-stands : (path : List ℕ) (bound : ℕ) (fault : FetchFault) (why : Why5) (acts : List Act) (old new : KeeperView) → why ≡ fetch_failure fault → FetchCause path bound old new fault → KeeperStands (Failed why) acts old new
+not-fetched-stands path bound fetch.Failed why acts old new is rose = subst (λ (w : Why5). KeeperStands (Failed w) acts old new) (sym is) tt
+not-fetched-stands path bound fetch.Absent why acts old new is gone = subst (λ (w : Why5). KeeperStands (Failed w) acts old new) (sym is) tt
+not-fetched-stands path bound (fetch.TooMuch bytes) why acts old new is long = subst (λ (w : Why5). KeeperStands (Failed w) acts old new) (sym is) tt
+not-fetched-stands path bound fetch.Memory why acts old new is free = subst (λ (w : Why5). KeeperStands (Failed w) acts old new) (sym is) (λ none. let e = free.faults in omega (arith, e))
+
+-- where the fetch was of the job's source, the job ends by that fetch
+pub fetch-ends : (name path : List ℕ) (fault : FetchFault) (why : Why5) (acts : List Act) (old new : KeeperView) → name ≡ path → why ≡ fetch_failure fault → FetchCause path 41943040 old new fault → FetchEnds name (Failed why) acts old new
+fetch-ends name path fault why acts old new named is cause =
+    subst (λ (p : List ℕ). FetchEnds p (Failed why) acts old new) (sym named) (subst (λ (w : Why5). FetchEnds path (Failed w) acts old new) (sym is) (go fault cause))
+  where
+    go : (f : FetchFault) → FetchCause path 41943040 old new f → FetchEnds path (Failed (fetch_failure f)) acts old new
+    go fetch.Failed c = λ none. (fetch.Failed, refl, c)
+    go fetch.Absent c = λ none. (fetch.Absent, refl, c)
+    go (fetch.TooMuch bytes) c = λ none. (fetch.TooMuch bytes, refl, c)
+    go fetch.Memory c = tt
+
 pub not-put : (fault : EdgeFault) (why : Why5) → why ≡ put_failure fault → (why ≡ Put) ⊎ (why ≡ Memory)
 not-put edge.Failed why is = inl is
 not-put edge.Memory why is = inr is
 
+-- no put is a fetch
+pub not-put-unfetched : (fault : EdgeFault) (why : Why5) → why ≡ put_failure fault → why ≢ Fetch
+not-put-unfetched edge.Failed why is e = cc
+not-put-unfetched edge.Memory why is e = cc
+
 pub not-put-cause : (fault : EdgeFault) (why : Why5) (old new : KitView) → why ≡ put_failure fault → (fault ≡ edge.Failed → Rose old.keeper.faults new.keeper.faults) → HasEndCause (Failed why) old new
 not-put-cause edge.Failed why old new is rose = subst (λ (w : Why5). HasEndCause (Failed w) old new) (sym is) (rose refl)
 not-put-cause edge.Memory why old new is free = subst (λ (w : Why5). HasEndCause (Failed w) old new) (sym is) tt
+
+-- where the put wanted memory, no more than a removal failed
+pub not-put-stands : (fault : EdgeFault) (why : Why5) (acts : List Act) (old new : KeeperView) → why ≡ put_failure fault → (fault ≡ edge.Memory → IsRemoval old.faults new.faults) → KeeperStands (Failed why) acts old new
+not-put-stands edge.Failed why acts old new is removal = subst (λ (w : Why5). KeeperStands (Failed w) acts old new) (sym is) tt
+not-put-stands edge.Memory why acts old new is removal = subst (λ (w : Why5). KeeperStands (Failed w) acts old new) (sym is) (λ none. removal refl)
 
 pub broken-cause : (host : ℕ) (cause : Cause) (old new : KitView) → LandedCause (LandedBroke cause) old.dialer.faults new.dialer.faults → HasEndCause (Failed (Broke host cause)) old new
 broken-cause host Dial old new rose = rose
@@ -112,6 +147,9 @@ over-lent local why here (inr e) = inr e
 pub done-cause : (end : End) (status : ℕ) (note err out : List ℕ) (by : By) (old new : KitView) → end ≡ Done status note err out by → HasEndCause end old new
 done-cause end status note err out by old new is = subst (λ (e : End). HasEndCause e old new) (sym is) tt
 
+pub done-unfetched : (name : List ℕ) (acts : List Act) (k k' : KeeperView) (end : End) (status : ℕ) (note err out : List ℕ) (by : By) → end ≡ Done status note err out by → FetchEnds name end acts k k'
+done-unfetched name acts k k' end status note err out by is = subst (λ (e : End). FetchEnds name e acts k k') (sym is) tt
+
 -- a host that is known by another name
 pub gave-as : (host other : ℕ) (es es' : List Event) → host ≡ other → es' ≡ es ++ Gave host ∷ [] → es' ≡ es ++ Gave other ∷ []
 gave-as host other es es' same is = is ∙ ap (λ (h : ℕ). es ++ Gave h ∷ []) same
@@ -135,6 +173,9 @@ broken-as j source host q h x cause same_q same_h is = subst (λ (r : Request). 
 -- memory was wanting before the dial had succeeded, or after it
 pub undialed : (may : List ℕ → List ℕ → Type 0) (q : Request) (host : Host) (old new : Told (List Exchange)) (dialed : Bool) → dialed ≡ false → AttemptAdds may q host (AttemptMemory dialed) old new → Grew old new []
 undialed may q host old new dialed is adds = elim dialed as (λ d. d ≡ false → AttemptAdds may q host (AttemptMemory d) old new → Grew old new []) [ true ↦ λ i a. absurd (cc) | false ↦ λ i a. a ] is adds
+
+pub unasked : (dialed : Bool) (old new : KeeperView) → dialed ≡ false → IsUnasked (LandedMemory dialed) old new → new ≡ old
+unasked dialed old new is same = elim dialed as (λ d. d ≡ false → IsUnasked (LandedMemory d) old new → new ≡ old) [ true ↦ λ i s. absurd (cc) | false ↦ λ i s. s ] is same
 
 pub dialed_once : (may : List ℕ → List ℕ → Type 0) (q : Request) (host : Host) (old new : Told (List Exchange)) (dialed : Bool) → dialed ≡ true → AttemptAdds may q host (AttemptMemory dialed) old new → Adds may old new (λ x. IsBegun x q host × IsUnhurt x)
 dialed_once may q host old new dialed is adds = elim dialed as (λ d. d ≡ true → AttemptAdds may q host (AttemptMemory d) old new → Adds may old new (λ x. IsBegun x q host × IsUnhurt x)) [ true ↦ λ i a. record { entry = a.entry; grew = a.grew; is = (a.is.0.0, record { dialed = a.is.0.1; faults = a.is.1.faults refl; stopped = a.is.1.stopped; ended = a.is.1.ended }); may = a.may } | false ↦ λ i a. absurd (cc) ] is adds

@@ -14,7 +14,7 @@ use Rattle.edge_traits.specs.declared.entries.Exchange.{Exchange}
 use Rattle.edge_traits.specs.Kits.{KitView}
 use Rattle.edge_traits.specs.Keepers.{KeeperView}
 use Rattle.edge_traits.specs.Dialers.{DialerView}
-use Rattle.edge_traits.specs.Stations.{StationView}
+use Rattle.edge_traits.specs.Stations.{StationView, NoneRose}
 use Rattle.edge_traits.specs.Told.{Grew, Became, SameRelation, SameRelation3}
 use Rattle.edge_traits.specs.Deeds.{ran, fetched, exchanged, put, timed, DidIn}
 use Rattle.edge_traits.proofs.ToldLemmas.{Grew-refl}
@@ -33,8 +33,8 @@ use Rattle.farm_machine.specs.Numbered.{numbered, advanced}
 use Rattle.farm_machine.specs.Own.{Serves}
 use Rattle.job_run.specs.Gives.{IsUnhurt}
 use Rattle.job_run.specs.Waits.{borrowed}
-use Rattle.job_run.specs.Worlds.{World, Went}
-use Rattle.job_run.proofs.Lists.{numbered-append, advanced-append, moments-append, serves-append}
+use Rattle.job_run.specs.Worlds.{World, Went, WentOn}
+use Rattle.job_run.proofs.Lists.{some-entry, numbered-append, advanced-append, moments-append, serves-append}
 
 -- these acts were written down
 abbrev pub Noted : List Event → Places → List Act → List Event → Places → Type 0
@@ -223,24 +223,27 @@ pub exchanged-given : {h : ℕ} (l : Limits h) (j : Job) (caller number host : �
     → DidIn a.kit b.kit (exchanged x ∷ []) → KitLater a.kit b.kit → (IsTrue b.kit.dialer.exchanges.known → x.dialed ≡ true → b.peers x.sent x.given) → SameRelation a.peers b.peers → SameRelation3 a.programs b.programs
     → Noted a.events a.places (Did (exchanged x) ∷ Met (Gives host) ∷ []) b.events b.places
     → b.mine ≡ a.mine ++ entry caller (Give host number) Given ∷ []
-    → Next j at (Did (exchanged x)) c → Next j c (Met (Gives host)) to → (j.config.period ≡ 0) ⊎ IsUnhurt x
-    → Went j l caller number a b at to
-exchanged-given l j caller number host a b at c to x did later may same_peers same_programs noted mine first second fair = record {
-  acts = Did (exchanged x) ∷ Met (Gives host) ∷ [];
-  calls = entry caller (Give host number) Given ∷ [];
-  did = did;
-  named = noted.0;
-  grown = noted.1;
-  reach = (c, first, (to, second, refl));
-  mine = mine;
-  serves = λ past taken. (refl, (refl, tt, refl, tt));
-  moments = ([], [], refl, refl, refl);
-  leaves = (fair, tt);
-  later = later;
-  may = λ known. (may known, tt);
-  ran = tt;
-  same_peers = same_peers;
-  same_programs = same_programs;
+    → Next j at (Did (exchanged x)) c → Next j c (Met (Gives host)) to → (j.config.period ≡ 0) ⊎ IsUnhurt x → NoneRose a.kit.station b.kit.station → WentOn j l caller number a b at to
+exchanged-given l j caller number host a b at c to x did later may same_peers same_programs noted mine first second fair still = record {
+  went = record {
+    acts = Did (exchanged x) ∷ Met (Gives host) ∷ [];
+    calls = entry caller (Give host number) Given ∷ [];
+    did = did;
+    named = noted.0;
+    grown = noted.1;
+    reach = (c, first, (to, second, refl));
+    mine = mine;
+    serves = λ past taken. (refl, (refl, tt, refl, tt));
+    moments = ([], [], refl, refl, refl);
+    leaves = (fair, tt);
+    later = later;
+    may = λ known. (may known, tt);
+    ran = tt;
+    same_peers = same_peers;
+    same_programs = same_programs;
+  };
+  station = still;
+  keeper = λ none. absurd (some-entry x [] none);
 }
 
 -- one exchange was made in a slot of a host, which was given back, and the host is left alone from a moment that the clock gave
@@ -250,23 +253,27 @@ pub exchanged-alone : {h : ℕ} (l : Limits h) (j : Job) (caller number host mom
     → Noted a.events a.places (Did (exchanged x) ∷ Did (timed moment) ∷ Met (GivesBad host (bad_until moment j.config.period)) ∷ []) b.events b.places
     → b.mine ≡ a.mine ++ entry caller (GiveBad host number (bad_until moment j.config.period)) Given ∷ []
     → Next j at (Did (exchanged x)) c → Next j c (Met (GivesBad host (bad_until moment j.config.period))) to
-    → Went j l caller number a b at to
-exchanged-alone l j caller number host moment a b at c to x within did later may same_peers same_programs noted mine first second = record {
-  acts = Did (exchanged x) ∷ Did (timed moment) ∷ Met (GivesBad host (bad_until moment j.config.period)) ∷ [];
-  calls = entry caller (GiveBad host number (bad_until moment j.config.period)) Given ∷ [];
-  did = did;
-  named = noted.0;
-  grown = noted.1;
-  reach = (c, first, (to, second, refl));
-  mine = mine;
-  serves = λ past taken. (refl, (refl, tt, refl, tt));
-  moments = (moment ∷ [], [], (moment, within, refl, refl), refl, refl);
-  leaves = (tt, tt);
-  later = later;
-  may = λ known. (may known, tt);
-  ran = tt;
-  same_peers = same_peers;
-  same_programs = same_programs;
+    → NoneRose a.kit.station b.kit.station → WentOn j l caller number a b at to
+exchanged-alone l j caller number host moment a b at c to x within did later may same_peers same_programs noted mine first second still = record {
+  went = record {
+    acts = Did (exchanged x) ∷ Did (timed moment) ∷ Met (GivesBad host (bad_until moment j.config.period)) ∷ [];
+    calls = entry caller (GiveBad host number (bad_until moment j.config.period)) Given ∷ [];
+    did = did;
+    named = noted.0;
+    grown = noted.1;
+    reach = (c, first, (to, second, refl));
+    mine = mine;
+    serves = λ past taken. (refl, (refl, tt, refl, tt));
+    moments = (moment ∷ [], [], (moment, within, refl, refl), refl, refl);
+    leaves = (tt, tt);
+    later = later;
+    may = λ known. (may known, tt);
+    ran = tt;
+    same_peers = same_peers;
+    same_programs = same_programs;
+  };
+  station = still;
+  keeper = λ none. absurd (some-entry x [] none);
 }
 
 -- one deed that takes no slot: its acts are that deed alone

@@ -1,5 +1,5 @@
 -- Acts, calls and moments one after another.
-use Rattle.std.proofs.Common.{◌≡◌, ℕ, ◌+◌, List, [], ◌∷◌, ◌++◌, refl, sym, ap, ◌∙◌, subst, append_assoc}
+use Rattle.std.proofs.Common.{◌≡◌, ◌≢◌, ℕ, ◌+◌, List, [], ◌∷◌, ◌++◌, refl, sym, ap, ◌∙◌, subst, append_assoc}
 use Rattle.std.proofs.lemmas.List.{append-nil}
 use Rattle.std.proofs.lemmas.Grind.{flat_map-append}
 use Rattle.slot_table.specs.declared.calls.CallEntry.{CallEntry}
@@ -16,6 +16,7 @@ use Rattle.farm_machine.specs.Moments.{AreMoments}
 use Rattle.farm_machine.specs.Numbered.{numbered, advanced, untimed}
 use Rattle.farm_machine.specs.Own.{ServedBy, Serves}
 use Rattle.job_run.specs.Gives.{GivesAfter, LeavesAlone}
+use Rattle.job_run.specs.Stands.{HasNoExchange}
 
 pub slots-append : (xs ys : List Act) → slots_of (xs ++ ys) ≡ slots_of xs ++ slots_of ys
 slots-append [] ys = refl
@@ -148,3 +149,17 @@ leaves-append period (Did (exchanged x) ∷ xs) ys h k = (gives-append period x 
 leaves-append period (Did (put x) ∷ xs) ys h k = leaves-append period xs ys h k
 leaves-append period (Did (timed x) ∷ xs) ys h k = leaves-append period xs ys h k
 leaves-append period (Met x ∷ xs) ys h k = leaves-append period xs ys h k
+
+-- a list with an entry isn't empty
+pub some-entry : {A : Type 0} (x : A) (xs : List A) → x ∷ xs ≢ []
+some-entry x xs e = cc
+
+-- where two lists behind one another are empty, each is
+none-both : {A : Type 0} (xs ys : List A) → xs ++ ys ≡ [] → (xs ≡ []) × (ys ≡ [])
+none-both [] ys e = (refl, e)
+none-both (x ∷ xs) ys e = absurd (some-entry x (xs ++ ys) e)
+
+-- where parts behind one another have no exchange, each has none
+pub exchangeless-both : (xs ys : List Act) → HasNoExchange (xs ++ ys) → HasNoExchange xs × HasNoExchange ys
+exchangeless-both xs ys none = none-both (exchanges_in (deeds_of xs)) (exchanges_in (deeds_of ys))
+    (sym (ap exchanges_in (deeds-append xs ys) ∙ exchanges-append (deeds_of xs) (deeds_of ys)) ∙ none)

@@ -167,4 +167,5 @@ went-asked l j caller number mask refused now reply x a b source note tried to w
     same_programs = same_programs;
   };
   station = none-looked a.kit b.kit station;
+  keeper = λ none. ap (λ (k : KeeperView). k.faults) keeper;
 }

@@ -13,13 +13,14 @@ use Rattle.farm_machine.specs.Causes.{HasEndCause, StationStands, KitLater}
 use Rattle.farm_machine.specs.Course.{Course}
 use Rattle.farm_machine.specs.Farm.{wanted}
 use Rattle.farm_machine.specs.Honest.{Peers, Programs, AllRan}
-use Rattle.farm_machine.specs.Jobs.{Job}
+use Rattle.farm_machine.specs.Jobs.{Job, source_name}
 use Rattle.farm_machine.specs.Moments.{AreMoments}
 use Rattle.farm_machine.specs.Numbered.{numbered, advanced, untimed}
 use Rattle.farm_machine.specs.Own.{Serves}
 use Rattle.course_laws.specs.Answers.{AnswersBy}
 use Rattle.course_laws.specs.Returns.{IsCalm, is_done_or_wanted, NoneBroke}
 use Rattle.job_run.specs.Gives.{LeavesAlone}
+use Rattle.job_run.specs.Stands.{KeeperStands, FetchEnds}
 
 -- no call was answered that all hosts are down
 abbrev pub NoneIsDown : List CallEntry → Type 0
@@ -29,7 +30,9 @@ NoneIsDown calls = All (λ e. e.reply ≢ Down) calls
 -- them, numbered on from the places, which have grown by them; without looks at the clock it is a course, with this end. Its slot events are
 -- the new calls on the slots, with the refused takes before each, and the moments that these calls name are those that the clock gave. With a
 -- period a host is left alone after each exchange with which something went wrong, also where the job then ends for want of memory. A
--- failure of a device goes with a rise of that device's count, and where the job didn't end by a failed run no count of the station rose. Peers gave what peers may give, and programs left what programs may leave.
+-- failure of a device goes with a rise of that device's count, and where the job didn't end by a failed run no count of the station rose.
+-- Where it made no exchange and didn't end by a failed fetch or a failed put, the keeper's faults stand still, but for one of a removal where memory
+-- was wanting; where it ended by a failed fetch, that was one of its own source, within the bound. Peers gave what peers may give, and programs left what programs may leave.
 -- Where station and keeper did nothing wrong the job is done, or memory was wanting, if fallback is on, or if none of its exchanges broke and
 -- it found no hosts down. Over honest peers a job that was compiled ends with an outcome that a compiler may answer.
 pub record JobRan {h : ℕ} (peers : Peers) (programs : Programs) (j : Job) (l : Limits h) (caller number : ℕ) (at next : Places) (events : List Event) (end : End) (mine_old mine_new : List CallEntry) (old new : KitView) : Type 0 where
@@ -45,6 +48,8 @@ pub record JobRan {h : ℕ} (peers : Peers) (programs : Programs) (j : Job) (l :
   pub leaves : LeavesAlone j.config.period acts
   pub cause : HasEndCause end old new
   pub station : StationStands end old.station new.station
+  pub keeper : KeeperStands end acts old.keeper new.keeper
+  pub fetch : FetchEnds (source_name j) end acts old.keeper new.keeper
   pub later : KitLater old new
   pub may : IsTrue new.dialer.exchanges.known → MayAll peers (exchanges_in (deeds_of acts))
   pub ran : AllRan programs acts

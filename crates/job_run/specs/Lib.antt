@@ -4,3 +4,4 @@ pub mod Worlds
 pub mod Waits
 pub mod Gives
 pub mod Stages
+pub mod Stands

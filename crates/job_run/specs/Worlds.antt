@@ -14,11 +14,12 @@ use Rattle.farm_machine.specs.Causes.{HasEndCause, StationStands, KitLater}
 use Rattle.farm_machine.specs.Course.{is_tried, At, Start, Send, Lent, Sent, Reach, Ends}
 use Rattle.farm_machine.specs.Farm.{wanted}
 use Rattle.farm_machine.specs.Honest.{Peers, Programs, AllRan}
-use Rattle.farm_machine.specs.Jobs.{Job}
+use Rattle.farm_machine.specs.Jobs.{Job, source_name}
 use Rattle.farm_machine.specs.Moments.{AreMoments}
 use Rattle.farm_machine.specs.Numbered.{numbered, advanced, untimed}
 use Rattle.farm_machine.specs.Own.{Serves}
 use Rattle.job_run.specs.Gives.{LeavesAlone}
+use Rattle.job_run.specs.Stands.{KeepsStill, KeeperStands, FetchEnds}
 
 -- a kit with its peers and programs, the worker's calls, and the events and next places
 pub record World : Type 1 where
@@ -58,10 +59,11 @@ pub record Went {h : ℕ} (j : Job) (l : Limits h) (caller number : ℕ) (old ne
   pub same_peers : SameRelation old.peers new.peers
   pub same_programs : SameRelation3 old.programs new.programs
 
--- the job came from one place to another and goes on there: no count of the station rose
+-- The job came from one place to another and goes on there: no count of the station rose, and without an exchange none of the keeper's faults.
 pub record WentOn {h : ℕ} (j : Job) (l : Limits h) (caller number : ℕ) (old new : World) (at to : At) : Type 0 where
   pub went : Went j l caller number old new at to
   pub station : NoneRose old.kit.station new.kit.station
+  pub keeper : KeepsStill went.acts old.kit.keeper new.kit.keeper
 
 -- the job came from a place to a last one, where it may end so
 pub record Ended {h : ℕ} (j : Job) (l : Limits h) (caller number : ℕ) (old new : World) (at : At) (end : End) : Type 0 where
@@ -70,6 +72,8 @@ pub record Ended {h : ℕ} (j : Job) (l : Limits h) (caller number : ℕ) (old n
   pub ends : Ends j to end
   pub cause : HasEndCause end old.kit new.kit
   pub station : StationStands end old.kit.station new.kit.station
+  pub keeper : KeeperStands end went.acts old.kit.keeper new.kit.keeper
+  pub fetch : FetchEnds (source_name j) end went.acts old.kit.keeper new.kit.keeper
 
 -- the next places, with room for so many more entries
 pub record HasPlaces (at : Places) (left : ℕ) : Type 0 where

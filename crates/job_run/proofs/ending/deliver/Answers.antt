@@ -6,9 +6,9 @@ use Rattle.edge_traits.proofs.ToldLemmas.{Grew-refl}
 use Rattle.farm_machine.specs.declared.reports.End.TheVariants.{Failed}
 use Rattle.farm_machine.specs.Course.{Over}
 use Rattle.job_run.specs.Stages.{compiled_at, HasObject}
-use Rattle.job_run.proofs.Composing.{none-rose, stands-by}
+use Rattle.job_run.proofs.Composing.{none-rose, stands-by, keeps-by, unfetched}
 use Rattle.job_run.proofs.Ends.{ends-failed, ends-not-put, next-put}
-use Rattle.job_run.proofs.Failing.{not-put, not-put-cause, done-cause}
+use Rattle.job_run.proofs.Failing.{not-put, not-put-cause, not-put-stands, not-put-unfetched, done-cause, done-unfetched}
 use Rattle.job_run.proofs.Keeping.{none-pending}
 use Rattle.job_run.proofs.Leaves.{only-put, no-act, did-nothing, same_peers, same_programs}
 use Rattle.job_run.proofs.ending.deliver.Goals as goal
@@ -23,6 +23,8 @@ returns-then-outcome-ne0-clause-ended g c = λ h l caller number mine j object n
       ends = ends-failed j c.args.by c.args.note (with_object c.args.outcome object) _ c.if-outcome-ne0.true c.done.ensures;
       cause = done-cause _ _ _ _ _ _ _ _ c.done.ensures;
       station = stands-by _ _ _ (none-rose _);
+      keeper = keeps-by _ _ _ _ (λ none. refl);
+      fetch = done-unfetched _ _ _ _ _ _ _ _ _ _ c.done.ensures;
     }
 
 pub returns-in-Ok-clause-ended : goal.returns-in-Ok-clause-ended
@@ -40,6 +42,8 @@ returns-in-Ok-clause-ended g c = λ h l caller number mine j object named held.
       ends = refl;
       cause = done-cause _ _ _ _ _ _ _ _ c.done-in-Ok.ensures;
       station = stands-by _ _ _ (none-rose _);
+      keeper = keeps-by _ _ _ _ (λ none. kept.cause.done);
+      fetch = done-unfetched _ _ _ _ _ _ _ _ _ _ c.done-in-Ok.ensures;
     }
 
 pub returns-in-Err-clause-ended : goal.returns-in-Err-clause-ended
@@ -55,6 +59,8 @@ returns-in-Err-clause-ended g c = λ h l caller number mine j object named held.
       ends = ends-not-put j c.args.by c.args.note (with_object c.args.outcome object) _ c.if-outcome-ne0.false (not-put c.in-Err.fault _ c.why_not_put.ensures);
       cause = not-put-cause c.in-Err.fault _ _ _ c.why_not_put.ensures (λ e. kept.cause.failed (ap (λ f. Err f) e));
       station = stands-by (Failed c.why_not_put.result) (g.S.Station.shows c.args.kit.now.station) _ (none-rose _);
+      keeper = not-put-stands c.in-Err.fault _ _ _ _ c.why_not_put.ensures (λ e. kept.cause.memory (ap (λ f. Err f) e));
+      fetch = unfetched _ c.why_not_put.result _ _ _ (not-put-unfetched c.in-Err.fault _ c.why_not_put.ensures);
     }
 
 pub returns-then-outcome-ne0-clause-idle : goal.returns-then-outcome-ne0-clause-idle

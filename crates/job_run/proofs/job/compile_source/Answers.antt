@@ -14,6 +14,8 @@ returns-in_default-clause-compiled g c = λ note. record {
   ends = refl;
   cause = tt;
   station = none-rose _;
+  keeper = λ none. omega arith;
+  fetch = tt;
 }
 
 pub returns-in-Ok-compile_here-clause-compiled : goal.returns-in-Ok-compile_here-clause-compiled

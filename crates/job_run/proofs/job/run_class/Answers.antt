@@ -24,6 +24,8 @@ returns-in-Memory-clause-ended g c = record {
   ends = inl refl;
   cause = tt;
   station = none-rose _;
+  keeper = λ none. omega arith;
+  fetch = tt;
 }
 
 pub returns-in-Empty-clause-ended : goal.returns-in-Empty-clause-ended

@@ -8,7 +8,8 @@ use Rattle.edge_traits.specs.declared.entries.Run.{Run}
 use Rattle.arg_strip.specs.Words.{placed_words}
 use Rattle.slot_table.specs.Grants.{host_of}
 use Rattle.farm_machine.specs.Jobs.{job_of}
-use Rattle.job_run.proofs.Failing.{over-not-run, not-run-cause, not-run-stands, over-lent, gave-as}
+use Rattle.job_run.proofs.Composing.{keeps-by, unfetched}
+use Rattle.job_run.proofs.Failing.{over-not-run, not-run-cause, not-run-stands, not-run-unfetched, over-lent, gave-as}
 use Rattle.job_run.proofs.Leaves.{noted-then, did-run, did-nothing, lent-ran, given-back, same_peers}
 use Rattle.job_run.proofs.Outstanding.{gave-host}
 use Rattle.edge_traits.proofs.ToldLemmas.{Grew-refl}
@@ -31,6 +32,7 @@ returns-in-Ok-clause-compiled g c = λ config note tried here.
           c.give.ensures.mine
           (here, (refl, refl), refl) (refl, inl (ap (λ o. Finish Here note o) c.outcome_of.ensures));
       station = run.done;
+      keeper = λ none. refl;
     }
 
 pub returns-in-Err-clause-compiled : goal.returns-in-Err-clause-compiled
@@ -45,4 +47,6 @@ returns-in-Err-clause-compiled g c = λ config note tried here.
       ends = refl;
       cause = not-run-cause _ c.in-Err.fault _ _ _ c.why_not_run.ensures run.cause;
       station = not-run-stands _ c.in-Err.fault _ _ _ c.why_not_run.ensures run.cause;
+      keeper = keeps-by (Failed c.why_not_run.result) _ _ _ (λ none. refl);
+      fetch = unfetched _ c.why_not_run.result _ _ _ (not-run-unfetched c.in-Err.fault _ c.why_not_run.ensures);
     }

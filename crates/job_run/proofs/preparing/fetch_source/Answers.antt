@@ -6,7 +6,7 @@ use Rattle.farm_machine.specs.declared.reports.End.TheVariants.{Failed}
 use Rattle.farm_machine.specs.Course.{Start, Send}
 use Rattle.job_run.proofs.Composing.{none-rose, stands-by}
 use Rattle.job_run.proofs.Ends.{ends-unfetched}
-use Rattle.job_run.proofs.Failing.{not-fetched, not-fetched-cause}
+use Rattle.job_run.proofs.Failing.{not-fetched, not-fetched-cause, not-fetched-stands, fetch-ends}
 use Rattle.job_run.proofs.Leaves.{only-fetch, no-act, same_peers, same_programs}
 use Rattle.job_run.proofs.preparing.fetch_source.Goals as goal
 
@@ -21,6 +21,7 @@ returns-in-Ok-clause-prepared g c = λ h l caller number mine j sent ready named
           (c.fetched.ensures.events, c.fetched.ensures.places) refl
           (sent, ready, sym named, ap (λ note. Send c.in-Ok.source note []) c.new.ensures);
       station = none-rose _;
+      keeper = λ none. got.done.faults;
     }
 
 pub returns-in-Err-clause-prepared : goal.returns-in-Err-clause-prepared
@@ -35,6 +36,8 @@ returns-in-Err-clause-prepared g c = λ h l caller number mine j sent ready name
       ends = ends-unfetched j _ sent ready (not-fetched c.in-Err.fault _ c.why_not_fetched.ensures);
       cause = not-fetched-cause _ _ c.in-Err.fault _ _ _ c.why_not_fetched.ensures got.cause;
       station = stands-by (Failed c.why_not_fetched.result) (g.S.Station.shows c.args.kit.now.station) _ (none-rose _);
+      keeper = not-fetched-stands _ _ c.in-Err.fault _ _ _ _ c.why_not_fetched.ensures got.cause;
+      fetch = fetch-ends _ _ c.in-Err.fault _ _ _ _ named c.why_not_fetched.ensures got.cause;
     }
 
 pub returns-in-Err-clause-fetched : goal.returns-in-Err-clause-fetched

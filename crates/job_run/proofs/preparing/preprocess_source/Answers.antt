@@ -4,11 +4,12 @@ use Rattle.edge_traits.specs.declared.entries.Run.{Run}
 use Rattle.edge_traits.proofs.ToldLemmas.{Grew-refl}
 use Rattle.arg_strip.specs.Words.{preprocessing_words}
 use Rattle.child_runner.specs.Runs.{texts}
+use Rattle.farm_machine.specs.declared.reports.End.TheVariants.{Failed}
 use Rattle.farm_machine.specs.Course.{Start, Send, Over}
 use Rattle.farm_machine.specs.Jobs.{job_of}
-use Rattle.job_run.proofs.Composing.{stands-by}
+use Rattle.job_run.proofs.Composing.{stands-by, keeps-by, unfetched}
 use Rattle.job_run.proofs.Ends.{preprocessor-failed, preprocessor-well, ends-unpreprocessed}
-use Rattle.job_run.proofs.Failing.{not-run, not-run-cause, not-run-stands, done-cause}
+use Rattle.job_run.proofs.Failing.{not-run, not-run-cause, not-run-stands, not-run-unfetched, done-cause, done-unfetched}
 use Rattle.job_run.proofs.Leaves.{only-run, no-act, did-run, did-nothing, same_peers}
 use Rattle.job_run.proofs.Names.{class_unready}
 use Rattle.job_run.proofs.preparing.preprocess_source.Goals as goal
@@ -29,6 +30,8 @@ returns-then-ran-ne0-clause-prepared g c = λ h l caller number mine config.
       ends = refl;
       cause = done-cause _ _ _ _ _ _ _ _ c.done_by_preprocessor.ensures;
       station = stands-by _ _ _ run.done;
+      keeper = keeps-by _ _ _ _ (λ none. refl);
+      fetch = done-unfetched _ _ _ _ _ _ _ _ _ _ c.done_by_preprocessor.ensures;
     }
 
 pub returns-else-ran-ne0-clause-prepared : goal.returns-else-ran-ne0-clause-prepared
@@ -41,6 +44,7 @@ returns-else-ran-ne0-clause-prepared g c = λ h l caller number mine config.
           (c.ran.ensures.events, c.ran.ensures.places) refl
           (c.requires.remote, c.requires.source, (refl, refl), preprocessor-well c.in-Ok.ran c.if-ran-ne0.false);
       station = run.done;
+      keeper = λ none. refl;
     }
 
 pub returns-in-Err-clause-prepared : goal.returns-in-Err-clause-prepared
@@ -54,4 +58,6 @@ returns-in-Err-clause-prepared g c = λ h l caller number mine config.
       ends = ends-unpreprocessed (job_of c.args.words.now config) _ c.requires.remote c.requires.source (not-run c.in-Err.fault _ c.why_not_run.ensures);
       cause = not-run-cause _ c.in-Err.fault _ _ _ c.why_not_run.ensures run.cause;
       station = not-run-stands _ c.in-Err.fault _ _ _ c.why_not_run.ensures run.cause;
+      keeper = keeps-by (Failed c.why_not_run.result) _ _ _ (λ none. refl);
+      fetch = unfetched _ c.why_not_run.result _ _ _ (not-run-unfetched c.in-Err.fault _ c.why_not_run.ensures);
     }

@@ -7,7 +7,7 @@ use Rattle.farm_machine.specs.declared.reports.End.TheVariants.{Failed}
 use Rattle.farm_machine.specs.Course.{no_host, tried_too}
 use Rattle.farm_machine.specs.Jobs.{job_of}
 use Rattle.job_run.specs.Stages.{HasUntried}
-use Rattle.job_run.proofs.Asking.{stage-next, stage-last, stage-broken, tried-more, step-then, arrive, here-as, untried-all, untried-more}
+use Rattle.job_run.proofs.Asking.{stage-next, stage-last, stage-broken, tried-more, step-then, arrive, here-as, no-host-unfetched, untried-all, untried-more}
 use Rattle.job_run.proofs.Composing.{none-rose, on-then, cause-later, cause-before}
 use Rattle.job_run.proofs.Keeping.{idle-step}
 use Rattle.job_run.proofs.Leaves.{no-act, same_peers, same_programs}
@@ -28,6 +28,7 @@ returns-in-Down-clause-asked g c = λ note.
     here-as (job_of c.args.words.now c.args.config.now) _ _ _ _ _ _ c.args.request.now.source note _ c.loop-made.last (no_host inv.9.0) c.here_or.ensures inv.9.3
     (on-then (job_of c.args.words.now c.args.config.now) _ _ _ _ _ _ _ _ _ _ _ inv.3 inv.4 (arrive (job_of c.args.words.now c.args.config.now) _ _ _ _ _ _ _ _ (stage-next (job_of c.args.words.now c.args.config.now) c.args.request.now.source note inv.9.0 (subst (λ (n : ℕ). n < c.args.config.now.tries) (sym inv.9.1) c.loop-made-test.true)) (inv.9.5 note)) down)
     (cause-later _ _ _ (Failed c.loop-made.last) inv.9.4 down.went.later)
+    (no-host-unfetched inv.9.0)
 
 pub returns-in-Over-clause-asked : goal.returns-in-Over-clause-asked
 returns-in-Over-clause-asked g c = λ note.
@@ -40,6 +41,7 @@ returns-clause-asked g c = λ note.
     here-as (job_of c.args.words.now c.args.config.now) _ _ _ _ _ _ c.args.request.now.source note _ c.loop-made.last (no_host inv.9.0) c.here_or-2.ensures inv.9.3
     (arrive (job_of c.args.words.now c.args.config.now) _ _ _ _ _ _ _ _ (stage-last (job_of c.args.words.now c.args.config.now) c.args.request.now.source note inv.9.0 (subst (λ (n : ℕ). c.args.config.now.tries ≤ n) (sym inv.9.1) c.loop-made-test.false)) (inv.9.5 note))
     inv.9.4
+    (no-host-unfetched inv.9.0)
 
 pub loop-made-init : goal.loop-made-init
 loop-made-init g c = (
@@ -62,6 +64,7 @@ loop-made-init g c = (
         (record {
           went = no-act _ (job_of c.args.words.now c.args.config.now) _ _ _ _ _ (DidIn-nothing _) (record { station = omega arith; station_overruns = omega arith; keeper = omega arith; keeper_overruns = omega arith; dialer = omega arith }) (same_peers _) (same_programs _) (sym (append-nil _), refl) refl;
           station = none-rose _;
+          keeper = λ none. refl;
         }),
   ),
 )

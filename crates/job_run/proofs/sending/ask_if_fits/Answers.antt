@@ -17,6 +17,7 @@ returns-then-not-fits-clause-asked g c = λ note. (
   record {
     went = no-act _ (job_of c.args.words.now c.args.config.now) _ _ _ _ _ (DidIn-nothing _) (record { station = omega arith; station_overruns = omega arith; keeper = omega arith; keeper_overruns = omega arith; dialer = omega arith }) (same_peers _) (same_programs _) (sym (append-nil _), refl) refl;
     station = none-rose _;
+    keeper = λ none. refl;
   },
 )
 

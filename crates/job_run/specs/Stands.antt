@@ -1,0 +1,35 @@
+-- When a job's keeper stands still, and by which fetch a job fails.
+use Rattle.std.specs.Prelude.{◌≡◌, ℕ, List, []}
+use Rattle.edge_traits.specs.Causes.{Still, IsRemoval}
+use Rattle.edge_traits.specs.Deeds.{exchanges_in}
+use Rattle.edge_traits.specs.declared.faults.FetchFault.{FetchFault}
+use Rattle.edge_traits.specs.Keepers.{KeeperView, FetchCause}
+use Rattle.farm_machine.specs.declared.reports.Why5.TheVariants.{Put as NotPut, Memory, Fetch}
+use Rattle.farm_machine.specs.declared.reports.End.{End}
+use Rattle.farm_machine.specs.declared.reports.End.TheVariants.{Failed}
+use Rattle.farm_machine.specs.Acts.{Act, deeds_of}
+use Rattle.job_run.specs.Failures.{fetch_failure}
+
+-- Among these acts there is no exchange. With one the keeper may fail while an object comes, and the exchange may break then.
+abbrev pub HasNoExchange : List Act → Type 0
+HasNoExchange acts = exchanges_in (deeds_of acts) ≡ []
+
+-- without an exchange the keeper's faults stand still
+abbrev pub KeepsStill : List Act → KeeperView → KeeperView → Type 0
+KeepsStill acts old new = HasNoExchange acts → Still old.faults new.faults
+
+-- Where a job made no exchange and ends otherwise than by a failed fetch or a failed put, the keeper's faults stand still. At an end for want of
+-- memory they rose by one at most: what was being written couldn't be removed. A failed fetch or put may raise them by any number, so a body that
+-- tells it as want of memory, or makes it again, has no proof over every keeper.
+abbrev pub KeeperStands : End → List Act → KeeperView → KeeperView → Type 0
+KeeperStands (Failed Fetch) acts old new = Unit {0}
+KeeperStands (Failed NotPut) acts old new = Unit {0}
+KeeperStands (Failed Memory) acts old new = HasNoExchange acts → IsRemoval old.faults new.faults
+KeeperStands end acts old new = KeepsStill acts old new
+
+-- A job that made no exchange and ends by a failed fetch asked for this file within 41,943,040 bytes: the fetch failed, or the file isn't there or
+-- is longer than that.
+abbrev pub FetchEnds : List ℕ → End → List Act → KeeperView → KeeperView → Type 0
+FetchEnds name (Failed Fetch) acts old new =
+    HasNoExchange acts → (fault : FetchFault) × (fetch_failure fault ≡ Fetch) × FetchCause name 41943040 old new fault
+FetchEnds name end acts old new = Unit {0}
