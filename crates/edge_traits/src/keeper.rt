@@ -1,7 +1,7 @@
 ghost use Rattle.std.specs.Prelude.{◌≡◌, ◌≤◌, ◌<◌, ◌++◌, ◌↔◌, ℕ, List, [], length, IsTrue, IfOk, IfErr, OnOk, OnErr};
 ghost use Rattle.std.specs.Bool.{OnFalse};
 ghost use Rattle.edge_traits.specs.Told.{Grew, Became};
-ghost use Rattle.edge_traits.specs.Causes.{HasPutCause, IsRemoval};
+ghost use Rattle.edge_traits.specs.Causes.{HasPutCause, IsRemoval, Still};
 ghost use Rattle.edge_traits.specs.FileMaps.{files_after, IsStaged};
 ghost use Rattle.edge_traits.specs.Keepers.{KeeperView, IsIdle, IsPending, HasPending, put_entries, fetch_entries, Fetched, FetchCause, NoneRose};
 
@@ -12,7 +12,7 @@ use std::alloc::Global;
 /// Keeps files. Names that end in `.farm~` are its own, for files that are still being written.
 ///
 /// A file is put in steps: `begin` makes a put pending, `add` gives it bytes, and `commit` makes the file hold them. Until
-/// then, and after any step that is refused, each file is as it was.
+/// then, and after any step that is refused, each file is as it was. No step is an overrun.
 pub trait Keeper {
     /// What it shows of its past.
     ghost shows: { Self → KeeperView };
@@ -31,7 +31,7 @@ pub trait Keeper {
         ensures files { Became (shows self.old).files (shows self.new).files (shows self.old).files.value }
         ensures puts { Grew (shows self.old).puts (shows self.new).puts [] }
         ensures fetches { Grew (shows self.old).fetches (shows self.new).fetches [] }
-        ensures overruns { (shows self.old).overruns ≤ (shows self.new).overruns }
+        ensures overruns { Still (shows self.old).overruns (shows self.new).overruns }
         ensures cause { HasPutCause (shows self.old).faults (shows self.new).faults result };
 
     /// Gives the pending put these bytes, behind those that it has. After an `Err` none is pending.
@@ -43,7 +43,7 @@ pub trait Keeper {
         ensures files { Became (shows self.old).files (shows self.new).files (shows self.old).files.value }
         ensures puts { Grew (shows self.old).puts (shows self.new).puts [] }
         ensures fetches { Grew (shows self.old).fetches (shows self.new).fetches [] }
-        ensures overruns { (shows self.old).overruns ≤ (shows self.new).overruns }
+        ensures overruns { Still (shows self.old).overruns (shows self.new).overruns }
         ensures cause { HasPutCause (shows self.old).faults (shows self.new).faults result };
 
     /// Makes the file of the pending put hold its bytes, or leaves it as it was. None is pending then.
@@ -55,7 +55,7 @@ pub trait Keeper {
             → Grew (shows self.old).puts (shows self.new).puts (put_entries path bytes result) }
         ensures idle { IsIdle (shows self.new) }
         ensures fetches { Grew (shows self.old).fetches (shows self.new).fetches [] }
-        ensures overruns { (shows self.old).overruns ≤ (shows self.new).overruns }
+        ensures overruns { Still (shows self.old).overruns (shows self.new).overruns }
         ensures cause { HasPutCause (shows self.old).faults (shows self.new).faults result };
 
     /// Gives up the put that is pending, if there is one. It takes no memory of its own, and can't be refused.
@@ -66,7 +66,7 @@ pub trait Keeper {
         ensures fetches { Grew (shows self.old).fetches (shows self.new).fetches [] }
         ensures faults { (shows self.old).faults ≤ (shows self.new).faults }
         ensures removal { IsRemoval (shows self.old).faults (shows self.new).faults }
-        ensures overruns { (shows self.old).overruns ≤ (shows self.new).overruns };
+        ensures overruns { Still (shows self.old).overruns (shows self.new).overruns };
 
     /// Makes the file hold exactly these bytes, or leaves it as it was.
     fn put(&mut self, alloc: Global, path: &Bytes, bytes: &[u8]) -> Result<(), EdgeFault>
@@ -76,7 +76,7 @@ pub trait Keeper {
         ensures puts { Grew (shows self.old).puts (shows self.new).puts (put_entries path.now bytes.now result) }
         ensures idle { IsIdle (shows self.new) }
         ensures fetches { Grew (shows self.old).fetches (shows self.new).fetches [] }
-        ensures overruns { (shows self.old).overruns ≤ (shows self.new).overruns }
+        ensures overruns { Still (shows self.old).overruns (shows self.new).overruns }
         ensures cause { HasPutCause (shows self.old).faults (shows self.new).faults result }
     {
         self.begin(alloc, path)?;

@@ -30,11 +30,11 @@ pub ran-each : (programs : Programs) (done : List DoneJob) → AllRan programs (
 ran-each programs [] all = tt
 ran-each programs (job ∷ done) all = let parts = ran-split programs job.acts (all_acts done) all in (parts.0, ran-each programs done parts.1)
 
--- what holds of the acts and the end of each job of a worker holds of those that are read for its reports
-pub reports-each : (P : List Act → End → Type 0) (w : ℕ) (read : Reports) (done : List DoneJob) (at : Places) (rs : List Report)
+-- what holds of the number, the acts and the end of each job of a worker holds of those that are read for its reports
+pub reports-each : (P : ℕ → List Act → End → Type 0) (w : ℕ) (read : Reports) (done : List DoneJob) (at : Places) (rs : List Report)
     → AreReportsOf w at done rs → Each (λ job. IsReported read w job × (read.ends job.number ≡ job.end)) (map untimed_job done)
-    → Each (λ job. P (untimed job.acts) job.end) done → All (λ r. (read.worker r.number ≡ w) × P (read.acts r.number) (read.ends r.number)) rs
-reports-each P w read [] at [] all told each = All-nil (λ r. (read.worker r.number ≡ w) × P (read.acts r.number) (read.ends r.number))
+    → Each (λ job. P job.number (untimed job.acts) job.end) done → All (λ r. (read.worker r.number ≡ w) × P r.number (read.acts r.number) (read.ends r.number)) rs
+reports-each P w read [] at [] all told each = All-nil (λ r. (read.worker r.number ≡ w) × P r.number (read.acts r.number) (read.ends r.number))
 reports-each P w read [] at (r ∷ rs) all told each = absurd all
 reports-each P w read (job ∷ done) at [] all told each = absurd all
 reports-each P w read (job ∷ done) at (r ∷ rs) all told each =
@@ -42,8 +42,9 @@ reports-each P w read (job ∷ done) at (r ∷ rs) all told each =
     let first = told.0 in
     let acts : read.acts r.number ≡ untimed job.acts = ap read.acts own.number ∙ first.0.1 in
     let end : read.ends r.number ≡ job.end = ap read.ends own.number ∙ first.1 in
-    All-cons (λ q. (read.worker q.number ≡ w) × P (read.acts q.number) (read.ends q.number)) r rs
-    (ap read.worker own.number ∙ first.0.0, subst (λ (xs : List Act). P xs (read.ends r.number)) (sym acts) (subst (P (untimed job.acts)) (sym end) each.0))
+    let same : P r.number (untimed job.acts) job.end = subst (λ (k : ℕ). P k (untimed job.acts) job.end) (sym own.number) each.0 in
+    All-cons (λ q. (read.worker q.number ≡ w) × P q.number (read.acts q.number) (read.ends q.number)) r rs
+    (ap read.worker own.number ∙ first.0.0, subst (λ (xs : List Act). P r.number xs (read.ends r.number)) (sym acts) (subst (P r.number (untimed job.acts)) (sym end) same))
     (reports-each P w read done (advanced at job.acts) rs all.1 told.1 each.1)
 
 -- what no report ends with no job ended with

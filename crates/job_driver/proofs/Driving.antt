@@ -39,7 +39,7 @@ use Rattle.farm_laws.proofs.Draws.{next-all}
 use Rattle.worker_laws.proofs.Drivers.{asc-legal, asc-by}
 use Rattle.worker_laws.proofs.Reported.{workers-run}
 use Rattle.job_run.proofs.Lists.{moments-append}
-use Rattle.job_run.specs.Gives.{LeavesAlone}
+use Rattle.job_run.specs.Gives.{LeavesAlone, OpenCourse}
 use Rattle.job_driver.specs.Jobs.{job_at}
 use Rattle.job_driver.specs.Works.{untimed_job, all_acts, AreReportsOf, WorkedOff, AreCaused, ends_so, is_station_failure, is_keeper_failure}
 use Rattle.course_laws.specs.Answers.{AllGiven, AnswersBy}
@@ -241,22 +241,22 @@ module _ {K : Type 0} (d : Devices K) (l : Limits 16) (words : List (List (List 
         }
 
     -- what holds of the acts and ends of each worker's jobs holds of those of each job
-    told-each : (Q : ℕ → List Act → End → Type 0) → ((i : ℕ) → i < n → Each (λ job. Q i (untimed job.acts) job.end) (done i)) → (j : ℕ) → j < l.jobs → Q (run.reports.worker j) (run.reports.acts j) (run.reports.ends j)
+    told-each : (Q : ℕ → ℕ → List Act → End → Type 0) → ((i : ℕ) → i < n → Each (λ job. Q i job.number (untimed job.acts) job.end) (done i)) → (j : ℕ) → j < l.jobs → Q (run.reports.worker j) j (run.reports.acts j) (run.reports.ends j)
     told-each Q each j below =
-        let told : All (λ r. Q (run.reports.worker r.number) (run.reports.acts r.number) (run.reports.ends r.number)) sorted = All-permutation (λ r. Q (run.reports.worker r.number) (run.reports.acts r.number) (run.reports.ends r.number)) all sorted moved
-        (joins.each (λ r. Q (run.reports.worker r.number) (run.reports.acts r.number) (run.reports.ends r.number))
+        let told : All (λ r. Q (run.reports.worker r.number) r.number (run.reports.acts r.number) (run.reports.ends r.number)) sorted = All-permutation (λ r. Q (run.reports.worker r.number) r.number (run.reports.acts r.number) (run.reports.ends r.number)) all sorted moved
+        (joins.each (λ r. Q (run.reports.worker r.number) r.number (run.reports.acts r.number) (run.reports.ends r.number))
         (λ i inside.
         let f = facts i inside in
         by-reports i (R i) (reports-each (Q i) i run.reports (done i) no_places (R i)
         (subst (λ (ds : List DoneJob). AreReportsOf i no_places ds (R i)) f.1 f.0.works.reported) (run.reported i inside) (each i inside)))) in
         let here = some-at sorted j (let one = are-read.one in omega (arith, one, below)) in
-        subst (λ (k : ℕ). Q (run.reports.worker k) (run.reports.acts k) (run.reports.ends k)) (number-at j here.0 here.1) (all-get (λ r. Q (run.reports.worker r.number) (run.reports.acts r.number) (run.reports.ends r.number)) sorted j here.0 told here.1)
+        subst (λ (k : ℕ). Q (run.reports.worker k) k (run.reports.acts k) (run.reports.ends k)) (number-at j here.0 here.1) (all-get (λ r. Q (run.reports.worker r.number) r.number (run.reports.acts r.number) (run.reports.ends r.number)) sorted j here.0 told here.1)
       where
-        by-reports : (i : ℕ) (rs : List Report) → All (λ r. (run.reports.worker r.number ≡ i) × Q i (run.reports.acts r.number) (run.reports.ends r.number)) rs → All (λ r. Q (run.reports.worker r.number) (run.reports.acts r.number) (run.reports.ends r.number)) rs
-        by-reports i rs own at x inside = let one = own at x inside in subst (λ (k : ℕ). Q k (run.reports.acts (get_or rs at x).number) (run.reports.ends (get_or rs at x).number)) (sym one.0) one.1
+        by-reports : (i : ℕ) (rs : List Report) → All (λ r. (run.reports.worker r.number ≡ i) × Q i r.number (run.reports.acts r.number) (run.reports.ends r.number)) rs → All (λ r. Q (run.reports.worker r.number) r.number (run.reports.acts r.number) (run.reports.ends r.number)) rs
+        by-reports i rs own at x inside = let one = own at x inside in subst (λ (k : ℕ). Q k (get_or rs at x).number (run.reports.acts (get_or rs at x).number) (run.reports.ends (get_or rs at x).number)) (sym one.0) one.1
 
     gave-each : (j : ℕ) → j < l.jobs → IsTrue (d.shows (N (run.reports.worker j))).dialer.exchanges.known → AllGiven (d.peers (V (run.reports.worker j))) (run.reports.acts j)
-    gave-each j below = told-each (λ i acts end. IsTrue (d.shows (N i)).dialer.exchanges.known → AllGiven (d.peers (V i)) acts) theirs j below
+    gave-each j below = told-each (λ i k acts end. IsTrue (d.shows (N i)).dialer.exchanges.known → AllGiven (d.peers (V i)) acts) theirs j below
       where
         theirs : (i : ℕ) → i < n → Each (λ job. IsTrue (d.shows (N i)).dialer.exchanges.known → AllGiven (d.peers (V i)) (untimed job.acts)) (done i)
         theirs i inside =
@@ -269,8 +269,14 @@ module _ {K : Type 0} (d : Devices K) (l : Limits 16) (words : List (List (List 
             each-known [] h = tt
             each-known (job ∷ ds) h = (λ known. (h known).0, each-known ds (λ known. (h known).1))
 
+    hides-each : (j : ℕ) → j < l.jobs → OpenCourse (jobs j) (run.reports.acts j) (run.reports.ends j)
+    hides-each j below = told-each (λ i k acts end. OpenCourse (jobs k) acts end) theirs j below
+      where
+        theirs : (i : ℕ) → i < n → Each (λ job. OpenCourse (jobs job.number) (untimed job.acts) job.end) (done i)
+        theirs i inside = let f = facts i inside in subst (λ (ds : List DoneJob). Each (λ job. OpenCourse (jobs job.number) (untimed job.acts) job.end) ds) f.1 f.0.works.hides_none
+
     left-each : (j : ℕ) → j < l.jobs → AllRan (d.programs (V (run.reports.worker j))) (run.reports.acts j)
-    left-each j below = told-each (λ i acts end. AllRan (d.programs (V i)) acts) theirs j below
+    left-each j below = told-each (λ i k acts end. AllRan (d.programs (V i)) acts) theirs j below
       where
         theirs : (i : ℕ) → i < n → Each (λ job. AllRan (d.programs (V i)) (untimed job.acts)) (done i)
         theirs i inside =
@@ -280,7 +286,7 @@ module _ {K : Type 0} (d : Devices K) (l : Limits 16) (words : List (List (List 
     -- a job that no host fails
     well-each : (j : ℕ) → j < l.jobs → is_own_end (run.reports.ends j) ≡ true → IsCalm (d.shows (V (run.reports.worker j))) (d.shows (N (run.reports.worker j))) → is_done_or_wanted (run.reports.ends j) ≡ true
     well-each j below own calm =
-        let stands = told-each (λ i acts end. IsCalm (d.shows (V i)) (d.shows (N i)) → (is_station_failure end ≡ false) × (is_keeper_failure end ≡ false)) theirs j below calm in
+        let stands = told-each (λ i k acts end. IsCalm (d.shows (V i)) (d.shows (N i)) → (is_station_failure end ≡ false) × (is_keeper_failure end ≡ false)) theirs j below calm in
         returned-well (run.reports.ends j) own stands.0 stands.1
       where
         theirs : (i : ℕ) → i < n → Each (λ job. IsCalm (d.shows (V i)) (d.shows (N i)) → (is_station_failure job.end ≡ false) × (is_keeper_failure job.end ≡ false)) (done i)
@@ -331,6 +337,7 @@ module _ {K : Type 0} (d : Devices K) (l : Limits 16) (words : List (List (List 
           are_read = are-read;
           by_workers = run.workers;
           courses = run.courses;
+          hides_none = hides-each;
           agrees = run.agrees;
           run = run.run;
           back = run.back;

@@ -17,13 +17,14 @@ use Rattle.farm_machine.specs.declared.reports.Why5.TheVariants.{Memory, Broke, 
 use Rattle.farm_machine.specs.declared.reports.End.{End}
 use Rattle.farm_machine.specs.declared.reports.End.TheVariants.{Done, Failed}
 use Rattle.farm_machine.specs.Causes.{HasEndCause}
-use Rattle.farm_machine.specs.Course.{At, Send, Locally, Finish, Over, no_host, or_here, after_whole, after_broken, Tried, tried_too, Reach, Ends, From}
+use Rattle.farm_machine.specs.Course.{At, Send, Locally, Finish, Over, no_host, or_here, after_whole, after_broken, Tried, tried_too, Ends, From}
 use Rattle.farm_machine.specs.Acts.{Act}
 use Rattle.farm_machine.specs.Jobs.{Job, no_host_entry, output_name, source_name}
 use Rattle.job_run.specs.declared.step.Step.{Step}
 use Rattle.job_run.specs.declared.step.Step.TheVariants as step
 use Rattle.job_run.specs.declared.exchanging.Answer.{Answer}
 use Rattle.job_run.specs.declared.exchanging.Answer.TheVariants as answer
+use Rattle.job_run.specs.Gives.{OpenReach, OpenFrom}
 use Rattle.job_run.specs.Stages.{IsAtKeeper, AnswerIs, answer_by, LocalIs, StepIs, SentIs, step_of, step_after, compiled_at}
 use Rattle.job_run.specs.Worlds.{World, WentOn, Ended}
 use Rattle.job_run.proofs.Composing.{cause-before, rose-before, stands-by, keeps-by, unfetched, on-then, on-ended}
@@ -72,9 +73,13 @@ here-step j l caller number a b at source note why went cause other = go j.confi
     go false w = record { to = Over (Failed why); went = w.went; ends = refl; cause = cause; station = stands-by (Failed why) a.kit.station b.kit.station w.station; keeper = keeps-by (Failed why) w.went.acts a.kit.keeper b.kit.keeper w.keeper; fetch = unfetched (source_name j) why w.went.acts a.kit.keeper b.kit.keeper other }
 
 -- from the start to a place where the job may end so, its acts are a course
-pub course-of : (j : Job) (acts : List Act) (at to : At) (end : End) → Reach j at acts to → Ends j to end → From j at acts end
+pub course-of : (j : Job) (acts : List Act) (at to : At) (end : End) → OpenReach j at acts to → Ends j to end → OpenFrom j at acts end
 course-of j [] at to end e ends = subst (λ (b : At). Ends j b end) (sym e) ends
-course-of j (x ∷ acts) at to end (b, next, more) ends = (b, next, course-of j acts b to end more ends)
+course-of j (x ∷ acts) at to end (b, next, hides, more) ends = (b, next, hides, course-of j acts b to end more ends)
+
+pub is-course : (j : Job) (acts : List Act) (at : At) (end : End) → OpenFrom j at acts end → From j at acts end
+is-course j [] at end ends = ends
+is-course j (x ∷ acts) at end (b, next, hides, more) = (b, next, is-course j acts b end more)
 
 -- the same for a job that is known by another number
 went-as : {h : ℕ} (j : Job) (l : Limits h) (caller n number : ℕ) (a b : World) (at to : At) → n ≡ number → WentOn j l caller n a b at to → WentOn j l caller number a b at to
@@ -106,7 +111,7 @@ took-lost j l l' caller caller' n number host a b c at mid source note tried sam
       ends = inl (well, inr refl);
       cause = rose-before a.kit.keeper.faults b.kit.keeper.faults c.kit.keeper.faults first.went.later.keeper rose;
       station = both.station;
-      keeper = tt;
+      keeper = both.keeper.overruns;
       fetch = tt;
     }
 

@@ -19,14 +19,15 @@ use Rattle.farm_machine.specs.declared.reports.End.{End}
 use Rattle.farm_machine.specs.declared.reports.End.TheVariants.{Done, Failed}
 use Rattle.farm_machine.specs.Acts.{SlotEvent, Act, slots_of, deeds_of}
 use Rattle.farm_machine.specs.Causes.{HasEndCause, StationStands, KitLater}
-use Rattle.farm_machine.specs.Course.{At, Reach}
+use Rattle.farm_machine.specs.Course.{At}
 use Rattle.farm_machine.specs.Farm.{wanted}
 use Rattle.farm_machine.specs.Jobs.{Job, source_name}
 use Rattle.farm_machine.specs.Moments.{AreMoments}
 use Rattle.farm_machine.specs.Numbered.{numbered, advanced, untimed}
 use Rattle.farm_machine.specs.Own.{Serves}
 use Rattle.job_run.specs.Failures.{fetch_failure}
-use Rattle.job_run.specs.Stands.{KeepsStill, KeeperStands, FetchEnds}
+use Rattle.job_run.specs.Gives.{OpenReach}
+use Rattle.job_run.specs.Stands.{KeepsStill, KeepsOrRemoves, KeeperStands, FetchEnds}
 use Rattle.job_run.specs.Worlds.{World, HasTaken, Went, WentOn, Ended}
 use Rattle.job_run.proofs.Lists.{slots-append, deeds-append, untimed-append, slots-untimed, advanced-append, numbered-append, ran-append, ran-along, may-append, may-along, moments-append, reach-append, serves-append, exchanges-append, moments_in-append, leaves-append, exchangeless-both}
 use Rattle.job_run.proofs.Taken.{taken-reach}
@@ -104,33 +105,43 @@ stands-before a b c (Failed (Broke host cause)) first last = none-rose-then a b 
 stands-before a b c (Failed NoHost) first last = none-rose-then a b c first last
 stands-before a b c (Failed Memory) first last = none-rose-then a b c first last
 
--- where the keeper's faults stand still, they do at any end
+-- a keeper that was not asked
+pub keeps-none : (acts : List Act) (k : KeeperView) → KeepsStill acts k k
+keeps-none acts k = record { faults = λ none. refl; overruns = refl }
+
+-- where the keeper stands still, it does so at any end
 pub keeps-by : (end : End) (acts : List Act) (old new : KeeperView) → KeepsStill acts old new → KeeperStands end acts old new
 keeps-by (Done status note err out by) acts old new still = still
 keeps-by (Failed Station) acts old new still = still
-keeps-by (Failed Put) acts old new still = tt
+keeps-by (Failed Put) acts old new still = still.overruns
 keeps-by (Failed Fetch) acts old new still = tt
 keeps-by (Failed (Broke host cause)) acts old new still = still
 keeps-by (Failed NoHost) acts old new still = still
-keeps-by (Failed Memory) acts old new still = λ none. let e = still none in omega (arith, e)
+keeps-by (Failed Memory) acts old new still = record { faults = λ none. let e = still.faults none in omega (arith, e); overruns = still.overruns }
 
 still-then : (xs ys : List Act) (a b c : KeeperView) → KeepsStill xs a b → KeepsStill ys b c → KeepsStill (xs ++ ys) a c
-still-then xs ys a b c first second = λ none.
-    let both = exchangeless-both xs ys none in
-    second both.1 ∙ first both.0
+still-then xs ys a b c first second = record {
+  faults = λ none.
+      let both = exchangeless-both xs ys none in
+      second.faults both.1 ∙ first.faults both.0;
+  overruns = second.overruns ∙ first.overruns;
+}
 
 keeps-before : (xs ys : List Act) (a b c : KeeperView) (end : End) → KeepsStill xs a b → KeeperStands end ys b c → KeeperStands end (xs ++ ys) a c
 keeps-before xs ys a b c (Done status note err out by) first last = still-then xs ys a b c first last
 keeps-before xs ys a b c (Failed Station) first last = still-then xs ys a b c first last
-keeps-before xs ys a b c (Failed Put) first last = tt
+keeps-before xs ys a b c (Failed Put) first last = last ∙ first.overruns
 keeps-before xs ys a b c (Failed Fetch) first last = tt
 keeps-before xs ys a b c (Failed (Broke host cause)) first last = still-then xs ys a b c first last
 keeps-before xs ys a b c (Failed NoHost) first last = still-then xs ys a b c first last
-keeps-before xs ys a b c (Failed Memory) first last = λ none.
-    let both = exchangeless-both xs ys none in
-    let still = first both.0 in
-    let removal = last both.1 in
-    omega (arith, still, removal)
+keeps-before xs ys a b c (Failed Memory) first last = record {
+  faults = λ none.
+      let both = exchangeless-both xs ys none in
+      let still = first.faults both.0 in
+      let removal = last.faults both.1 in
+      omega (arith, still, removal);
+  overruns = last.overruns ∙ first.overruns;
+}
 
 -- an end that isn't by a fetch
 pub unfetched : (name : List ℕ) (why : Why5) (acts : List Act) (old new : KeeperView) → why ≢ Fetch → FetchEnds name (Failed why) acts old new
@@ -155,7 +166,7 @@ fetch-before name xs ys a b c (Failed Put) later first last = tt
 fetch-before name xs ys a b c (Failed Fetch) later first last = λ none.
     let both = exchangeless-both xs ys none in
     let found = last both.1 in
-    (found.0, found.1, fetch-cause-before name 41943040 found.0 a b c found.1 (first both.0) later found.2)
+    (found.0, found.1, fetch-cause-before name 41943040 found.0 a b c found.1 (first.faults both.0) later found.2)
 fetch-before name xs ys a b c (Failed (Broke host cause)) later first last = tt
 fetch-before name xs ys a b c (Failed NoHost) later first last = tt
 fetch-before name xs ys a b c (Failed Memory) later first last = tt
@@ -170,7 +181,7 @@ went-then {h = h} j l l' caller caller' number a b c at mid to same_limits same_
   named = second.named ∙ ap (λ (es : List Event). es ++ numbered b.places second.acts) first.named ∙ append_assoc a.events (numbered a.places first.acts) (numbered b.places second.acts)
       ∙ ap (λ (p : Places). a.events ++ (numbered a.places first.acts ++ numbered p second.acts)) first.grown ∙ ap (λ (es : List Event). a.events ++ es) (sym (numbered-append a.places first.acts second.acts));
   grown = second.grown ∙ ap (λ (p : Places). advanced p second.acts) first.grown ∙ sym (advanced-append a.places first.acts second.acts);
-  reach = subst (λ (xs : List Act). Reach j at xs to) (sym (untimed-append first.acts second.acts)) (reach-append j (untimed first.acts) (untimed second.acts) at mid to first.reach second.reach);
+  reach = subst (λ (xs : List Act). OpenReach j at xs to) (sym (untimed-append first.acts second.acts)) (reach-append j (untimed first.acts) (untimed second.acts) at mid to first.reach second.reach);
   mine = second.mine ∙ ap (λ (es : List CallEntry). es ++ second.calls) first.mine ∙ append_assoc a.mine first.calls second.calls;
   serves = λ past taken.
       subst (λ (xs : List SlotEvent). Serves (wanted l) caller number past xs (first.calls ++ second.calls)) (sym (slots-append first.acts second.acts))

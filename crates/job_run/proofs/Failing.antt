@@ -14,7 +14,7 @@ use Rattle.edge_traits.specs.declared.faults.EdgeFault.{EdgeFault}
 use Rattle.edge_traits.specs.declared.faults.EdgeFault.TheVariants as edge
 use Rattle.edge_traits.specs.declared.cause.Cause.{Cause}
 use Rattle.edge_traits.specs.declared.cause.Cause.TheVariants.{Dial, Send as CutSend, Recv, Truncated, BadReply, Stopped}
-use Rattle.edge_traits.specs.Causes.{Rose, IsRemoval}
+use Rattle.edge_traits.specs.Causes.{Rose, Still, IsRemoval}
 use Rattle.edge_traits.specs.Kits.{KitView}
 use Rattle.edge_traits.specs.Keepers.{KeeperView, FetchCause}
 use Rattle.edge_traits.specs.Stations.{StationView, RunFault}
@@ -83,12 +83,12 @@ not-fetched-cause path bound fetch.Absent why old new is gone = subst (λ (w : W
 not-fetched-cause path bound (fetch.TooMuch bytes) why old new is long = subst (λ (w : Why5). HasEndCause (Failed w) old new) (sym is) (inr long.rose)
 not-fetched-cause path bound fetch.Memory why old new is free = subst (λ (w : Why5). HasEndCause (Failed w) old new) (sym is) tt
 
--- where the fetch wanted memory, the keeper's faults stand still
+-- where the fetch wanted memory, the keeper's counts stand still
 pub not-fetched-stands : (path : List ℕ) (bound : ℕ) (fault : FetchFault) (why : Why5) (acts : List Act) (old new : KeeperView) → why ≡ fetch_failure fault → FetchCause path bound old new fault → KeeperStands (Failed why) acts old new
 not-fetched-stands path bound fetch.Failed why acts old new is rose = subst (λ (w : Why5). KeeperStands (Failed w) acts old new) (sym is) tt
 not-fetched-stands path bound fetch.Absent why acts old new is gone = subst (λ (w : Why5). KeeperStands (Failed w) acts old new) (sym is) tt
 not-fetched-stands path bound (fetch.TooMuch bytes) why acts old new is long = subst (λ (w : Why5). KeeperStands (Failed w) acts old new) (sym is) tt
-not-fetched-stands path bound fetch.Memory why acts old new is free = subst (λ (w : Why5). KeeperStands (Failed w) acts old new) (sym is) (λ none. let e = free.faults in omega (arith, e))
+not-fetched-stands path bound fetch.Memory why acts old new is free = subst (λ (w : Why5). KeeperStands (Failed w) acts old new) (sym is) (record { faults = λ none. let e = free.faults in omega (arith, e); overruns = free.overruns })
 
 -- where the fetch was of the job's source, the job ends by that fetch
 pub fetch-ends : (name path : List ℕ) (fault : FetchFault) (why : Why5) (acts : List Act) (old new : KeeperView) → name ≡ path → why ≡ fetch_failure fault → FetchCause path 41943040 old new fault → FetchEnds name (Failed why) acts old new
@@ -114,10 +114,10 @@ pub not-put-cause : (fault : EdgeFault) (why : Why5) (old new : KitView) → why
 not-put-cause edge.Failed why old new is rose = subst (λ (w : Why5). HasEndCause (Failed w) old new) (sym is) (rose refl)
 not-put-cause edge.Memory why old new is free = subst (λ (w : Why5). HasEndCause (Failed w) old new) (sym is) tt
 
--- where the put wanted memory, no more than a removal failed
-pub not-put-stands : (fault : EdgeFault) (why : Why5) (acts : List Act) (old new : KeeperView) → why ≡ put_failure fault → (fault ≡ edge.Memory → IsRemoval old.faults new.faults) → KeeperStands (Failed why) acts old new
-not-put-stands edge.Failed why acts old new is removal = subst (λ (w : Why5). KeeperStands (Failed w) acts old new) (sym is) tt
-not-put-stands edge.Memory why acts old new is removal = subst (λ (w : Why5). KeeperStands (Failed w) acts old new) (sym is) (λ none. removal refl)
+-- where the put wanted memory, no more than a removal failed, and no put is an overrun
+pub not-put-stands : (fault : EdgeFault) (why : Why5) (acts : List Act) (old new : KeeperView) → why ≡ put_failure fault → (fault ≡ edge.Memory → IsRemoval old.faults new.faults) → Still old.overruns new.overruns → KeeperStands (Failed why) acts old new
+not-put-stands edge.Failed why acts old new is removal still = subst (λ (w : Why5). KeeperStands (Failed w) acts old new) (sym is) still
+not-put-stands edge.Memory why acts old new is removal still = subst (λ (w : Why5). KeeperStands (Failed w) acts old new) (sym is) (record { faults = λ none. removal refl; overruns = still })
 
 pub broken-cause : (host : ℕ) (cause : Cause) (old new : KitView) → LandedCause (LandedBroke cause) old.dialer.faults new.dialer.faults → HasEndCause (Failed (Broke host cause)) old new
 broken-cause host Dial old new rose = rose

@@ -22,6 +22,7 @@ use Rattle.remote_transfer.specs.Landings.{KeeperStays}
 use Rattle.farm_machine.specs.declared.reports.Event.{Event}
 use Rattle.farm_machine.specs.declared.reports.Places.{Places}
 use Rattle.farm_machine.specs.Acts.{SlotEvent, Gives, GivesBad, TakesLocal, GivesLocal, Act, Did, Met}
+use Rattle.edge_traits.specs.Causes.{Still}
 use Rattle.farm_machine.specs.Causes.{KitLater}
 use Rattle.farm_machine.specs.Course.{At, Next}
 use Rattle.farm_machine.specs.Farm.{wanted}
@@ -31,7 +32,7 @@ use Rattle.farm_machine.specs.Machine.{Wants}
 use Rattle.farm_machine.specs.Moments.{AreMoments}
 use Rattle.farm_machine.specs.Numbered.{numbered, advanced}
 use Rattle.farm_machine.specs.Own.{Serves}
-use Rattle.job_run.specs.Gives.{IsUnhurt}
+use Rattle.job_run.specs.Gives.{IsUnhurt, HidesNoFault}
 use Rattle.job_run.specs.Waits.{borrowed}
 use Rattle.job_run.specs.Worlds.{World, Went, WentOn}
 use Rattle.job_run.proofs.Lists.{some-entry, numbered-append, advanced-append, moments-append, serves-append}
@@ -131,7 +132,7 @@ local-ran l j caller number refused a b at c d to x did later may same_peers sam
   did = did;
   named = noted.0;
   grown = noted.1;
-  reach = (c, first, (d, second, (to, third, refl)));
+  reach = (c, first, tt, (d, second, tt, (to, third, tt, refl)));
   mine = mine;
   serves = λ past taken. serves-append (wanted l) caller number past (TakesLocal ∷ []) (GivesLocal ∷ []) (borrowed caller number refused) (entry caller (GiveLocal number) Given ∷ []) (serves-borrowed (wanted l) caller number past refused) (refl, (refl, tt, refl, tt));
   moments = moments-append j.config.period (borrowed caller number refused) (entry caller (GiveLocal number) Given ∷ []) [] [] (moments-borrowed j.config.period caller number refused) ([], [], refl, refl, refl);
@@ -156,7 +157,7 @@ local-not-run l j caller number refused a b at c to did later same_peers same_pr
   did = did;
   named = noted.0;
   grown = noted.1;
-  reach = (c, first, (to, second, refl));
+  reach = (c, first, tt, (to, second, tt, refl));
   mine = mine;
   serves = λ past taken. serves-append (wanted l) caller number past (TakesLocal ∷ []) (GivesLocal ∷ []) (borrowed caller number refused) (entry caller (GiveLocal number) Given ∷ []) (serves-borrowed (wanted l) caller number past refused) (refl, (refl, tt, refl, tt));
   moments = moments-append j.config.period (borrowed caller number refused) (entry caller (GiveLocal number) Given ∷ []) [] [] (moments-borrowed j.config.period caller number refused) ([], [], refl, refl, refl);
@@ -173,15 +174,15 @@ pub lent-ran : {h : ℕ} (l : Limits h) (j : Job) (caller number host : ℕ) (a 
     → DidIn a.kit b.kit (ran x ∷ []) → KitLater a.kit b.kit → b.programs x.words x.input x.ran → SameRelation a.peers b.peers → SameRelation3 a.programs b.programs
     → Noted a.events a.places (Did (ran x) ∷ Met (Gives host) ∷ []) b.events b.places
     → b.mine ≡ a.mine ++ entry caller (Give host number) Given ∷ []
-    → Next j at (Did (ran x)) c → Next j c (Met (Gives host)) to
+    → Next j at (Did (ran x)) c → Next j c (Met (Gives host)) to → HidesNoFault (Met (Gives host)) c to
     → Went j l caller number a b at to
-lent-ran l j caller number host a b at c to x did later may same_peers same_programs noted mine first second = record {
+lent-ran l j caller number host a b at c to x did later may same_peers same_programs noted mine first second hides = record {
   acts = Did (ran x) ∷ Met (Gives host) ∷ [];
   calls = entry caller (Give host number) Given ∷ [];
   did = did;
   named = noted.0;
   grown = noted.1;
-  reach = (c, first, (to, second, refl));
+  reach = (c, first, tt, (to, second, hides, refl));
   mine = mine;
   serves = λ past taken. (refl, (refl, tt, refl, tt));
   moments = ([], [], refl, refl, refl);
@@ -198,15 +199,15 @@ pub given-back : {h : ℕ} (l : Limits h) (j : Job) (caller number host : ℕ) (
     → DidIn a.kit b.kit [] → KitLater a.kit b.kit → SameRelation a.peers b.peers → SameRelation3 a.programs b.programs
     → Noted a.events a.places (Met (Gives host) ∷ []) b.events b.places
     → b.mine ≡ a.mine ++ entry caller (Give host number) Given ∷ []
-    → Next j at (Met (Gives host)) to
+    → Next j at (Met (Gives host)) to → HidesNoFault (Met (Gives host)) at to
     → Went j l caller number a b at to
-given-back l j caller number host a b at to did later same_peers same_programs noted mine first = record {
+given-back l j caller number host a b at to did later same_peers same_programs noted mine first hides = record {
   acts = Met (Gives host) ∷ [];
   calls = entry caller (Give host number) Given ∷ [];
   did = did;
   named = noted.0;
   grown = noted.1;
-  reach = (to, first, refl);
+  reach = (to, first, hides, refl);
   mine = mine;
   serves = λ past taken. (refl, (refl, tt, refl, tt));
   moments = ([], [], refl, refl, refl);
@@ -223,15 +224,15 @@ pub exchanged-given : {h : ℕ} (l : Limits h) (j : Job) (caller number host : �
     → DidIn a.kit b.kit (exchanged x ∷ []) → KitLater a.kit b.kit → (IsTrue b.kit.dialer.exchanges.known → x.dialed ≡ true → b.peers x.sent x.given) → SameRelation a.peers b.peers → SameRelation3 a.programs b.programs
     → Noted a.events a.places (Did (exchanged x) ∷ Met (Gives host) ∷ []) b.events b.places
     → b.mine ≡ a.mine ++ entry caller (Give host number) Given ∷ []
-    → Next j at (Did (exchanged x)) c → Next j c (Met (Gives host)) to → (j.config.period ≡ 0) ⊎ IsUnhurt x → NoneRose a.kit.station b.kit.station → WentOn j l caller number a b at to
-exchanged-given l j caller number host a b at c to x did later may same_peers same_programs noted mine first second fair still = record {
+    → Next j at (Did (exchanged x)) c → Next j c (Met (Gives host)) to → HidesNoFault (Met (Gives host)) c to → (j.config.period ≡ 0) ⊎ IsUnhurt x → NoneRose a.kit.station b.kit.station → Still a.kit.keeper.overruns b.kit.keeper.overruns → WentOn j l caller number a b at to
+exchanged-given l j caller number host a b at c to x did later may same_peers same_programs noted mine first second hides fair still overruns = record {
   went = record {
     acts = Did (exchanged x) ∷ Met (Gives host) ∷ [];
     calls = entry caller (Give host number) Given ∷ [];
     did = did;
     named = noted.0;
     grown = noted.1;
-    reach = (c, first, (to, second, refl));
+    reach = (c, first, tt, (to, second, hides, refl));
     mine = mine;
     serves = λ past taken. (refl, (refl, tt, refl, tt));
     moments = ([], [], refl, refl, refl);
@@ -243,7 +244,7 @@ exchanged-given l j caller number host a b at c to x did later may same_peers sa
     same_programs = same_programs;
   };
   station = still;
-  keeper = λ none. absurd (some-entry x [] none);
+  keeper = record { faults = λ none. absurd (some-entry x [] none); overruns = overruns };
 }
 
 -- one exchange was made in a slot of a host, which was given back, and the host is left alone from a moment that the clock gave
@@ -253,15 +254,15 @@ pub exchanged-alone : {h : ℕ} (l : Limits h) (j : Job) (caller number host mom
     → Noted a.events a.places (Did (exchanged x) ∷ Did (timed moment) ∷ Met (GivesBad host (bad_until moment j.config.period)) ∷ []) b.events b.places
     → b.mine ≡ a.mine ++ entry caller (GiveBad host number (bad_until moment j.config.period)) Given ∷ []
     → Next j at (Did (exchanged x)) c → Next j c (Met (GivesBad host (bad_until moment j.config.period))) to
-    → NoneRose a.kit.station b.kit.station → WentOn j l caller number a b at to
-exchanged-alone l j caller number host moment a b at c to x within did later may same_peers same_programs noted mine first second still = record {
+    → NoneRose a.kit.station b.kit.station → Still a.kit.keeper.overruns b.kit.keeper.overruns → WentOn j l caller number a b at to
+exchanged-alone l j caller number host moment a b at c to x within did later may same_peers same_programs noted mine first second still overruns = record {
   went = record {
     acts = Did (exchanged x) ∷ Did (timed moment) ∷ Met (GivesBad host (bad_until moment j.config.period)) ∷ [];
     calls = entry caller (GiveBad host number (bad_until moment j.config.period)) Given ∷ [];
     did = did;
     named = noted.0;
     grown = noted.1;
-    reach = (c, first, (to, second, refl));
+    reach = (c, first, tt, (to, second, tt, refl));
     mine = mine;
     serves = λ past taken. (refl, (refl, tt, refl, tt));
     moments = (moment ∷ [], [], (moment, within, refl, refl), refl, refl);
@@ -273,7 +274,7 @@ exchanged-alone l j caller number host moment a b at c to x within did later may
     same_programs = same_programs;
   };
   station = still;
-  keeper = λ none. absurd (some-entry x [] none);
+  keeper = record { faults = λ none. absurd (some-entry x [] none); overruns = overruns };
 }
 
 -- one deed that takes no slot: its acts are that deed alone
@@ -287,7 +288,7 @@ only-run l j caller number a b at to x did later may same_peers same_programs no
   did = did;
   named = noted.0;
   grown = noted.1;
-  reach = (to, first, refl);
+  reach = (to, first, tt, refl);
   mine = mine ∙ sym (append-nil a.mine);
   serves = λ past taken. tt;
   moments = refl;
@@ -309,7 +310,7 @@ only-fetch l j caller number a b at to x did later same_peers same_programs note
   did = did;
   named = noted.0;
   grown = noted.1;
-  reach = (to, first, refl);
+  reach = (to, first, tt, refl);
   mine = mine ∙ sym (append-nil a.mine);
   serves = λ past taken. tt;
   moments = refl;
@@ -331,7 +332,7 @@ only-put l j caller number a b at to x did later same_peers same_programs noted 
   did = did;
   named = noted.0;
   grown = noted.1;
-  reach = (to, first, refl);
+  reach = (to, first, tt, refl);
   mine = mine ∙ sym (append-nil a.mine);
   serves = λ past taken. tt;
   moments = refl;

@@ -19,7 +19,7 @@ use Rattle.farm_machine.specs.declared.reports.Event.{Event}
 use Rattle.farm_machine.specs.declared.reports.Places.{Places}
 use Rattle.farm_machine.specs.Acts.{SlotEvent, Act, Did, Met, slots_of, deeds_of, took}
 use Rattle.farm_machine.specs.Causes.{KitLater}
-use Rattle.farm_machine.specs.Course.{At, Send, Next, Reach, Tried, is_tried}
+use Rattle.farm_machine.specs.Course.{At, Send, Next, Tried, is_tried}
 use Rattle.farm_machine.specs.Farm.{is_as_wanted, wanted}
 use Rattle.farm_machine.specs.Honest.{Programs, AllRan}
 use Rattle.farm_machine.specs.Jobs.{Job}
@@ -29,10 +29,11 @@ use Rattle.farm_machine.specs.Numbered.{numbered, advanced, untimed}
 use Rattle.farm_machine.specs.Own.{ServedBy, Serves}
 use Rattle.farm_machine.specs.Weave.{IsWaitedFor}
 use Rattle.farm_machine.specs.Machine.{HostSlot, Adds, job_call}
-use Rattle.job_run.specs.Gives.{LeavesAlone}
+use Rattle.job_run.specs.Gives.{LeavesAlone, OpenReach}
 use Rattle.job_run.specs.Stages.{HasUntried}
 use Rattle.job_run.specs.Waits.{asked}
 use Rattle.job_run.specs.Worlds.{World, HasTaken, WentOn}
+use Rattle.job_run.proofs.Hiding.{hides-none}
 use Rattle.job_run.proofs.Leaves.{Noted}
 
 -- looks at the clock
@@ -154,7 +155,7 @@ went-asked l j caller number mask refused now reply x a b source note tried to w
     did = did-looks a.kit b.kit (refused ++ now ∷ []) x dialer station keeper moments;
     named = noted.0 ∙ ap (λ (es : List Event). a.events ++ es) (sym (numbered-looks a.places (refused ++ now ∷ []) (Met x ∷ [])));
     grown = noted.1 ∙ sym (advanced-looks a.places (refused ++ now ∷ []) (Met x ∷ []));
-    reach = subst (λ (xs : List Act). Reach j (Send source note tried) xs to) (sym (untimed-looks (refused ++ now ∷ []) (Met x ∷ []))) (to, next, refl);
+    reach = subst (λ (xs : List Act). OpenReach j (Send source note tried) xs to) (sym (untimed-looks (refused ++ now ∷ []) (Met x ∷ []))) (to, next, hides-none x source note tried to, refl);
     mine = mine;
     serves = λ past taken. subst (λ (xs : List SlotEvent). Serves (wanted l) caller number past xs (asked caller number mask refused now reply)) (sym (slots-looks (refused ++ now ∷ []) (Met x ∷ [])))
         (serves-asked (wanted l) caller number past mask refused now reply x (mask-wanted l mask source note tried past untried taken) waited call);
@@ -167,5 +168,5 @@ went-asked l j caller number mask refused now reply x a b source note tried to w
     same_programs = same_programs;
   };
   station = none-looked a.kit b.kit station;
-  keeper = λ none. ap (λ (k : KeeperView). k.faults) keeper;
+  keeper = record { faults = λ none. ap (λ (k : KeeperView). k.faults) keeper; overruns = ap (λ (k : KeeperView). k.overruns) keeper };
 }

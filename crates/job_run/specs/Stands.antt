@@ -14,17 +14,24 @@ use Rattle.job_run.specs.Failures.{fetch_failure}
 abbrev pub HasNoExchange : List Act → Type 0
 HasNoExchange acts = exchanges_in (deeds_of acts) ≡ []
 
--- without an exchange the keeper's faults stand still
-abbrev pub KeepsStill : List Act → KeeperView → KeeperView → Type 0
-KeepsStill acts old new = HasNoExchange acts → Still old.faults new.faults
+-- The keeper's overruns stand still, and without an exchange its faults do so too.
+pub record KeepsStill (acts : List Act) (old new : KeeperView) : Type 0 where
+  pub faults : HasNoExchange acts → Still old.faults new.faults
+  pub overruns : Still old.overruns new.overruns
 
--- Where a job made no exchange and ends otherwise than by a failed fetch or a failed put, the keeper's faults stand still. At an end for want of
--- memory they rose by one at most: what was being written couldn't be removed. A failed fetch or put may raise them by any number, so a body that
--- tells it as want of memory, or makes it again, has no proof over every keeper.
+-- The same, but for a fault of a removal.
+pub record KeepsOrRemoves (acts : List Act) (old new : KeeperView) : Type 0 where
+  pub faults : HasNoExchange acts → IsRemoval old.faults new.faults
+  pub overruns : Still old.overruns new.overruns
+
+-- Where a job ends otherwise than by a failed fetch, the keeper's overruns stand still: no file was missing or too long. Where it made no exchange
+-- and ends otherwise than by a failed fetch or a failed put, the keeper's faults stand still. At an end for want of memory they rose by one at most:
+-- what was being written couldn't be removed. A failed fetch or put may raise a count by any number, so a body that tells it as want of memory, or
+-- makes it again, has no proof over every keeper.
 abbrev pub KeeperStands : End → List Act → KeeperView → KeeperView → Type 0
 KeeperStands (Failed Fetch) acts old new = Unit {0}
-KeeperStands (Failed NotPut) acts old new = Unit {0}
-KeeperStands (Failed Memory) acts old new = HasNoExchange acts → IsRemoval old.faults new.faults
+KeeperStands (Failed NotPut) acts old new = Still old.overruns new.overruns
+KeeperStands (Failed Memory) acts old new = KeepsOrRemoves acts old new
 KeeperStands end acts old new = KeepsStill acts old new
 
 -- A job that made no exchange and ends by a failed fetch asked for this file within 41,943,040 bytes: the fetch failed, or the file isn't there or

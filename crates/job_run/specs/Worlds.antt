@@ -11,14 +11,14 @@ use Rattle.farm_machine.specs.declared.reports.End.{End}
 use Rattle.farm_machine.specs.declared.reports.Places.{Places}
 use Rattle.farm_machine.specs.Acts.{SlotEvent, took, Act, slots_of, deeds_of}
 use Rattle.farm_machine.specs.Causes.{HasEndCause, StationStands, KitLater}
-use Rattle.farm_machine.specs.Course.{is_tried, At, Start, Send, Lent, Sent, Reach, Ends}
+use Rattle.farm_machine.specs.Course.{is_tried, At, Start, Send, Lent, Sent, Ends}
 use Rattle.farm_machine.specs.Farm.{wanted}
 use Rattle.farm_machine.specs.Honest.{Peers, Programs, AllRan}
 use Rattle.farm_machine.specs.Jobs.{Job, source_name}
 use Rattle.farm_machine.specs.Moments.{AreMoments}
 use Rattle.farm_machine.specs.Numbered.{numbered, advanced, untimed}
 use Rattle.farm_machine.specs.Own.{Serves}
-use Rattle.job_run.specs.Gives.{LeavesAlone}
+use Rattle.job_run.specs.Gives.{LeavesAlone, OpenReach}
 use Rattle.job_run.specs.Stands.{KeepsStill, KeeperStands, FetchEnds}
 
 -- a kit with its peers and programs, the worker's calls, and the events and next places
@@ -48,7 +48,7 @@ pub record Went {h : ℕ} (j : Job) (l : Limits h) (caller number : ℕ) (old ne
   pub did : DidIn old.kit new.kit (deeds_of acts)
   pub named : new.events ≡ old.events ++ numbered old.places acts
   pub grown : new.places ≡ advanced old.places acts
-  pub reach : Reach j at (untimed acts) to
+  pub reach : OpenReach j at (untimed acts) to
   pub mine : new.mine ≡ old.mine ++ calls
   pub serves : (past : List SlotEvent) → HasTaken past at → Serves (wanted l) caller number past (slots_of acts) calls
   pub moments : AreMoments j.config.period calls (moments_in (deeds_of acts))
@@ -59,7 +59,8 @@ pub record Went {h : ℕ} (j : Job) (l : Limits h) (caller number : ℕ) (old ne
   pub same_peers : SameRelation old.peers new.peers
   pub same_programs : SameRelation3 old.programs new.programs
 
--- The job came from one place to another and goes on there: no count of the station rose, and without an exchange none of the keeper's faults.
+-- The job came from one place to another and goes on there: no count of the station rose, no overrun of the keeper, and without an exchange none of
+-- its faults.
 pub record WentOn {h : ℕ} (j : Job) (l : Limits h) (caller number : ℕ) (old new : World) (at to : At) : Type 0 where
   pub went : Went j l caller number old new at to
   pub station : NoneRose old.kit.station new.kit.station

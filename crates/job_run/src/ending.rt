@@ -1,6 +1,6 @@
 // The end of a job by its compile.
 ghost use Rattle.std.specs.Prelude.{◌≡◌, ℕ, ◌+◌, ◌≤◌, List, []};
-ghost use Rattle.edge_traits.specs.Causes.{HasPutCause};
+ghost use Rattle.edge_traits.specs.Causes.{HasPutCause, Still};
 ghost use Rattle.edge_traits.specs.Told.{Grew};
 ghost use Rattle.edge_traits.specs.FileMaps.{IsStaged};
 ghost use Rattle.edge_traits.specs.Keepers.{IsIdle};
@@ -46,7 +46,7 @@ fn put_object<K: Keeper>(
     ensures put { (object : List ℕ) → HasObject by outcome.now output.now object (K.shows keeper.old) → HasPut output.now object (K.shows keeper.old) (K.shows keeper.new) result }
     ensures idle { IsIdle (K.shows keeper.new) }
     ensures fetches { Grew (K.shows keeper.old).fetches (K.shows keeper.new).fetches [] }
-    ensures overruns { (K.shows keeper.old).overruns ≤ (K.shows keeper.new).overruns }
+    ensures overruns { Still (K.shows keeper.old).overruns (K.shows keeper.new).overruns }
     ensures cause { HasPutCause (K.shows keeper.old).faults (K.shows keeper.new).faults result }
 {
     match by {

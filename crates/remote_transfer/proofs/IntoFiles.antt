@@ -27,7 +27,7 @@ stays-same keeper = record {
   files = record { known = λ k. k; became = λ k. refl };
   puts = record { known = λ k. k; grew = λ k. sym (append-nil keeper.puts.value) };
   fetches = record { known = λ k. k; grew = λ k. sym (append-nil keeper.fetches.value) };
-  overruns = omega arith;
+  overruns = refl;
   faults = omega arith;
 }
 
@@ -36,7 +36,7 @@ stays-then old mid new first second = record {
   files = record { known = λ k. first.files.known (second.files.known k); became = λ k. second.files.became k ∙ first.files.became (second.files.known k) };
   puts = Grew-then first.puts second.puts;
   fetches = Grew-then first.fetches second.fetches;
-  overruns = omega (arith, first.overruns, second.overruns);
+  overruns = second.overruns ∙ first.overruns;
   faults = omega (arith, first.faults, second.faults);
 }
 

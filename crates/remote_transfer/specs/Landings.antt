@@ -24,12 +24,12 @@ use Rattle.remote_transfer.specs.Answers.{answer_of}
 use Rattle.remote_transfer.specs.Attempts.{ExchangeIs, EndsBy, AttemptAdds}
 use Rattle.remote_transfer.specs.Links.{Given, ReplyIs, IsFor, Passed}
 
--- The keeper's files and entries are as they were, so it did no more than a put that isn't committed.
+-- The keeper's files, entries and overruns are as they were, so it did no more than a put that isn't committed.
 pub record KeeperStays (old new : KeeperView) : Type 0 where
   pub files : Became old.files new.files old.files.value
   pub puts : Grew old.puts new.puts []
   pub fetches : Grew old.fetches new.fetches []
-  pub overruns : old.overruns ≤ new.overruns
+  pub overruns : Still old.overruns new.overruns
   pub faults : old.faults ≤ new.faults
 
 -- where the object of a whole reply is, which has these bytes, after the keeper's count stood at before

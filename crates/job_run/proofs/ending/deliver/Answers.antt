@@ -6,7 +6,7 @@ use Rattle.edge_traits.proofs.ToldLemmas.{Grew-refl}
 use Rattle.farm_machine.specs.declared.reports.End.TheVariants.{Failed}
 use Rattle.farm_machine.specs.Course.{Over}
 use Rattle.job_run.specs.Stages.{compiled_at, HasObject}
-use Rattle.job_run.proofs.Composing.{none-rose, stands-by, keeps-by, unfetched}
+use Rattle.job_run.proofs.Composing.{none-rose, stands-by, keeps-none, keeps-by, unfetched}
 use Rattle.job_run.proofs.Ends.{ends-failed, ends-not-put, next-put}
 use Rattle.job_run.proofs.Failing.{not-put, not-put-cause, not-put-stands, not-put-unfetched, done-cause, done-unfetched}
 use Rattle.job_run.proofs.Keeping.{none-pending}
@@ -23,7 +23,7 @@ returns-then-outcome-ne0-clause-ended g c = λ h l caller number mine j object n
       ends = ends-failed j c.args.by c.args.note (with_object c.args.outcome object) _ c.if-outcome-ne0.true c.done.ensures;
       cause = done-cause _ _ _ _ _ _ _ _ c.done.ensures;
       station = stands-by _ _ _ (none-rose _);
-      keeper = keeps-by _ _ _ _ (λ none. refl);
+      keeper = keeps-by _ _ _ _ (keeps-none _ _);
       fetch = done-unfetched _ _ _ _ _ _ _ _ _ _ c.done.ensures;
     }
 
@@ -36,13 +36,13 @@ returns-in-Ok-clause-ended g c = λ h l caller number mine j object named held.
       to = Over c.done-in-Ok.result;
       went = only-put l j caller number _ _ _ _ x
           (record { runs = Grew-refl _; fetches = kept.fetches; exchanges = Grew-refl _; puts = put.puts; moments = Grew-refl _; files = put.files })
-          (record { station = omega arith; station_overruns = omega arith; keeper = kept.cause.later; keeper_overruns = kept.overruns; dialer = omega arith }) (same_peers _) (same_programs _)
+          (record { station = omega arith; station_overruns = omega arith; keeper = kept.cause.later; keeper_overruns = omega (arith, kept.overruns); dialer = omega arith }) (same_peers _) (same_programs _)
           (c.put.ensures.events, c.put.ensures.places) refl
           (next-put j c.args.by c.args.note (with_object c.args.outcome object) x _ c.if-outcome-ne0.false (sym named) refl c.done-in-Ok.ensures);
       ends = refl;
       cause = done-cause _ _ _ _ _ _ _ _ c.done-in-Ok.ensures;
       station = stands-by _ _ _ (none-rose _);
-      keeper = keeps-by _ _ _ _ (λ none. kept.cause.done);
+      keeper = keeps-by _ _ _ _ (record { faults = λ none. kept.cause.done; overruns = kept.overruns });
       fetch = done-unfetched _ _ _ _ _ _ _ _ _ _ c.done-in-Ok.ensures;
     }
 
@@ -54,12 +54,12 @@ returns-in-Err-clause-ended g c = λ h l caller number mine j object named held.
       to = compiled_at c.args.by c.args.note (with_object c.args.outcome object);
       went = no-act l j caller number _ _ _
           (record { runs = Grew-refl _; fetches = kept.fetches; exchanges = Grew-refl _; puts = put.puts; moments = Grew-refl _; files = put.files })
-          (record { station = omega arith; station_overruns = omega arith; keeper = kept.cause.later; keeper_overruns = kept.overruns; dialer = omega arith }) (same_peers _) (same_programs _)
+          (record { station = omega arith; station_overruns = omega arith; keeper = kept.cause.later; keeper_overruns = omega (arith, kept.overruns); dialer = omega arith }) (same_peers _) (same_programs _)
           (sym (append-nil _), refl) refl;
       ends = ends-not-put j c.args.by c.args.note (with_object c.args.outcome object) _ c.if-outcome-ne0.false (not-put c.in-Err.fault _ c.why_not_put.ensures);
       cause = not-put-cause c.in-Err.fault _ _ _ c.why_not_put.ensures (λ e. kept.cause.failed (ap (λ f. Err f) e));
       station = stands-by (Failed c.why_not_put.result) (g.S.Station.shows c.args.kit.now.station) _ (none-rose _);
-      keeper = not-put-stands c.in-Err.fault _ _ _ _ c.why_not_put.ensures (λ e. kept.cause.memory (ap (λ f. Err f) e));
+      keeper = not-put-stands c.in-Err.fault _ _ _ _ c.why_not_put.ensures (λ e. kept.cause.memory (ap (λ f. Err f) e)) kept.overruns;
       fetch = unfetched _ c.why_not_put.result _ _ _ (not-put-unfetched c.in-Err.fault _ c.why_not_put.ensures);
     }
 

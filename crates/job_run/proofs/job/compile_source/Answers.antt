@@ -14,7 +14,7 @@ returns-in_default-clause-compiled g c = λ note. record {
   ends = refl;
   cause = tt;
   station = none-rose _;
-  keeper = λ none. omega arith;
+  keeper = record { faults = λ none. omega arith; overruns = refl };
   fetch = tt;
 }
 

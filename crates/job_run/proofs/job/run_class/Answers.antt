@@ -24,7 +24,7 @@ returns-in-Memory-clause-ended g c = record {
   ends = inl refl;
   cause = tt;
   station = none-rose _;
-  keeper = λ none. omega arith;
+  keeper = record { faults = λ none. omega arith; overruns = refl };
   fetch = tt;
 }
 

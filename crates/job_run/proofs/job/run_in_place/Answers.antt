@@ -7,7 +7,7 @@ use Rattle.farm_machine.specs.Course.{LentInPlace, RanInPlace, Over}
 use Rattle.edge_traits.specs.declared.entries.Run.{Run}
 use Rattle.child_runner.specs.Runs.{texts}
 use Rattle.farm_machine.specs.Jobs.{job_of}
-use Rattle.job_run.proofs.Composing.{stands-by, keeps-by, unfetched}
+use Rattle.job_run.proofs.Composing.{stands-by, keeps-none, keeps-by, unfetched}
 use Rattle.job_run.proofs.Failing.{over-not-run, not-run-cause, not-run-stands, not-run-unfetched, done-cause, done-unfetched, local-given, borrowed-given}
 use Rattle.job_run.proofs.Leaves.{noted-then, did-run, did-nothing, local-ran, local-not-run, same_peers}
 use Rattle.job_run.proofs.Outstanding.{gave-local}
@@ -39,7 +39,7 @@ returns-in-Ok-clause-ended g c = λ config stays.
       ends = refl;
       cause = done-cause _ _ _ _ _ _ _ _ c.done_in_place.ensures;
       station = stands-by _ _ _ run.done;
-      keeper = keeps-by _ _ _ _ (λ none. refl);
+      keeper = keeps-by _ _ _ _ (keeps-none _ _);
       fetch = done-unfetched _ _ _ _ _ _ _ _ _ _ c.done_in_place.ensures;
     }
 
@@ -57,6 +57,6 @@ returns-in-Err-clause-ended g c = λ config stays.
       ends = refl;
       cause = not-run-cause _ c.in-Err.fault _ _ _ c.why_not_run.ensures run.cause;
       station = not-run-stands _ c.in-Err.fault _ _ _ c.why_not_run.ensures run.cause;
-      keeper = keeps-by (Failed c.why_not_run.result) _ _ _ (λ none. refl);
+      keeper = keeps-by (Failed c.why_not_run.result) _ _ _ (keeps-none _ _);
       fetch = unfetched _ c.why_not_run.result _ _ _ (not-run-unfetched c.in-Err.fault _ c.why_not_run.ensures);
     }

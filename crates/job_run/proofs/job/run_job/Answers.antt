@@ -9,7 +9,7 @@ use Rattle.course_laws.proofs.Fallbacks.{own as never-by-host}
 use Rattle.course_laws.proofs.Given.{given-untimed, ran-untimed}
 use Rattle.course_laws.proofs.Unbroken.{own-end-law, unbroken-law}
 use Rattle.job_run.specs.Worlds.{Spent}
-use Rattle.job_run.proofs.Asking.{course-of}
+use Rattle.job_run.proofs.Asking.{course-of, is-course}
 use Rattle.job_run.proofs.Lists.{slots-untimed}
 use Rattle.job_run.proofs.Outstanding.{spare-last}
 use Rattle.job_run.proofs.Returning.{none-down}
@@ -20,7 +20,8 @@ returns-clause-ran g c =
     let ended = c.run_class-end.ensures.ended in
     let went = ended.went in
     let j = job_of c.args.words.now c.args.config.now in
-    let course = course-of j (untimed went.acts) Start ended.to _ went.reach ended.ends in
+    let hiding_none = course-of j (untimed went.acts) Start ended.to _ went.reach ended.ends in
+    let course = is-course j (untimed went.acts) Start _ hiding_none in
     record {
       acts = went.acts;
       calls = went.calls;
@@ -28,6 +29,7 @@ returns-clause-ran g c =
       named = c.from_vec.ensures ∙ went.named ∙ ap (λ es. es ++ numbered c.open-journal.result.places went.acts) c.open-journal.ensures.events ∙ ap (λ p. numbered p went.acts) c.open-journal.ensures.places;
       grown = went.grown ∙ ap (λ p. advanced p went.acts) c.open-journal.ensures.places;
       course = course;
+      hides_none = hiding_none;
       mine = went.mine;
       serves = went.serves [] (λ host. refl);
       moments = went.moments;

@@ -8,7 +8,7 @@ use Rattle.edge_traits.specs.declared.entries.Run.{Run}
 use Rattle.arg_strip.specs.Words.{placed_words}
 use Rattle.slot_table.specs.Grants.{host_of}
 use Rattle.farm_machine.specs.Jobs.{job_of}
-use Rattle.job_run.proofs.Composing.{keeps-by, unfetched}
+use Rattle.job_run.proofs.Composing.{keeps-none, keeps-by, unfetched}
 use Rattle.job_run.proofs.Failing.{over-not-run, not-run-cause, not-run-stands, not-run-unfetched, over-lent, gave-as}
 use Rattle.job_run.proofs.Leaves.{noted-then, did-run, did-nothing, lent-ran, given-back, same_peers}
 use Rattle.job_run.proofs.Outstanding.{gave-host}
@@ -30,9 +30,9 @@ returns-in-Ok-clause-compiled g c = λ config note tried here.
           (did-run _ _ x run.runs refl refl (Grew-refl _)) (record { station = run.faults; station_overruns = run.overruns; keeper = omega arith; keeper_overruns = omega arith; dialer = omega arith }) run.ran (same_peers _) run.same
           (noted-then (Did (ran x) ∷ []) (Met (Gives (host_of c.args.grant)) ∷ []) _ _ _ _ _ _ (c.ran.ensures.events, c.ran.ensures.places) (gave-as _ _ _ _ c.host-at.ensures c.note.ensures.events, c.note.ensures.places))
           c.give.ensures.mine
-          (here, (refl, refl), refl) (refl, inl (ap (λ o. Finish Here note o) c.outcome_of.ensures));
+          (here, (refl, refl), refl) (refl, inl (ap (λ o. Finish Here note o) c.outcome_of.ensures)) tt;
       station = run.done;
-      keeper = λ none. refl;
+      keeper = keeps-none _ _;
     }
 
 pub returns-in-Err-clause-compiled : goal.returns-in-Err-clause-compiled
@@ -43,10 +43,10 @@ returns-in-Err-clause-compiled g c = λ config note tried here.
       went = given-back _ (job_of c.args.words.now config) _ _ _ _ _ _ _
           (did-nothing _ _ run.runs (Grew-refl _) refl (Grew-refl _)) (record { station = run.faults; station_overruns = run.overruns; keeper = omega arith; keeper_overruns = omega arith; dialer = omega arith }) (same_peers _) run.same
           (gave-as _ _ _ _ c.host-at.ensures c.note-in-Err.ensures.events, c.note-in-Err.ensures.places) c.give-in-Err.ensures.mine
-          (refl, over-lent _ _ here (over-not-run c.in-Err.fault _ c.why_not_run.ensures));
+          (refl, over-lent _ _ here (over-not-run c.in-Err.fault _ c.why_not_run.ensures)) tt;
       ends = refl;
       cause = not-run-cause _ c.in-Err.fault _ _ _ c.why_not_run.ensures run.cause;
       station = not-run-stands _ c.in-Err.fault _ _ _ c.why_not_run.ensures run.cause;
-      keeper = keeps-by (Failed c.why_not_run.result) _ _ _ (λ none. refl);
+      keeper = keeps-by (Failed c.why_not_run.result) _ _ _ (keeps-none _ _);
       fetch = unfetched _ c.why_not_run.result _ _ _ (not-run-unfetched c.in-Err.fault _ c.why_not_run.ensures);
     }

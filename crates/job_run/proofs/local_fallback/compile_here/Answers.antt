@@ -8,7 +8,7 @@ use Rattle.farm_machine.specs.Course.{LentHere, RanHere, Finish, Over}
 use Rattle.edge_traits.specs.declared.entries.Run.{Run}
 use Rattle.arg_strip.specs.Words.{placed_words}
 use Rattle.farm_machine.specs.Jobs.{job_of}
-use Rattle.job_run.proofs.Composing.{keeps-by, unfetched}
+use Rattle.job_run.proofs.Composing.{keeps-none, keeps-by, unfetched}
 use Rattle.job_run.proofs.Failing.{over-not-run, not-run-cause, not-run-stands, not-run-unfetched, for-here, local-given, borrowed-given}
 use Rattle.job_run.proofs.Leaves.{noted-then, did-run, did-nothing, local-ran, local-not-run, same_peers}
 use Rattle.job_run.proofs.Outstanding.{gave-local}
@@ -37,7 +37,7 @@ returns-in-Ok-clause-compiled g c = λ config note at stands.
           (borrowed-given _ _ _ _ _ _ _ slot.mine.1 (local-given _ _ _ _ _ _ slot.number slot.job c.give_local.ensures.mine))
           (for-here (job_of c.args.words.now config) c.args.source.now note at stands) ((refl, refl), refl) (inl (ap (λ o. Finish Here note o) c.outcome_of.ensures));
       station = run.done;
-      keeper = λ none. refl;
+      keeper = keeps-none _ _;
     }
 
 pub returns-in-Err-clause-compiled : goal.returns-in-Err-clause-compiled
@@ -54,6 +54,6 @@ returns-in-Err-clause-compiled g c = λ config note at stands.
       ends = refl;
       cause = not-run-cause _ c.in-Err.fault _ _ _ c.why_not_run.ensures run.cause;
       station = not-run-stands _ c.in-Err.fault _ _ _ c.why_not_run.ensures run.cause;
-      keeper = keeps-by (Failed c.why_not_run.result) _ _ _ (λ none. refl);
+      keeper = keeps-by (Failed c.why_not_run.result) _ _ _ (keeps-none _ _);
       fetch = unfetched _ c.why_not_run.result _ _ _ (not-run-unfetched c.in-Err.fault _ c.why_not_run.ensures);
     }

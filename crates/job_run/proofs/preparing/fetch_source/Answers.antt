@@ -21,7 +21,7 @@ returns-in-Ok-clause-prepared g c = λ h l caller number mine j sent ready named
           (c.fetched.ensures.events, c.fetched.ensures.places) refl
           (sent, ready, sym named, ap (λ note. Send c.in-Ok.source note []) c.new.ensures);
       station = none-rose _;
-      keeper = λ none. got.done.faults;
+      keeper = record { faults = λ none. got.done.faults; overruns = got.done.overruns };
     }
 
 pub returns-in-Err-clause-prepared : goal.returns-in-Err-clause-prepared

@@ -7,7 +7,7 @@ use Rattle.child_runner.specs.Runs.{texts}
 use Rattle.farm_machine.specs.declared.reports.End.TheVariants.{Failed}
 use Rattle.farm_machine.specs.Course.{Start, Send, Over}
 use Rattle.farm_machine.specs.Jobs.{job_of}
-use Rattle.job_run.proofs.Composing.{stands-by, keeps-by, unfetched}
+use Rattle.job_run.proofs.Composing.{stands-by, keeps-none, keeps-by, unfetched}
 use Rattle.job_run.proofs.Ends.{preprocessor-failed, preprocessor-well, ends-unpreprocessed}
 use Rattle.job_run.proofs.Failing.{not-run, not-run-cause, not-run-stands, not-run-unfetched, done-cause, done-unfetched}
 use Rattle.job_run.proofs.Leaves.{only-run, no-act, did-run, did-nothing, same_peers}
@@ -30,7 +30,7 @@ returns-then-ran-ne0-clause-prepared g c = λ h l caller number mine config.
       ends = refl;
       cause = done-cause _ _ _ _ _ _ _ _ c.done_by_preprocessor.ensures;
       station = stands-by _ _ _ run.done;
-      keeper = keeps-by _ _ _ _ (λ none. refl);
+      keeper = keeps-by _ _ _ _ (keeps-none _ _);
       fetch = done-unfetched _ _ _ _ _ _ _ _ _ _ c.done_by_preprocessor.ensures;
     }
 
@@ -44,7 +44,7 @@ returns-else-ran-ne0-clause-prepared g c = λ h l caller number mine config.
           (c.ran.ensures.events, c.ran.ensures.places) refl
           (c.requires.remote, c.requires.source, (refl, refl), preprocessor-well c.in-Ok.ran c.if-ran-ne0.false);
       station = run.done;
-      keeper = λ none. refl;
+      keeper = keeps-none _ _;
     }
 
 pub returns-in-Err-clause-prepared : goal.returns-in-Err-clause-prepared
@@ -58,6 +58,6 @@ returns-in-Err-clause-prepared g c = λ h l caller number mine config.
       ends = ends-unpreprocessed (job_of c.args.words.now config) _ c.requires.remote c.requires.source (not-run c.in-Err.fault _ c.why_not_run.ensures);
       cause = not-run-cause _ c.in-Err.fault _ _ _ c.why_not_run.ensures run.cause;
       station = not-run-stands _ c.in-Err.fault _ _ _ c.why_not_run.ensures run.cause;
-      keeper = keeps-by (Failed c.why_not_run.result) _ _ _ (λ none. refl);
+      keeper = keeps-by (Failed c.why_not_run.result) _ _ _ (keeps-none _ _);
       fetch = unfetched _ c.why_not_run.result _ _ _ (not-run-unfetched c.in-Err.fault _ c.why_not_run.ensures);
     }

@@ -8,7 +8,7 @@ use Rattle.farm_machine.specs.Course.{no_host, tried_too}
 use Rattle.farm_machine.specs.Jobs.{job_of}
 use Rattle.job_run.specs.Stages.{HasUntried}
 use Rattle.job_run.proofs.Asking.{stage-next, stage-last, stage-broken, tried-more, step-then, arrive, here-as, no-host-unfetched, untried-all, untried-more}
-use Rattle.job_run.proofs.Composing.{none-rose, on-then, cause-later, cause-before}
+use Rattle.job_run.proofs.Composing.{none-rose, on-then, cause-later, cause-before, keeps-none}
 use Rattle.job_run.proofs.Keeping.{idle-step}
 use Rattle.job_run.proofs.Leaves.{no-act, same_peers, same_programs}
 use Rattle.job_run.proofs.Outstanding.{spent-none, spent-then}
@@ -64,7 +64,7 @@ loop-made-init g c = (
         (record {
           went = no-act _ (job_of c.args.words.now c.args.config.now) _ _ _ _ _ (DidIn-nothing _) (record { station = omega arith; station_overruns = omega arith; keeper = omega arith; keeper_overruns = omega arith; dialer = omega arith }) (same_peers _) (same_programs _) (sym (append-nil _), refl) refl;
           station = none-rose _;
-          keeper = λ none. refl;
+          keeper = keeps-none _ _;
         }),
   ),
 )

@@ -6,7 +6,7 @@ use Rattle.farm_types.specs.Fits.{RequestFits}
 use Rattle.farm_machine.specs.Course.{Send}
 use Rattle.farm_machine.specs.Jobs.{job_of}
 use Rattle.job_run.proofs.Asking.{sent-step}
-use Rattle.job_run.proofs.Composing.{none-rose}
+use Rattle.job_run.proofs.Composing.{none-rose, keeps-none}
 use Rattle.job_run.proofs.Leaves.{no-act, same_peers, same_programs}
 use Rattle.job_run.proofs.sending.ask_if_fits.Goals as goal
 
@@ -17,7 +17,7 @@ returns-then-not-fits-clause-asked g c = λ note. (
   record {
     went = no-act _ (job_of c.args.words.now c.args.config.now) _ _ _ _ _ (DidIn-nothing _) (record { station = omega arith; station_overruns = omega arith; keeper = omega arith; keeper_overruns = omega arith; dialer = omega arith }) (same_peers _) (same_programs _) (sym (append-nil _), refl) refl;
     station = none-rose _;
-    keeper = λ none. refl;
+    keeper = keeps-none _ _;
   },
 )
 
