@@ -39,7 +39,8 @@ use Rattle.farm_laws.proofs.Draws.{next-all}
 use Rattle.worker_laws.proofs.Drivers.{asc-legal, asc-by}
 use Rattle.worker_laws.proofs.Reported.{workers-run}
 use Rattle.job_run.proofs.Lists.{moments-append}
-use Rattle.job_run.specs.Gives.{LeavesAlone, OpenCourse}
+use Rattle.job_run.specs.Gives.{LeavesAlone}
+use Rattle.job_run.specs.Strict.{StrictCourse}
 use Rattle.job_driver.specs.Jobs.{job_at}
 use Rattle.job_driver.specs.Works.{untimed_job, all_acts, AreReportsOf, WorkedOff, AreCaused, ends_so, is_station_failure, is_keeper_failure}
 use Rattle.course_laws.specs.Answers.{AllGiven, AnswersBy}
@@ -269,11 +270,11 @@ module _ {K : Type 0} (d : Devices K) (l : Limits 16) (words : List (List (List 
             each-known [] h = tt
             each-known (job ∷ ds) h = (λ known. (h known).0, each-known ds (λ known. (h known).1))
 
-    hides-each : (j : ℕ) → j < l.jobs → OpenCourse (jobs j) (run.reports.acts j) (run.reports.ends j)
-    hides-each j below = told-each (λ i k acts end. OpenCourse (jobs k) acts end) theirs j below
+    strict-each : (j : ℕ) → j < l.jobs → StrictCourse (jobs j) (run.reports.acts j) (run.reports.ends j)
+    strict-each j below = told-each (λ i k acts end. StrictCourse (jobs k) acts end) theirs j below
       where
-        theirs : (i : ℕ) → i < n → Each (λ job. OpenCourse (jobs job.number) (untimed job.acts) job.end) (done i)
-        theirs i inside = let f = facts i inside in subst (λ (ds : List DoneJob). Each (λ job. OpenCourse (jobs job.number) (untimed job.acts) job.end) ds) f.1 f.0.works.hides_none
+        theirs : (i : ℕ) → i < n → Each (λ job. StrictCourse (jobs job.number) (untimed job.acts) job.end) (done i)
+        theirs i inside = let f = facts i inside in subst (λ (ds : List DoneJob). Each (λ job. StrictCourse (jobs job.number) (untimed job.acts) job.end) ds) f.1 f.0.works.strict
 
     left-each : (j : ℕ) → j < l.jobs → AllRan (d.programs (V (run.reports.worker j))) (run.reports.acts j)
     left-each j below = told-each (λ i k acts end. AllRan (d.programs (V i)) acts) theirs j below
@@ -337,7 +338,7 @@ module _ {K : Type 0} (d : Devices K) (l : Limits 16) (words : List (List (List 
           are_read = are-read;
           by_workers = run.workers;
           courses = run.courses;
-          hides_none = hides-each;
+          strict = strict-each;
           agrees = run.agrees;
           run = run.run;
           back = run.back;

@@ -26,7 +26,8 @@ use Rattle.farm_machine.specs.Moments.{AreMoments}
 use Rattle.farm_machine.specs.Numbered.{numbered, advanced, no_places, untimed}
 use Rattle.farm_machine.specs.Own.{DoneJob, Serves, DoesJobs}
 use Rattle.course_laws.proofs.Lengths.{short}
-use Rattle.job_run.specs.Gives.{LeavesAlone, OpenCourse}
+use Rattle.job_run.specs.Gives.{LeavesAlone}
+use Rattle.job_run.specs.Strict.{StrictCourse}
 use Rattle.job_run.specs.JobRuns.{JobRan, AreSmall}
 use Rattle.job_run.proofs.Composing.{later-then}
 use Rattle.job_run.proofs.Lists.{slots-untimed, deeds-append, advanced-append, ran-append, ran-along, may-append, may-along, moments-append, exchanges-append, moments_in-append, leaves-append}
@@ -104,7 +105,7 @@ works-none {period = period} {w = w} {a = a} none blank = record {
     done = [];
     reported = subst (λ (z : List Report). AreReportsOf w no_places [] z) (sym none) tt;
     courses = tt;
-    hides_none = tt;
+    strict = tt;
     does = blank;
     did = DidIn-nothing a;
     moments = subst (λ (z : List CallEntry). AreMoments period z []) (sym blank) refl;
@@ -145,7 +146,7 @@ works-more {h} {peers = peers} {peers' = peers'} {programs = programs} {programs
             (reports-more w done no_places rs new r works.reported
             (record { number = number; worker = worker ∙ same_w; events = did.named ∙ ap (λ (p : Places). numbered p did.acts) so_far.places_are; end = refl }));
         courses = each-more (λ k. Course (jobs k.number) (untimed k.acts) k.end) done new works.courses (subst (λ (k : Job). Course k (untimed did.acts) r.end) is_job did.course);
-        hides_none = each-more (λ k. OpenCourse (jobs k.number) (untimed k.acts) k.end) done new works.hides_none (subst (λ (k : Job). OpenCourse k (untimed did.acts) r.end) is_job did.hides_none);
+        strict = each-more (λ k. StrictCourse (jobs k.number) (untimed k.acts) k.end) done new works.strict (subst (λ (k : Job). StrictCourse k (untimed did.acts) r.end) is_job did.strict);
         does = subst (λ (ds : List DoneJob). DoesJobs (wanted l) w ds calls') (sym (map-append untimed_job done (new ∷ [])))
             (subst (λ (zs : List CallEntry). DoesJobs (wanted l) w (map untimed_job done ++ untimed_job new ∷ []) zs) (sym all)
             (does-more (wanted l) w (map untimed_job done) calls did.calls (untimed_job new) works.does

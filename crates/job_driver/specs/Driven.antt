@@ -33,7 +33,8 @@ use Rattle.course_laws.specs.Answers.{AllGiven, IsAnswer}
 pub use Rattle.course_laws.specs.Answers.{AnswersBy}
 use Rattle.course_laws.specs.Returns.{NoneBroke}
 pub use Rattle.course_laws.specs.Returns.{IsCalm, is_done_or_wanted}
-use Rattle.job_run.specs.Gives.{LeavesAlone, OpenCourse}
+use Rattle.job_run.specs.Gives.{LeavesAlone}
+use Rattle.job_run.specs.Strict.{StrictCourse}
 use Rattle.job_driver.specs.Works.{AreCaused}
 
 -- what is seen of kits: what they tell, what their peers may give, and what their programs may leave
@@ -90,10 +91,10 @@ HasAnswers peers programs kit job acts = (before rest : List Act) (x : Put) → 
     → acts ≡ before ++ Did (put x) ∷ rest → IsAnswer programs job before x
 
 -- All jobs were done by this many workers, one for each of the first kits. There is one report for each job, in the order of the jobs. Read
--- by the workers' entries the reports are courses of their jobs, in which want of memory hides no fault of an exchange, the calls of the one
--- history of the slots agree with them, and what is woven of both is a run of the farm. At its end each job was drawn, each slot is back, and none is held. What the job's exchanges were given and
--- its runs left is what the peers and programs of its worker's kit may give and leave; so over honest peers its object is one that a compiler
--- may answer. With fallback on a job whose worker's station and keeper did nothing wrong is done, or memory was wanting, whatever dialers,
+-- by the workers' entries the reports are courses of their jobs, each run and fetch within its bounds and no fault of an exchange told as want
+-- of memory; the calls of the one history of the slots agree with them, and what is woven of both is a run of the farm. At its end each job was
+-- drawn, each slot is back, and none is held. What the job's exchanges were given and its runs left is what the peers and programs of its
+-- worker's kit may give and leave; so over honest peers its object is one that a compiler may answer. With fallback on a job whose worker's station and keeper did nothing wrong is done, or memory was wanting, whatever dialers,
 -- links and hosts do. So it is with fallback off where there is a host and no exchange of the run broke: then no host is ever left alone.
 pub record JobsRan {K : Type 0} (d : Devices K) (l : Limits 16) (jobs : ℕ → Job) (period workers : ℕ) (reports : List Report) (history : List CallEntry) (last : SlotState 16) (old new : List K) : Type 0 where
   pub entries : ℕ → Entries
@@ -101,7 +102,7 @@ pub record JobsRan {K : Type 0} (d : Devices K) (l : Limits 16) (jobs : ℕ → 
   pub are_read : AreRead l entries reports read
   pub by_workers : (j : ℕ) → j < l.jobs → read.worker j < workers
   pub courses : (j : ℕ) → j < l.jobs → Course (jobs j) (read.acts j) (read.ends j)
-  pub hides_none : (j : ℕ) → j < l.jobs → OpenCourse (jobs j) (read.acts j) (read.ends j)
+  pub strict : (j : ℕ) → j < l.jobs → StrictCourse (jobs j) (read.acts j) (read.ends j)
   pub agrees : Agrees l read (wanted l) history
   pub run : FarmRun (farm_of l jobs) l (weave history read)
   pub back : outstanding history ≡ []

@@ -23,7 +23,8 @@ use Rattle.farm_machine.specs.Jobs.{Job}
 use Rattle.farm_machine.specs.Moments.{AreMoments}
 use Rattle.farm_machine.specs.Numbered.{numbered, advanced, no_places, untimed}
 use Rattle.farm_machine.specs.Own.{DoneJob, Each, DoesJobs}
-use Rattle.job_run.specs.Gives.{LeavesAlone, OpenCourse}
+use Rattle.job_run.specs.Gives.{LeavesAlone}
+use Rattle.job_run.specs.Strict.{StrictCourse}
 
 -- a job without its looks at the clock, which are no acts of a course
 abbrev pub untimed_job : DoneJob → DoneJob
@@ -79,8 +80,8 @@ pub record AreCaused (reports : List Report) (old new : KitView) : Type 0 where
   pub keeper : RoseTogether (ends_so is_keeper_failure reports) old.keeper.faults new.keeper.faults old.keeper.overruns new.keeper.overruns
   pub dialer : RoseBy (ends_so is_dial_failure reports) old.dialer.faults new.dialer.faults
 
--- A worker did jobs, one after another: each is a course of its command, in which want of memory hides no fault of an exchange. All that it did is
--- one list of acts. Its deeds are the new entries
+-- A worker did jobs, one after another: each is a course of its command, with each run and fetch within its bounds and no fault of an exchange
+-- told as want of memory. All that it did is one list of acts. Its deeds are the new entries
 -- of the kit's lists, and the reports' events name them, counted from 0 on. The calls are those of its jobs, and their moments are those that
 -- the clock gave. With a period a host is left alone after each exchange with which something went wrong. Peers gave what peers may give,
 -- programs left what programs may leave, and counts rose with the jobs that failed.
@@ -88,7 +89,7 @@ pub record Works {h : ℕ} (peers : Peers) (programs : Programs) (jobs : ℕ →
   pub done : List DoneJob
   pub reported : AreReportsOf worker no_places done reports
   pub courses : Each (λ job. Course (jobs job.number) (untimed job.acts) job.end) done
-  pub hides_none : Each (λ job. OpenCourse (jobs job.number) (untimed job.acts) job.end) done
+  pub strict : Each (λ job. StrictCourse (jobs job.number) (untimed job.acts) job.end) done
   pub does : DoesJobs (wanted l) worker (map untimed_job done) calls
   pub did : DidIn old new (deeds_of (all_acts done))
   pub moments : AreMoments period calls (moments_in (deeds_of (all_acts done)))

@@ -24,7 +24,7 @@ use Rattle.job_run.specs.declared.step.Step.{Step}
 use Rattle.job_run.specs.declared.step.Step.TheVariants as step
 use Rattle.job_run.specs.declared.exchanging.Answer.{Answer}
 use Rattle.job_run.specs.declared.exchanging.Answer.TheVariants as answer
-use Rattle.job_run.specs.Gives.{OpenReach, OpenFrom}
+use Rattle.job_run.specs.Strict.{StrictReach, StrictFrom}
 use Rattle.job_run.specs.Stages.{IsAtKeeper, AnswerIs, answer_by, LocalIs, StepIs, SentIs, step_of, step_after, compiled_at}
 use Rattle.job_run.specs.Worlds.{World, WentOn, Ended}
 use Rattle.job_run.proofs.Composing.{cause-before, rose-before, stands-by, keeps-by, unfetched, on-then, on-ended}
@@ -73,13 +73,13 @@ here-step j l caller number a b at source note why went cause other = go j.confi
     go false w = record { to = Over (Failed why); went = w.went; ends = refl; cause = cause; station = stands-by (Failed why) a.kit.station b.kit.station w.station; keeper = keeps-by (Failed why) w.went.acts a.kit.keeper b.kit.keeper w.keeper; fetch = unfetched (source_name j) why w.went.acts a.kit.keeper b.kit.keeper other }
 
 -- from the start to a place where the job may end so, its acts are a course
-pub course-of : (j : Job) (acts : List Act) (at to : At) (end : End) → OpenReach j at acts to → Ends j to end → OpenFrom j at acts end
+pub course-of : (j : Job) (acts : List Act) (at to : At) (end : End) → StrictReach j at acts to → Ends j to end → StrictFrom j at acts end
 course-of j [] at to end e ends = subst (λ (b : At). Ends j b end) (sym e) ends
-course-of j (x ∷ acts) at to end (b, next, hides, more) ends = (b, next, hides, course-of j acts b to end more ends)
+course-of j (x ∷ acts) at to end (b, next, strict, more) ends = (b, next, strict, course-of j acts b to end more ends)
 
-pub is-course : (j : Job) (acts : List Act) (at : At) (end : End) → OpenFrom j at acts end → From j at acts end
+pub is-course : (j : Job) (acts : List Act) (at : At) (end : End) → StrictFrom j at acts end → From j at acts end
 is-course j [] at end ends = ends
-is-course j (x ∷ acts) at end (b, next, hides, more) = (b, next, is-course j acts b end more)
+is-course j (x ∷ acts) at end (b, next, strict, more) = (b, next, is-course j acts b end more)
 
 -- the same for a job that is known by another number
 went-as : {h : ℕ} (j : Job) (l : Limits h) (caller n number : ℕ) (a b : World) (at to : At) → n ≡ number → WentOn j l caller n a b at to → WentOn j l caller number a b at to

@@ -26,7 +26,7 @@ use Rattle.farm_machine.specs.Moments.{AreMoments}
 use Rattle.farm_machine.specs.Numbered.{numbered, advanced, untimed}
 use Rattle.farm_machine.specs.Own.{Serves}
 use Rattle.job_run.specs.Failures.{fetch_failure}
-use Rattle.job_run.specs.Gives.{OpenReach}
+use Rattle.job_run.specs.Strict.{StrictReach}
 use Rattle.job_run.specs.Stands.{KeepsStill, KeepsOrRemoves, KeeperStands, FetchEnds}
 use Rattle.job_run.specs.Worlds.{World, HasTaken, Went, WentOn, Ended}
 use Rattle.job_run.proofs.Lists.{slots-append, deeds-append, untimed-append, slots-untimed, advanced-append, numbered-append, ran-append, ran-along, may-append, may-along, moments-append, reach-append, serves-append, exchanges-append, moments_in-append, leaves-append, exchangeless-both}
@@ -181,7 +181,7 @@ went-then {h = h} j l l' caller caller' number a b c at mid to same_limits same_
   named = second.named ∙ ap (λ (es : List Event). es ++ numbered b.places second.acts) first.named ∙ append_assoc a.events (numbered a.places first.acts) (numbered b.places second.acts)
       ∙ ap (λ (p : Places). a.events ++ (numbered a.places first.acts ++ numbered p second.acts)) first.grown ∙ ap (λ (es : List Event). a.events ++ es) (sym (numbered-append a.places first.acts second.acts));
   grown = second.grown ∙ ap (λ (p : Places). advanced p second.acts) first.grown ∙ sym (advanced-append a.places first.acts second.acts);
-  reach = subst (λ (xs : List Act). OpenReach j at xs to) (sym (untimed-append first.acts second.acts)) (reach-append j (untimed first.acts) (untimed second.acts) at mid to first.reach second.reach);
+  reach = subst (λ (xs : List Act). StrictReach j at xs to) (sym (untimed-append first.acts second.acts)) (reach-append j (untimed first.acts) (untimed second.acts) at mid to first.reach second.reach);
   mine = second.mine ∙ ap (λ (es : List CallEntry). es ++ second.calls) first.mine ∙ append_assoc a.mine first.calls second.calls;
   serves = λ past taken.
       subst (λ (xs : List SlotEvent). Serves (wanted l) caller number past xs (first.calls ++ second.calls)) (sym (slots-append first.acts second.acts))

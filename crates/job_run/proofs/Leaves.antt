@@ -1,7 +1,7 @@
 -- Parts of a job that have no parts: one slot, one deed, and what they were written down as.
-use Rattle.std.proofs.Common.{◌≡◌, ◌⊎◌, ℕ, zero, suc, ◌<◌, ◌^◌, true, List, [], ◌∷◌, ◌++◌, refl, sym, ap, ◌∙◌, subst, append_assoc}
+use Rattle.std.proofs.Common.{◌≡◌, ◌⊎◌, ℕ, zero, suc, ◌<◌, ◌≤◌, ◌^◌, true, List, [], ◌∷◌, ◌++◌, refl, sym, ap, ◌∙◌, subst, append_assoc}
 use Rattle.std.proofs.lemmas.List.{append-nil}
-use Rattle.std.specs.Prelude.{IsTrue}
+use Rattle.std.specs.Prelude.{IsTrue, length}
 use Rattle.slot_table.specs.declared.limits.Limits.{Limits}
 use Rattle.slot_table.specs.declared.calls.SlotCall.TheVariants.{Give, GiveBad, GiveLocal}
 use Rattle.slot_table.specs.declared.calls.SlotReply.TheVariants.{Given}
@@ -32,7 +32,8 @@ use Rattle.farm_machine.specs.Machine.{Wants}
 use Rattle.farm_machine.specs.Moments.{AreMoments}
 use Rattle.farm_machine.specs.Numbered.{numbered, advanced}
 use Rattle.farm_machine.specs.Own.{Serves}
-use Rattle.job_run.specs.Gives.{IsUnhurt, HidesNoFault}
+use Rattle.job_run.specs.Gives.{IsUnhurt}
+use Rattle.job_run.specs.Strict.{IsStrict}
 use Rattle.job_run.specs.Waits.{borrowed}
 use Rattle.job_run.specs.Worlds.{World, Went, WentOn}
 use Rattle.job_run.proofs.Lists.{some-entry, numbered-append, advanced-append, moments-append, serves-append}
@@ -124,15 +125,15 @@ pub local-ran : {h : ℕ} (l : Limits h) (j : Job) (caller number refused : ℕ)
     → DidIn a.kit b.kit (ran x ∷ []) → KitLater a.kit b.kit → b.programs x.words x.input x.ran → SameRelation a.peers b.peers → SameRelation3 a.programs b.programs
     → Noted a.events a.places (Met TakesLocal ∷ Did (ran x) ∷ Met GivesLocal ∷ []) b.events b.places
     → b.mine ≡ a.mine ++ (borrowed caller number refused ++ entry caller (GiveLocal number) Given ∷ [])
-    → Next j at (Met TakesLocal) c → Next j c (Did (ran x)) d → Next j d (Met GivesLocal) to
+    → Next j at (Met TakesLocal) c → Next j c (Did (ran x)) d → IsStrict (Did (ran x)) c d → Next j d (Met GivesLocal) to
     → Went j l caller number a b at to
-local-ran l j caller number refused a b at c d to x did later may same_peers same_programs noted mine first second third = record {
+local-ran l j caller number refused a b at c d to x did later may same_peers same_programs noted mine first second strict third = record {
   acts = Met TakesLocal ∷ Did (ran x) ∷ Met GivesLocal ∷ [];
   calls = borrowed caller number refused ++ entry caller (GiveLocal number) Given ∷ [];
   did = did;
   named = noted.0;
   grown = noted.1;
-  reach = (c, first, tt, (d, second, tt, (to, third, tt, refl)));
+  reach = (c, first, tt, (d, second, strict, (to, third, tt, refl)));
   mine = mine;
   serves = λ past taken. serves-append (wanted l) caller number past (TakesLocal ∷ []) (GivesLocal ∷ []) (borrowed caller number refused) (entry caller (GiveLocal number) Given ∷ []) (serves-borrowed (wanted l) caller number past refused) (refl, (refl, tt, refl, tt));
   moments = moments-append j.config.period (borrowed caller number refused) (entry caller (GiveLocal number) Given ∷ []) [] [] (moments-borrowed j.config.period caller number refused) ([], [], refl, refl, refl);
@@ -174,15 +175,15 @@ pub lent-ran : {h : ℕ} (l : Limits h) (j : Job) (caller number host : ℕ) (a 
     → DidIn a.kit b.kit (ran x ∷ []) → KitLater a.kit b.kit → b.programs x.words x.input x.ran → SameRelation a.peers b.peers → SameRelation3 a.programs b.programs
     → Noted a.events a.places (Did (ran x) ∷ Met (Gives host) ∷ []) b.events b.places
     → b.mine ≡ a.mine ++ entry caller (Give host number) Given ∷ []
-    → Next j at (Did (ran x)) c → Next j c (Met (Gives host)) to → HidesNoFault (Met (Gives host)) c to
+    → Next j at (Did (ran x)) c → IsStrict (Did (ran x)) at c → Next j c (Met (Gives host)) to → IsStrict (Met (Gives host)) c to
     → Went j l caller number a b at to
-lent-ran l j caller number host a b at c to x did later may same_peers same_programs noted mine first second hides = record {
+lent-ran l j caller number host a b at c to x did later may same_peers same_programs noted mine first within second strict = record {
   acts = Did (ran x) ∷ Met (Gives host) ∷ [];
   calls = entry caller (Give host number) Given ∷ [];
   did = did;
   named = noted.0;
   grown = noted.1;
-  reach = (c, first, tt, (to, second, hides, refl));
+  reach = (c, first, within, (to, second, strict, refl));
   mine = mine;
   serves = λ past taken. (refl, (refl, tt, refl, tt));
   moments = ([], [], refl, refl, refl);
@@ -199,15 +200,15 @@ pub given-back : {h : ℕ} (l : Limits h) (j : Job) (caller number host : ℕ) (
     → DidIn a.kit b.kit [] → KitLater a.kit b.kit → SameRelation a.peers b.peers → SameRelation3 a.programs b.programs
     → Noted a.events a.places (Met (Gives host) ∷ []) b.events b.places
     → b.mine ≡ a.mine ++ entry caller (Give host number) Given ∷ []
-    → Next j at (Met (Gives host)) to → HidesNoFault (Met (Gives host)) at to
+    → Next j at (Met (Gives host)) to → IsStrict (Met (Gives host)) at to
     → Went j l caller number a b at to
-given-back l j caller number host a b at to did later same_peers same_programs noted mine first hides = record {
+given-back l j caller number host a b at to did later same_peers same_programs noted mine first strict = record {
   acts = Met (Gives host) ∷ [];
   calls = entry caller (Give host number) Given ∷ [];
   did = did;
   named = noted.0;
   grown = noted.1;
-  reach = (to, first, hides, refl);
+  reach = (to, first, strict, refl);
   mine = mine;
   serves = λ past taken. (refl, (refl, tt, refl, tt));
   moments = ([], [], refl, refl, refl);
@@ -224,15 +225,15 @@ pub exchanged-given : {h : ℕ} (l : Limits h) (j : Job) (caller number host : �
     → DidIn a.kit b.kit (exchanged x ∷ []) → KitLater a.kit b.kit → (IsTrue b.kit.dialer.exchanges.known → x.dialed ≡ true → b.peers x.sent x.given) → SameRelation a.peers b.peers → SameRelation3 a.programs b.programs
     → Noted a.events a.places (Did (exchanged x) ∷ Met (Gives host) ∷ []) b.events b.places
     → b.mine ≡ a.mine ++ entry caller (Give host number) Given ∷ []
-    → Next j at (Did (exchanged x)) c → Next j c (Met (Gives host)) to → HidesNoFault (Met (Gives host)) c to → (j.config.period ≡ 0) ⊎ IsUnhurt x → NoneRose a.kit.station b.kit.station → Still a.kit.keeper.overruns b.kit.keeper.overruns → WentOn j l caller number a b at to
-exchanged-given l j caller number host a b at c to x did later may same_peers same_programs noted mine first second hides fair still overruns = record {
+    → Next j at (Did (exchanged x)) c → Next j c (Met (Gives host)) to → IsStrict (Met (Gives host)) c to → (j.config.period ≡ 0) ⊎ IsUnhurt x → NoneRose a.kit.station b.kit.station → Still a.kit.keeper.overruns b.kit.keeper.overruns → WentOn j l caller number a b at to
+exchanged-given l j caller number host a b at c to x did later may same_peers same_programs noted mine first second strict fair still overruns = record {
   went = record {
     acts = Did (exchanged x) ∷ Met (Gives host) ∷ [];
     calls = entry caller (Give host number) Given ∷ [];
     did = did;
     named = noted.0;
     grown = noted.1;
-    reach = (c, first, tt, (to, second, hides, refl));
+    reach = (c, first, tt, (to, second, strict, refl));
     mine = mine;
     serves = λ past taken. (refl, (refl, tt, refl, tt));
     moments = ([], [], refl, refl, refl);
@@ -280,15 +281,15 @@ exchanged-alone l j caller number host moment a b at c to x within did later may
 -- one deed that takes no slot: its acts are that deed alone
 pub only-run : {h : ℕ} (l : Limits h) (j : Job) (caller number : ℕ) (a b : World) (at to : At) (x : Run)
     → DidIn a.kit b.kit (ran x ∷ []) → KitLater a.kit b.kit → b.programs x.words x.input x.ran → SameRelation a.peers b.peers → SameRelation3 a.programs b.programs
-    → Noted a.events a.places (Did (ran x) ∷ []) b.events b.places → b.mine ≡ a.mine → Next j at (Did (ran x)) to
+    → Noted a.events a.places (Did (ran x) ∷ []) b.events b.places → b.mine ≡ a.mine → Next j at (Did (ran x)) to → IsStrict (Did (ran x)) at to
     → Went j l caller number a b at to
-only-run l j caller number a b at to x did later may same_peers same_programs noted mine first = record {
+only-run l j caller number a b at to x did later may same_peers same_programs noted mine first strict = record {
   acts = Did (ran x) ∷ [];
   calls = [];
   did = did;
   named = noted.0;
   grown = noted.1;
-  reach = (to, first, tt, refl);
+  reach = (to, first, strict, refl);
   mine = mine ∙ sym (append-nil a.mine);
   serves = λ past taken. tt;
   moments = refl;
@@ -302,15 +303,15 @@ only-run l j caller number a b at to x did later may same_peers same_programs no
 
 pub only-fetch : {h : ℕ} (l : Limits h) (j : Job) (caller number : ℕ) (a b : World) (at to : At) (x : Fetch)
     → DidIn a.kit b.kit (fetched x ∷ []) → KitLater a.kit b.kit → SameRelation a.peers b.peers → SameRelation3 a.programs b.programs
-    → Noted a.events a.places (Did (fetched x) ∷ []) b.events b.places → b.mine ≡ a.mine → Next j at (Did (fetched x)) to
+    → Noted a.events a.places (Did (fetched x) ∷ []) b.events b.places → b.mine ≡ a.mine → Next j at (Did (fetched x)) to → length x.bytes ≤ 41943040
     → Went j l caller number a b at to
-only-fetch l j caller number a b at to x did later same_peers same_programs noted mine first = record {
+only-fetch l j caller number a b at to x did later same_peers same_programs noted mine first within = record {
   acts = Did (fetched x) ∷ [];
   calls = [];
   did = did;
   named = noted.0;
   grown = noted.1;
-  reach = (to, first, tt, refl);
+  reach = (to, first, within, refl);
   mine = mine ∙ sym (append-nil a.mine);
   serves = λ past taken. tt;
   moments = refl;

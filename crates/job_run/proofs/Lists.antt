@@ -15,7 +15,8 @@ use Rattle.farm_machine.specs.Machine.{Wants, JobCall, Draws, Adds, Waits, Misma
 use Rattle.farm_machine.specs.Moments.{AreMoments}
 use Rattle.farm_machine.specs.Numbered.{numbered, advanced, untimed}
 use Rattle.farm_machine.specs.Own.{ServedBy, Serves}
-use Rattle.job_run.specs.Gives.{GivesAfter, LeavesAlone, OpenReach}
+use Rattle.job_run.specs.Gives.{GivesAfter, LeavesAlone}
+use Rattle.job_run.specs.Strict.{StrictReach}
 use Rattle.job_run.specs.Stands.{HasNoExchange}
 
 pub slots-append : (xs ys : List Act) → slots_of (xs ++ ys) ≡ slots_of xs ++ slots_of ys
@@ -100,9 +101,9 @@ moments-append period [] ys ms ns h k = subst (λ (zs : List ℕ). AreMoments pe
 moments-append period (e ∷ xs) ys ms ns (first, more, of, rest, is) k =
     (first, more ++ ns, of, moments-append period xs ys more ns rest k, ap (λ (zs : List ℕ). zs ++ ns) is ∙ append_assoc first more ns)
 
-pub reach-append : (j : Job) (xs ys : List Act) (a b c : At) → OpenReach j a xs b → OpenReach j b ys c → OpenReach j a (xs ++ ys) c
-reach-append j [] ys a b c h k = subst (λ (at : At). OpenReach j at ys c) (sym h) k
-reach-append j (x ∷ xs) ys a b c (d, next, hides, more) k = (d, next, hides, reach-append j xs ys d b c more k)
+pub reach-append : (j : Job) (xs ys : List Act) (a b c : At) → StrictReach j a xs b → StrictReach j b ys c → StrictReach j a (xs ++ ys) c
+reach-append j [] ys a b c h k = subst (λ (at : At). StrictReach j at ys c) (sym h) k
+reach-append j (x ∷ xs) ys a b c (d, next, strict, more) k = (d, next, strict, reach-append j xs ys d b c more k)
 
 pub serves-append : (wants : Wants) (w j : ℕ) (past xs ys : List SlotEvent) (es fs : List CallEntry) → Serves wants w j past xs es → Serves wants w j (past ++ xs) ys fs → Serves wants w j past (xs ++ ys) (es ++ fs)
 serves-append wants w j past [] ys [] fs h k = subst (λ (p : List SlotEvent). Serves wants w j p ys fs) (append-nil past) k

@@ -29,11 +29,12 @@ use Rattle.farm_machine.specs.Numbered.{numbered, advanced, untimed}
 use Rattle.farm_machine.specs.Own.{ServedBy, Serves}
 use Rattle.farm_machine.specs.Weave.{IsWaitedFor}
 use Rattle.farm_machine.specs.Machine.{HostSlot, Adds, job_call}
-use Rattle.job_run.specs.Gives.{LeavesAlone, OpenReach}
+use Rattle.job_run.specs.Gives.{LeavesAlone}
+use Rattle.job_run.specs.Strict.{StrictReach}
 use Rattle.job_run.specs.Stages.{HasUntried}
 use Rattle.job_run.specs.Waits.{asked}
 use Rattle.job_run.specs.Worlds.{World, HasTaken, WentOn}
-use Rattle.job_run.proofs.Hiding.{hides-none}
+use Rattle.job_run.proofs.Strictness.{strict-send}
 use Rattle.job_run.proofs.Leaves.{Noted}
 
 -- looks at the clock
@@ -155,7 +156,7 @@ went-asked l j caller number mask refused now reply x a b source note tried to w
     did = did-looks a.kit b.kit (refused ++ now ∷ []) x dialer station keeper moments;
     named = noted.0 ∙ ap (λ (es : List Event). a.events ++ es) (sym (numbered-looks a.places (refused ++ now ∷ []) (Met x ∷ [])));
     grown = noted.1 ∙ sym (advanced-looks a.places (refused ++ now ∷ []) (Met x ∷ []));
-    reach = subst (λ (xs : List Act). OpenReach j (Send source note tried) xs to) (sym (untimed-looks (refused ++ now ∷ []) (Met x ∷ []))) (to, next, hides-none x source note tried to, refl);
+    reach = subst (λ (xs : List Act). StrictReach j (Send source note tried) xs to) (sym (untimed-looks (refused ++ now ∷ []) (Met x ∷ []))) (to, next, strict-send x source note tried to, refl);
     mine = mine;
     serves = λ past taken. subst (λ (xs : List SlotEvent). Serves (wanted l) caller number past xs (asked caller number mask refused now reply)) (sym (slots-looks (refused ++ now ∷ []) (Met x ∷ [])))
         (serves-asked (wanted l) caller number past mask refused now reply x (mask-wanted l mask source note tried past untried taken) waited call);

@@ -12,7 +12,7 @@ use Rattle.farm_machine.specs.declared.reports.End.TheVariants.{Done, Failed}
 use Rattle.farm_machine.specs.Acts.{SlotEvent, Takes, Gives, GivesBad, FindsDown, TakesLocal, GivesLocal, Act, Did, Met, slots_of, took}
 use Rattle.farm_machine.specs.Jobs.{Job}
 use Rattle.farm_machine.specs.Course.{At, Start, LentInPlace, RanInPlace, Send, Lent, RanThere, Sent, Locally, LentHere, RanHere, Finish, Over, outcome_of, after_preprocessor, or_here, after_broken, after_whole, Tried, is_tried, tried_too, no_host, Next}
-use Rattle.job_run.specs.Gives.{OpenReach}
+use Rattle.job_run.specs.Strict.{StrictReach}
 use Rattle.job_run.specs.Worlds.{HasTaken}
 
 or-assoc : (a b c : Bool) → ((a || b) || c) ≡ (a || (b || c))
@@ -113,8 +113,8 @@ taken-met j (RanHere note r) c GivesLocal past h t = either (past ++ GivesLocal 
 taken-met j at c x past h t = absurd h
 
 -- along acts
-pub taken-reach : (j : Job) (xs : List Act) (past : List SlotEvent) (at c : At) → OpenReach j at xs c → HasTaken past at → HasTaken (past ++ slots_of xs) c
+pub taken-reach : (j : Job) (xs : List Act) (past : List SlotEvent) (at c : At) → StrictReach j at xs c → HasTaken past at → HasTaken (past ++ slots_of xs) c
 taken-reach j [] past at c e t = subst (λ (p : List SlotEvent). HasTaken p c) (sym (append-nil past)) (subst (λ (b : At). HasTaken past b) e t)
-taken-reach j (Did d ∷ xs) past at c (b, next, hides, more) t = taken-reach j xs past b c more (taken-did j at b d past next t)
-taken-reach j (Met x ∷ xs) past at c (b, next, hides, more) t =
+taken-reach j (Did d ∷ xs) past at c (b, next, strict, more) t = taken-reach j xs past b c more (taken-did j at b d past next t)
+taken-reach j (Met x ∷ xs) past at c (b, next, strict, more) t =
     subst (λ (p : List SlotEvent). HasTaken p c) (append_assoc past (x ∷ []) (slots_of xs)) (taken-reach j xs (past ++ x ∷ []) b c more (taken-met j at b x past next t))

@@ -1,4 +1,4 @@
--- A slot that is given back of a host after an exchange, and what an end for want of memory may follow.
+-- A slot that is given back of a host that broke an exchange.
 use Rattle.std.specs.Prelude.{◌≡◌, ◌⊎◌, ℕ, ◌<◌, ◌^◌, true, false, List, [], ◌∷◌, ◌++◌}
 use Rattle.edge_traits.specs.declared.entries.Exchange.{Exchange}
 use Rattle.edge_traits.specs.Deeds.{exchanged, timed}
@@ -10,12 +10,7 @@ use Rattle.slot_table.specs.Backoff.{bad_until}
 use Rattle.slot_table.specs.History.{entry}
 use Rattle.farm_machine.specs.declared.reports.Event.{Event}
 use Rattle.farm_machine.specs.declared.reports.Event.TheVariants.{Gave, GaveBad}
-use Rattle.farm_machine.specs.declared.reports.End.{End}
-use Rattle.farm_machine.specs.declared.reports.End.TheVariants.{Failed}
-use Rattle.farm_machine.specs.declared.reports.Why5.TheVariants.{Memory}
 use Rattle.farm_machine.specs.Acts.{Gives, Act, Did, Met}
-use Rattle.farm_machine.specs.Course.{At, Start, Sent, Over, Next, Ends}
-use Rattle.farm_machine.specs.Jobs.{Job}
 
 -- with no period it was given back as any other
 pub record GavePlainly (period caller job host : ℕ) (mine mine' : List CallEntry) (events events' : List Event) (moments moments' : Told (List ℕ)) : Type 0 where
@@ -58,24 +53,3 @@ abbrev pub LeavesAlone : ℕ → List Act → Type 0
 LeavesAlone period [] = Unit {0}
 LeavesAlone period (Did (exchanged x) ∷ acts) = GivesAfter period x acts × LeavesAlone period acts
 LeavesAlone period (act ∷ acts) = LeavesAlone period acts
-
--- ---- where memory may be wanting
-
--- Where memory was wanting in place of a host's answer, nothing had gone wrong with the exchange.
-abbrev pub HidesNoFault : Act → At → At → Type 0
-HidesNoFault (Met (Gives k)) (Sent host source note tried x) (Over (Failed Memory)) = IsUnhurt x
-HidesNoFault act at to = Unit {0}
-
--- these acts lead from one place to another, and want of memory hides no fault of an exchange on the way
-abbrev pub OpenReach : Job → At → List Act → At → Type 0
-OpenReach j at [] to = at ≡ to
-OpenReach j at (act ∷ acts) to = (next : At) × Next j at act next × HidesNoFault act at next × OpenReach j next acts to
-
--- from here a job may go on by these acts to this end so
-abbrev pub OpenFrom : Job → At → List Act → End → Type 0
-OpenFrom j at [] end = Ends j at end
-OpenFrom j at (act ∷ acts) end = (next : At) × Next j at act next × HidesNoFault act at next × OpenFrom j next acts end
-
--- the courses of a job in which want of memory hides no fault of an exchange
-abbrev pub OpenCourse : Job → List Act → End → Type 0
-OpenCourse j acts end = OpenFrom j Start acts end

@@ -19,23 +19,25 @@ use Rattle.farm_machine.specs.Numbered.{numbered, advanced, untimed}
 use Rattle.farm_machine.specs.Own.{Serves}
 use Rattle.course_laws.specs.Answers.{AnswersBy}
 use Rattle.course_laws.specs.Returns.{IsCalm, is_done_or_wanted, NoneBroke}
-use Rattle.job_run.specs.Gives.{LeavesAlone, OpenCourse}
+use Rattle.job_run.specs.Gives.{LeavesAlone}
+use Rattle.job_run.specs.Strict.{StrictCourse}
 use Rattle.job_run.specs.Stands.{KeeperStands, FetchEnds}
 
 -- no call was answered that all hosts are down
 abbrev pub NoneIsDown : List CallEntry → Type 0
 NoneIsDown calls = All (λ e. e.reply ≢ Down) calls
 
--- All that the job did, looks at the clock included, is one list of acts. Its deeds are the new entries of the kit's lists; its events name
--- them, numbered on from the places, which have grown by them; without looks at the clock it is a course, with this end. Its slot events are
--- the new calls on the slots, with the refused takes before each, and the moments that these calls name are those that the clock gave. With a
--- period a host is left alone after each exchange with which something went wrong, also where the job then ends for want of memory; and with or
--- without one want of memory stands in place of no host's answer where something went wrong with the exchange. A
--- failure of a device goes with a rise of that device's count, and where the job didn't end by a failed run no count of the station rose.
--- Where it didn't end by a failed fetch, the keeper's overruns stand still. Where it made no exchange and didn't end by a failed fetch or a failed
--- put, the keeper's faults do so too, but for one of a removal where memory was wanting; where it ended by a failed fetch, that was one of its own source, within the bound. Peers gave what peers may give, and programs left what programs may leave.
--- Where station and keeper did nothing wrong the job is done, or memory was wanting, if fallback is on, or if none of its exchanges broke and
--- it found no hosts down. Over honest peers a job that was compiled ends with an outcome that a compiler may answer.
+-- All that the job did, looks at the clock included, is one list of acts. Its deeds are the new entries of the kit's lists; its events name them,
+-- numbered on from the places, which have grown by them; without looks at the clock it is a course, with this end. Its slot events are the new calls
+-- on the slots, with the refused takes before each, and the moments that these calls name are those that the clock gave. With a period a host is
+-- left alone after each exchange with which something went wrong, also where the job then ends for want of memory; and with or without one want of
+-- memory stands in place of no host's answer where something went wrong with the exchange. Each run and each fetch is within its bounds. A failure
+-- of a device goes with a rise of that device's count, and where the job didn't end by a failed run no count of the station rose. Where it didn't
+-- end by a failed fetch, the keeper's overruns stand still. Where it made no exchange and didn't end by a failed fetch or a failed put, the keeper's
+-- faults do so too, but for one of a removal where memory was wanting; where it ended by a failed fetch, that was one of its own source, within the
+-- bound. Peers gave what peers may give, and programs left what programs may leave. Where station and keeper did nothing wrong the job is done, or
+-- memory was wanting, if fallback is on, or if none of its exchanges broke and it found no hosts down. Over honest peers a job that was compiled
+-- ends with an outcome that a compiler may answer.
 pub record JobRan {h : ℕ} (peers : Peers) (programs : Programs) (j : Job) (l : Limits h) (caller number : ℕ) (at next : Places) (events : List Event) (end : End) (mine_old mine_new : List CallEntry) (old new : KitView) : Type 0 where
   pub acts : List Act
   pub calls : List CallEntry
@@ -43,7 +45,7 @@ pub record JobRan {h : ℕ} (peers : Peers) (programs : Programs) (j : Job) (l :
   pub named : events ≡ numbered at acts
   pub grown : next ≡ advanced at acts
   pub course : Course j (untimed acts) end
-  pub hides_none : OpenCourse j (untimed acts) end
+  pub strict : StrictCourse j (untimed acts) end
   pub mine : mine_new ≡ mine_old ++ calls
   pub serves : Serves (wanted l) caller number [] (slots_of acts) calls
   pub moments : AreMoments j.config.period calls (moments_in (deeds_of acts))

@@ -18,7 +18,8 @@ use Rattle.farm_machine.specs.Jobs.{Job, source_name}
 use Rattle.farm_machine.specs.Moments.{AreMoments}
 use Rattle.farm_machine.specs.Numbered.{numbered, advanced, untimed}
 use Rattle.farm_machine.specs.Own.{Serves}
-use Rattle.job_run.specs.Gives.{LeavesAlone, OpenReach}
+use Rattle.job_run.specs.Gives.{LeavesAlone}
+use Rattle.job_run.specs.Strict.{StrictReach}
 use Rattle.job_run.specs.Stands.{KeepsStill, KeeperStands, FetchEnds}
 
 -- a kit with its peers and programs, the worker's calls, and the events and next places
@@ -48,7 +49,7 @@ pub record Went {h : ℕ} (j : Job) (l : Limits h) (caller number : ℕ) (old ne
   pub did : DidIn old.kit new.kit (deeds_of acts)
   pub named : new.events ≡ old.events ++ numbered old.places acts
   pub grown : new.places ≡ advanced old.places acts
-  pub reach : OpenReach j at (untimed acts) to
+  pub reach : StrictReach j at (untimed acts) to
   pub mine : new.mine ≡ old.mine ++ calls
   pub serves : (past : List SlotEvent) → HasTaken past at → Serves (wanted l) caller number past (slots_of acts) calls
   pub moments : AreMoments j.config.period calls (moments_in (deeds_of acts))

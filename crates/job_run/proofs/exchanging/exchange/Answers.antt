@@ -12,7 +12,7 @@ use Rattle.job_run.proofs.Composing.{none-rose, went-on}
 use Rattle.job_run.proofs.Failing.{broken-cause, gave-as, begun-as, whole-as, broken-as, undialed, unasked, dialed_once, alone-noted, alone-called}
 use Rattle.job_run.proofs.Leaves.{noted-then, did-no-exchange, did-exchange, did-exchange-look, exchanged-given, exchanged-alone, given-back, same_programs}
 use Rattle.job_run.proofs.Asking.{whole-answer}
-use Rattle.job_run.proofs.Hiding.{hides-unhurt, hides-broken}
+use Rattle.job_run.proofs.Strictness.{strict-unhurt, strict-broken}
 use Rattle.job_run.proofs.Keeping.{answer-idle}
 use Rattle.job_run.proofs.Outstanding.{gave-host}
 use Rattle.job_run.proofs.exchanging.exchange.Goals as goal
@@ -38,7 +38,7 @@ returns-in-Whole-clause-answered g c = λ j note tried same_request same_host sa
     c.give.ensures.mine
     (ap (λ h. h.local) same_host ∙ c.requires.remote, begun-as j _ _ _ _ x same_request same_host attempt.adds.adds.is.0.begun, refl)
     (refl, inl (with_object c.in-Whole.outcome attempt.adds.object, whole-as j _ _ _ _ x _ same_request same_host attempt.adds.adds.is.0, refl))
-    (hides-unhurt (host_of c.args.grant) (host_of c.args.grant) c.args.request.now.source note tried x (after_whole j (host_of c.args.grant) c.args.request.now.source note (with_object c.in-Whole.outcome attempt.adds.object)) unhurt) (inr unhurt) (none-rose _) attempt.stays.overruns)
+    (strict-unhurt (host_of c.args.grant) (host_of c.args.grant) c.args.request.now.source note tried x (after_whole j (host_of c.args.grant) c.args.request.now.source note (with_object c.in-Whole.outcome attempt.adds.object)) unhurt) (inr unhurt) (none-rose _) attempt.stays.overruns)
 
 pub returns-in-Broke-clause-answered : goal.returns-in-Broke-clause-answered
 returns-in-Broke-clause-answered g c = λ j note tried same_request same_host same_period named.
@@ -50,7 +50,7 @@ returns-in-Broke-clause-answered g c = λ j note tried same_request same_host sa
         | inl plain ↦ exchanged-given _ j _ _ host _ _ _ (Sent host c.args.request.now.source note tried x) _ x
             (did-exchange _ _ x attempt.adds.adds.grew refl attempt.stays plain.looked) (record { station = omega arith; station_overruns = omega arith; keeper = attempt.stays.faults; keeper_overruns = omega (arith, attempt.stays.overruns); dialer = attempt.later }) attempt.adds.adds.may attempt.may_give (same_programs _)
             (noted-then (Did (exchanged x) ∷ []) (Met (Gives host) ∷ []) _ _ _ _ _ _ (c.exchanged-in-Broke.ensures.events, c.exchanged-in-Broke.ensures.places) (plain.noted, c.give_broken.ensures.places))
-            plain.called (ap (λ h. h.local) same_host ∙ c.requires.remote, begun-as j c.args.request.now.source host _ _ x same_request same_host attempt.adds.adds.is.0.begun, refl) (refl, inr (inl (c.in-Broke.cause, broken, same_period ∙ plain.none, refl))) (hides-broken j host host c.in-Broke.cause c.args.request.now.source note tried x) (inl (same_period ∙ plain.none)) (none-rose _) attempt.stays.overruns
+            plain.called (ap (λ h. h.local) same_host ∙ c.requires.remote, begun-as j c.args.request.now.source host _ _ x same_request same_host attempt.adds.adds.is.0.begun, refl) (refl, inr (inl (c.in-Broke.cause, broken, same_period ∙ plain.none, refl))) (strict-broken j host host c.in-Broke.cause c.args.request.now.source note tried x) (inl (same_period ∙ plain.none)) (none-rose _) attempt.stays.overruns
         | inr alone ↦ exchanged-alone _ j _ _ host alone.moment _ _ _ (Sent host c.args.request.now.source note tried x) _ x alone.within
             (did-exchange-look _ _ x alone.moment attempt.adds.adds.grew refl attempt.stays alone.looked) (record { station = omega arith; station_overruns = omega arith; keeper = attempt.stays.faults; keeper_overruns = omega (arith, attempt.stays.overruns); dialer = attempt.later }) attempt.adds.adds.may attempt.may_give (same_programs _)
             (noted-then (Did (exchanged x) ∷ []) (Did (timed alone.moment) ∷ Met (GivesBad host (bad_until alone.moment j.config.period)) ∷ []) _ _ _ _ _ _ (c.exchanged-in-Broke.ensures.events, c.exchanged-in-Broke.ensures.places)

@@ -35,7 +35,7 @@ returns-in-Ok-clause-ended g c = λ config stays.
           (noted-then (Met TakesLocal ∷ []) (Did (ran x) ∷ Met GivesLocal ∷ []) _ _ _ _ _ _ (c.note.ensures.events, c.note.ensures.places)
           (noted-then (Did (ran x) ∷ []) (Met GivesLocal ∷ []) _ _ _ _ _ _ (c.ran.ensures.events, c.ran.ensures.places) (c.note-in-Ok.ensures.events, c.note-in-Ok.ensures.places)))
           (borrowed-given _ _ _ _ _ _ _ slot.mine.1 (local-given _ _ _ _ _ _ slot.number slot.job c.give_local.ensures.mine))
-          (stays, refl) ((refl, refl), refl) (inl (ap (λ e. Over e) c.done_in_place.ensures));
+          (stays, refl) ((refl, refl), refl) run.within (inl (ap (λ e. Over e) c.done_in_place.ensures));
       ends = refl;
       cause = done-cause _ _ _ _ _ _ _ _ c.done_in_place.ensures;
       station = stands-by _ _ _ run.done;

@@ -30,7 +30,7 @@ returns-in-Ok-clause-compiled g c = λ config note tried here.
           (did-run _ _ x run.runs refl refl (Grew-refl _)) (record { station = run.faults; station_overruns = run.overruns; keeper = omega arith; keeper_overruns = omega arith; dialer = omega arith }) run.ran (same_peers _) run.same
           (noted-then (Did (ran x) ∷ []) (Met (Gives (host_of c.args.grant)) ∷ []) _ _ _ _ _ _ (c.ran.ensures.events, c.ran.ensures.places) (gave-as _ _ _ _ c.host-at.ensures c.note.ensures.events, c.note.ensures.places))
           c.give.ensures.mine
-          (here, (refl, refl), refl) (refl, inl (ap (λ o. Finish Here note o) c.outcome_of.ensures)) tt;
+          (here, (refl, refl), refl) run.within (refl, inl (ap (λ o. Finish Here note o) c.outcome_of.ensures)) tt;
       station = run.done;
       keeper = keeps-none _ _;
     }

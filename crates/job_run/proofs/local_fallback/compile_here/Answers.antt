@@ -35,7 +35,7 @@ returns-in-Ok-clause-compiled g c = λ config note at stands.
           (noted-then (Met TakesLocal ∷ []) (Did (ran x) ∷ Met GivesLocal ∷ []) _ _ _ _ _ _ (c.note.ensures.events, c.note.ensures.places)
           (noted-then (Did (ran x) ∷ []) (Met GivesLocal ∷ []) _ _ _ _ _ _ (c.ran.ensures.events, c.ran.ensures.places) (c.note-in-Ok.ensures.events, c.note-in-Ok.ensures.places)))
           (borrowed-given _ _ _ _ _ _ _ slot.mine.1 (local-given _ _ _ _ _ _ slot.number slot.job c.give_local.ensures.mine))
-          (for-here (job_of c.args.words.now config) c.args.source.now note at stands) ((refl, refl), refl) (inl (ap (λ o. Finish Here note o) c.outcome_of.ensures));
+          (for-here (job_of c.args.words.now config) c.args.source.now note at stands) ((refl, refl), refl) run.within (inl (ap (λ o. Finish Here note o) c.outcome_of.ensures));
       station = run.done;
       keeper = keeps-none _ _;
     }

@@ -19,7 +19,7 @@ returns-in-Ok-clause-prepared g c = λ h l caller number mine j sent ready named
           (record { runs = Grew-refl _; fetches = got.fetches; exchanges = Grew-refl _; puts = got.puts; moments = Grew-refl _; files = got.files })
           (record { station = omega arith; station_overruns = omega arith; keeper = got.faults; keeper_overruns = got.overruns; dialer = omega arith }) (same_peers _) (same_programs _)
           (c.fetched.ensures.events, c.fetched.ensures.places) refl
-          (sent, ready, sym named, ap (λ note. Send c.in-Ok.source note []) c.new.ensures);
+          (sent, ready, sym named, ap (λ note. Send c.in-Ok.source note []) c.new.ensures) got.whole.within;
       station = none-rose _;
       keeper = record { faults = λ none. got.done.faults; overruns = got.done.overruns };
     }

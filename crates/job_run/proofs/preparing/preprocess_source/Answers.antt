@@ -26,7 +26,7 @@ returns-then-ran-ne0-clause-prepared g c = λ h l caller number mine config.
       went = only-run l (job_of c.args.words.now config) caller number _ _ Start _ x
           (did-run _ _ x run.runs refl refl (Grew-refl _)) (record { station = run.faults; station_overruns = run.overruns; keeper = omega arith; keeper_overruns = omega arith; dialer = omega arith }) run.ran (same_peers _) run.same
           (c.ran.ensures.events, c.ran.ensures.places) refl
-          (c.requires.remote, c.requires.source, (refl, refl), preprocessor-failed c.in-Ok.ran _ c.done_by_preprocessor.ensures c.if-ran-ne0.true);
+          (c.requires.remote, c.requires.source, (refl, refl), preprocessor-failed c.in-Ok.ran _ c.done_by_preprocessor.ensures c.if-ran-ne0.true) run.within;
       ends = refl;
       cause = done-cause _ _ _ _ _ _ _ _ c.done_by_preprocessor.ensures;
       station = stands-by _ _ _ run.done;
@@ -42,7 +42,7 @@ returns-else-ran-ne0-clause-prepared g c = λ h l caller number mine config.
       went = only-run l (job_of c.args.words.now config) caller number _ _ Start (Send c.in-Ok.ran.out c.in-Ok.ran.err []) x
           (did-run _ _ x run.runs refl refl (Grew-refl _)) (record { station = run.faults; station_overruns = run.overruns; keeper = omega arith; keeper_overruns = omega arith; dialer = omega arith }) run.ran (same_peers _) run.same
           (c.ran.ensures.events, c.ran.ensures.places) refl
-          (c.requires.remote, c.requires.source, (refl, refl), preprocessor-well c.in-Ok.ran c.if-ran-ne0.false);
+          (c.requires.remote, c.requires.source, (refl, refl), preprocessor-well c.in-Ok.ran c.if-ran-ne0.false) run.within;
       station = run.done;
       keeper = keeps-none _ _;
     }

@@ -1,0 +1,36 @@
+-- Courses in which each run and each fetch is within its bounds, and want of memory hides no fault of an exchange.
+use Rattle.std.specs.Prelude.{◌≡◌, ℕ, ◌≤◌, List, [], ◌∷◌, length}
+use Rattle.edge_traits.specs.Deeds.{ran, fetched}
+use Rattle.edge_traits.specs.Stations.{IsWithin}
+use Rattle.child_runner.specs.Runs.{preprocessor_bounds, compile_bounds, in_place_bounds}
+use Rattle.farm_machine.specs.declared.reports.End.{End}
+use Rattle.farm_machine.specs.declared.reports.End.TheVariants.{Failed}
+use Rattle.farm_machine.specs.declared.reports.Why5.TheVariants.{Memory}
+use Rattle.farm_machine.specs.Acts.{Gives, Act, Did, Met}
+use Rattle.farm_machine.specs.Course.{At, Start, LentInPlace, Sent, Over, Next, Ends}
+use Rattle.farm_machine.specs.Jobs.{Job}
+use Rattle.job_run.specs.Gives.{IsUnhurt}
+
+-- What an act keeps to that leads from one place to another: a run leaves no more than a preprocessor, a command in place or a compile may, by where
+-- the job stands; a source that is fetched has at most 41,943,040 bytes; and where memory was wanting in place of a host's answer, nothing had gone
+-- wrong with the exchange.
+abbrev pub IsStrict : Act → At → At → Type 0
+IsStrict (Did (ran x)) Start to = IsWithin preprocessor_bounds x.ran
+IsStrict (Did (ran x)) LentInPlace to = IsWithin in_place_bounds x.ran
+IsStrict (Did (ran x)) at to = IsWithin compile_bounds x.ran
+IsStrict (Did (fetched x)) at to = length x.bytes ≤ 41943040
+IsStrict (Met (Gives k)) (Sent host source note tried x) (Over (Failed Memory)) = IsUnhurt x
+IsStrict act at to = Unit {0}
+
+-- these acts lead from one place to another so
+abbrev pub StrictReach : Job → At → List Act → At → Type 0
+StrictReach j at [] to = at ≡ to
+StrictReach j at (act ∷ acts) to = (next : At) × Next j at act next × IsStrict act at next × StrictReach j next acts to
+
+-- from here a job may go on by these acts to this end so
+abbrev pub StrictFrom : Job → At → List Act → End → Type 0
+StrictFrom j at [] end = Ends j at end
+StrictFrom j at (act ∷ acts) end = (next : At) × Next j at act next × IsStrict act at next × StrictFrom j next acts end
+
+abbrev pub StrictCourse : Job → List Act → End → Type 0
+StrictCourse j acts end = StrictFrom j Start acts end
