@@ -82,12 +82,12 @@ fn host(alloc: Global) -> Result<Host, Fail> {
 }
 
 /// Where the object of a whole reply is, the status, and the length of the outcome's own object.
-type Lay = (Landing, u32, usize);
+type ObjectPlace = (Landing, u32, usize);
 
 /// What became of an object that goes into `x.o`, which holds `old` before.
 #[derive(Drop)]
 struct Shown {
-    lay: Option<Lay>,
+    place: Option<ObjectPlace>,
     broke: Option<Cause>,
     pending: bool,
     file: Bytes,
@@ -108,17 +108,17 @@ fn landed(
     alloc: Global,
     dialer: &mut MemDialer,
     keeper: &mut MemKeeper,
-) -> Result<(Option<Lay>, Option<Cause>), Fail> {
+) -> Result<(Option<ObjectPlace>, Option<Cause>), Fail> {
     let host = host(alloc)?;
     let path = Bytes::from_slice(alloc, b"x.o")?;
     let request = request(alloc)?;
     if !request.fits() || host.local || is_staged(path.as_slice()) || keeper.is_pending() {
         return Err("the call may be made".into());
     }
-    Ok(lay(attempt_into(alloc, &request, &host, &path, dialer, keeper)))
+    Ok(place_of(attempt_into(alloc, &request, &host, &path, dialer, keeper)))
 }
 
-fn lay(landed: Landed) -> (Option<Lay>, Option<Cause>) {
+fn place_of(landed: Landed) -> (Option<ObjectPlace>, Option<Cause>) {
     match landed {
         Landed::Whole { outcome, landing } => (
             Some((landing, outcome.status, outcome.object.len())),
@@ -151,11 +151,11 @@ fn content(alloc: Global, keeper: &mut MemKeeper) -> Result<Bytes, Fail> {
 }
 
 fn shown_of(alloc: Global, dialer: &mut MemDialer, keeper: &mut MemKeeper) -> Result<Shown, Fail> {
-    let (lay, broke) = landed(alloc, dialer, keeper)?;
+    let (place, broke) = landed(alloc, dialer, keeper)?;
     let pending = committed(alloc, keeper)?;
     let file = content(alloc, keeper)?;
     Ok(Shown {
-        lay,
+        place,
         broke,
         pending,
         file,
@@ -405,25 +405,25 @@ fn bad_replies(rt: HostRuntime) -> Result<(), Fail> {
 }
 
 /// A reply, where its object is, and what the file holds.
-type Laid = (&'static [u8], Lay, &'static [u8]);
+type LandedRow = (&'static [u8], ObjectPlace, &'static [u8]);
 
-const LAID: &[Laid] = &[
+const LANDED: &[LandedRow] = &[
     (REPLY, (Landing::Pending, 0, 0), b"SCO1\ndef a 1\n"),
     (SURPLUS, (Landing::Pending, 0, 0), b"SCO1\ndef a 1\n"),
     (EMPTY, (Landing::Pending, 0, 0), b""),
     (FAILED, (Landing::Nothing, 256, 0), b"old"),
 ];
 
-fn expect_lay<R: Abort>(
+fn expect_landed<R: Abort>(
     rt: &R,
     alloc: Global,
-    row: &Laid,
+    row: &LandedRow,
     most: u32,
     fails: &[u64],
 ) -> Result<(), Fail> {
     let (gives, wanted, file) = row;
     let shown = landing(alloc, gives, most, fails)?;
-    same(rt, &shown.lay, &Some(*wanted), &(most, fails));
+    same(rt, &shown.place, &Some(*wanted), &(most, fails));
     same(
         rt,
         &shown.pending,
@@ -434,32 +434,32 @@ fn expect_lay<R: Abort>(
     Ok(())
 }
 
-fn expect_laid<R: Abort>(rt: &R, alloc: Global, row: &Laid) -> Result<(), Fail> {
+fn expect_landed_by_pieces<R: Abort>(rt: &R, alloc: Global, row: &LandedRow) -> Result<(), Fail> {
     for most in [1, 2, 5, 7, 60, 61, 1_000] {
-        expect_lay(rt, alloc, row, most, &[])?;
+        expect_landed(rt, alloc, row, most, &[])?;
     }
     Ok(())
 }
 
-fn expect_all_laid<R: Abort>(rt: &R, alloc: Global, rows: &[Laid]) -> Result<(), Fail> {
+fn expect_all_landed<R: Abort>(rt: &R, alloc: Global, rows: &[LandedRow]) -> Result<(), Fail> {
     for row in rows {
-        expect_laid(rt, alloc, row)?;
+        expect_landed_by_pieces(rt, alloc, row)?;
     }
     Ok(())
 }
 
 #[test]
 fn objects_go_into_files(rt: HostRuntime) -> Result<(), Fail> {
-    expect_all_laid(&rt, rt.alloc(), LAID)
+    expect_all_landed(&rt, rt.alloc(), LANDED)
 }
 
-const LOST: Laid = (REPLY, (Landing::Lost, 0, 0), b"old");
+const LOST: LandedRow = (REPLY, (Landing::Lost, 0, 0), b"old");
 
 // In pieces of 5 bytes: one begin, and an add for each of the three pieces of the object.
 #[test]
 fn a_fault_of_the_keeper_loses_the_object(rt: HostRuntime) -> Result<(), Fail> {
     for call in 1..5 {
-        expect_lay(&rt, rt.alloc(), &LOST, 5, &[call])?;
+        expect_landed(&rt, rt.alloc(), &LOST, 5, &[call])?;
     }
     Ok(())
 }
