@@ -49,8 +49,14 @@ pub record NoneRose (old new : StationView) : Type 0 where
   pub faults : Still old.faults new.faults
   pub overruns : Still old.overruns new.overruns
 
+-- the stream has so many bytes, above its bound, which is an overrun and no fault
+pub record IsTooMuch (bounds : Bounds) (stream : Stream) (bytes : ℕ) (old new : StationView) : Type 0 where
+  pub rose : Rose old.overruns new.overruns
+  pub calm : Still old.faults new.faults
+  pub above : bound_of bounds stream < bytes
+
 -- when a run that came to nothing may answer so
 abbrev pub RunFault : Bounds → StationView → StationView → StationFault → Type 0
 RunFault bounds old new Failed = Rose old.faults new.faults
-RunFault bounds old new (TooMuch stream bytes) = Rose old.overruns new.overruns × (bound_of bounds stream < bytes)
+RunFault bounds old new (TooMuch stream bytes) = IsTooMuch bounds stream bytes old new
 RunFault bounds old new Memory = NoneRose old new

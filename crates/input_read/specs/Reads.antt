@@ -1,7 +1,7 @@
 -- What was read of an input, and what is left.
 use Rattle.std.specs.Prelude.{◌≡◌, ℕ, ◌<◌, ◌≤◌, true, false, IsTrue, List, [], length}
 use Rattle.edge_traits.specs.Told.{Grew}
-use Rattle.edge_traits.specs.Causes.{Rose}
+use Rattle.edge_traits.specs.Causes.{Rose, Still}
 use Rattle.edge_traits.specs.Sources.{SourceView, Lost}
 use Rattle.input_read.specs.declared.Input.{Input}
 use Rattle.input_read.specs.declared.Input.TheVariants.{Whole, TooLong, Unread}
@@ -12,17 +12,20 @@ pub record TookIn (old new : SourceView) (text : List ℕ) : Type 0 where
   pub left : Lost old.left new.left text
   pub later : old.faults ≤ new.faults
 
--- the source gave this text and its end, and nothing is left unread
+-- the source gave this text and its end, no read failed, and nothing is left unread
 pub record AllRead (old new : SourceView) (text : List ℕ) : Type 0 where
   pub took : TookIn old new text
+  pub still : Still old.faults new.faults
   pub ended : new.ended ≡ true
   pub nothing_left : IsTrue new.left.known → new.left.value ≡ []
 
--- the source gave this many bytes, and its end was not looked for
+-- the source gave this many bytes, no read failed, and its end was not looked for
 pub record ReadTo (limit : ℕ) (old new : SourceView) : Type 0 where
   pub text : List ℕ
   pub took : TookIn old new text
   pub long : length text ≡ limit
+  pub still : Still old.faults new.faults
+  pub not_ended : new.ended ≡ false
 
 -- the source's count rose before its end or the limit came
 pub record BrokeOff (limit : ℕ) (old new : SourceView) : Type 0 where

@@ -56,7 +56,7 @@ over-not-run fault why is = elim (not-run fault why is) [ inl e ↦ inl (ap (λ 
 
 pub not-run-cause : (bounds : Bounds) (fault : StationFault) (why : Why5) (old new : KitView) → why ≡ station_failure fault → RunFault bounds old.station new.station fault → HasEndCause (Failed why) old new
 not-run-cause bounds station.Failed why old new is rose = subst (λ (w : Why5). HasEndCause (Failed w) old new) (sym is) (inl rose)
-not-run-cause bounds (station.TooMuch stream bytes) why old new is rose = subst (λ (w : Why5). HasEndCause (Failed w) old new) (sym is) (inr rose.0)
+not-run-cause bounds (station.TooMuch stream bytes) why old new is over = subst (λ (w : Why5). HasEndCause (Failed w) old new) (sym is) (inr over.rose)
 not-run-cause bounds station.Memory why old new is free = subst (λ (w : Why5). HasEndCause (Failed w) old new) (sym is) tt
 
 -- where it wanted memory, no count of the station rose
