@@ -1,13 +1,13 @@
 -- A reply that is received piece by piece.
-use Rattle.std.proofs.Common.{◌≡◌, ℕ, ◌+◌, ◌-◌, ◌<◌, ◌≤◌, List, [], ◌++◌, length, take, drop, refl, sym, ap, subst, ◌∙◌, arith}
+use Rattle.std.proofs.Common.{◌≡◌, ℕ, ◌+◌, ◌-◌, ◌≤◌, List, [], ◌++◌, length, take, drop, refl, sym, ap, subst, ◌∙◌, arith}
 use Rattle.std.specs.Prelude.{Some, None, Result, Ok, Err, IfOk, IfErr}
-use Rattle.std.proofs.lemmas.List.{append-nil, length-append, length-take, take-take, drop-take}
+use Rattle.std.proofs.lemmas.List.{length-append, length-take, take-take, drop-take}
 use Rattle.farm_types.specs.declared.ran.Outcome.{Outcome}
-use Rattle.wire_tokens.specs.Reply.{BeginsReply, IsShortReply, ReplyFaultStands}
+use Rattle.wire_tokens.specs.Reply.{BeginsReply, IsShortReply}
 use Rattle.wire_tokens.proofs.ReplyLaws.{short_len, empty_is_short}
 use Rattle.edge_traits.specs.declared.cause.Cause.TheVariants.{Dial, Send, Recv, Truncated, BadReply, Stopped}
-use Rattle.edge_traits.specs.Told.{Told, Grew}
-use Rattle.edge_traits.specs.Causes.{Rose, Still}
+use Rattle.edge_traits.specs.Told.{Grew}
+use Rattle.edge_traits.specs.Causes.{Still}
 use Rattle.edge_traits.specs.Links.{LinkView}
 use Rattle.edge_traits.proofs.ToldLemmas.{Grew-then, Grew-still, Grew-refl}
 use Rattle.reply_stream.specs.declared.answers.Span.{Span}

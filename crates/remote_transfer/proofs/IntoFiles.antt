@@ -1,9 +1,7 @@
 -- The object of a reply on its way into a file.
-use Rattle.std.proofs.Common.{◌≡◌, ℕ, ◌+◌, ◌≤◌, List, [], ◌++◌, refl, sym, ap, subst, ◌∙◌, arith, append-nil, rules}
+use Rattle.std.proofs.Common.{◌≡◌, ℕ, ◌+◌, ◌≤◌, List, [], ◌++◌, refl, sym, subst, ◌∙◌, arith, append-nil, rules}
 use Rattle.std.specs.Prelude.{◌≢◌, Result, Ok, Err, IfOk, IfErr, Option, Some, None, IsSome}
-use Rattle.edge_traits.specs.Told.{Told, Grew, Became}
-use Rattle.edge_traits.specs.Causes.{Rose}
-use Rattle.edge_traits.specs.Keepers.{PendingPut, KeeperView, IsIdle, IsPending, IsPutOf, HasPending}
+use Rattle.edge_traits.specs.Keepers.{PendingPut, KeeperView, IsPending, IsPutOf, HasPending}
 use Rattle.edge_traits.proofs.ToldLemmas.{Grew-then}
 use Rattle.edge_traits.proofs.Putting.{is-there}
 use Rattle.edge_traits.specs.Links.{LinkView}
@@ -16,10 +14,10 @@ use Rattle.remote_transfer.specs.declared.answers.Stop.TheVariants.{Broke, Memor
 use Rattle.remote_transfer.specs.Answers.{answer_of, landed_of}
 use Rattle.remote_transfer.specs.Attempts.{DialCause}
 use Rattle.remote_transfer.specs.declared.landing.Course.{Course}
-use Rattle.remote_transfer.specs.declared.landing.Course.TheVariants.{Waiting, Begun, Lost}
+use Rattle.remote_transfer.specs.declared.landing.Course.TheVariants.{Begun}
 use Rattle.remote_transfer.specs.Links.{Given, ReplyIs}
 use Rattle.remote_transfer.specs.Pieces.{PieceRead, PieceStops}
-use Rattle.remote_transfer.specs.Landings.{KeeperStays, LandsAt, CanLand, attempt_of, Lands, LandedCause, IsLanding, paired, received_of, LandsOr, ReceivedInto}
+use Rattle.remote_transfer.specs.Landings.{KeeperStays, LandsAt, attempt_of, Lands, LandedCause, IsLanding, paired, received_of, LandsOr, ReceivedInto}
 use Rattle.remote_transfer.proofs.ByPieces.{Receiving, receiving-more, receiving-whole, receiving-memory, receiving-stops}
 
 pub stays-same : (keeper : KeeperView) → KeeperStays keeper keeper
@@ -40,12 +38,6 @@ stays-then old mid new first second = record {
   faults = omega (arith, first.faults, second.faults);
 }
 
--- more bytes can land where some have
-pub can-land : (course : Course) (path object : List ℕ) (before : ℕ) (now : KeeperView) → LandsAt course path object before now → CanLand course now
-can-land Waiting path object before now at = at.0
-can-land Begun path object before now at = is-there now path object at
-can-land Lost path object before now at = at.0
-
 of_put : (put : Option PendingPut) → IsSome put → (path : List ℕ) × (bytes : List ℕ) × IsPutOf path bytes put
 of_put (Some put) some = (put.path, put.bytes.value, (refl, λ k. refl))
 of_put None some = absurd (search rules)
@@ -56,62 +48,23 @@ still-pending old new piece pending added =
     let z = of_put old.pending pending in
     is-there new z.0 (z.1 ++ piece) (added z.0 z.1 z.2)
 
--- no bytes change nothing
-pub lands-none : (course : Course) (path object bytes : List ℕ) (before : ℕ) (now : KeeperView) → bytes ≡ [] → LandsAt course path object before now → LandsAt course path (object ++ bytes) before now
-lands-none course path object bytes before now none at =
-    subst (λ (x : List ℕ). LandsAt course path x before now) (sym (ap (λ (x : List ℕ). object ++ x) none ∙ append-nil object)) at
-
--- a count that rose after another moment rose after an earlier one
-pub rose-since : (before mid now : ℕ) → before ≤ mid → Rose mid now → Rose before now
-rose-since before mid now later rose = omega (arith, later, rose)
-
-pub lands-since : (course : Course) (path object : List ℕ) (before mid : ℕ) (now : KeeperView) → before ≤ mid → LandsAt course path object mid now → LandsAt course path object before now
-lands-since Waiting path object before mid now later at = at
-lands-since Begun path object before mid now later at = at
-lands-since Lost path object before mid now later at = (at.0, rose-since before mid now.faults later at.1)
-
 -- The object's bytes so far have come as far as the course says.
 pub record ReceivingInto (old now : LinkView) (place : Place) (have : ℕ) (course : Course) (path : List ℕ) (before keeper : KeeperView) : Type 0 where
   pub object : List ℕ
   pub receiving : Receiving old now place have object
   pub lands : LandsAt course path object before.faults keeper
 
-pub lands-after : (result : Result Course Stop) (path bytes : List ℕ) (before mid : ℕ) (now : KeeperView) → before ≤ mid → IfOk result (λ next. LandsAt next path bytes mid now) → IfOk result (λ next. LandsAt next path bytes before now)
-lands-after (Ok course) path bytes before mid now later at = lands-since course path bytes before mid now later at
-lands-after (Err stop) path bytes before mid now later at = tt
-
--- the first bytes
-pub land-waiting : (course : Course) (path object bytes : List ℕ) (before : ℕ) (old new : KeeperView) (result : Result Course Stop) → course ≡ Waiting → before ≤ old.faults → IfOk result (λ next. LandsAt next path bytes old.faults new)
-    → LandsAt course path object before old → IfOk result (λ next. LandsAt next path (object ++ bytes) before new)
-land-waiting course path object bytes before old new result is later lands at =
-    let here : LandsAt Waiting path object before old = subst (λ (c : Course). LandsAt c path object before old) is at in
-    subst (λ (x : List ℕ). IfOk result (λ next. LandsAt next path (x ++ bytes) before new)) (sym here.1) (lands-after result path bytes before old.faults new later lands)
+-- a count that stands still may stand for the one before it
+pub lands-after : (result : Result Course Stop) (path bytes : List ℕ) (before mid : ℕ) (now : KeeperView) → mid ≡ before → IfOk result (λ next. LandsAt next path bytes mid now) → IfOk result (λ next. LandsAt next path bytes before now)
+lands-after result path bytes before mid now same at = subst (λ (m : ℕ). IfOk result (λ next. LandsAt next path bytes m now)) same at
 
 -- more bytes
-pub land-begun : (course : Course) (path object bytes : List ℕ) (before : ℕ) (old new : KeeperView) (result : Result Course Stop) → course ≡ Begun → before ≤ old.faults
+pub land-begun : (course : Course) (path object bytes : List ℕ) (before : ℕ) (old new : KeeperView) (result : Result Course Stop) → course ≡ Begun
     → ((path object : List ℕ) → HasPending old path object → IfOk result (λ next. LandsAt next path (object ++ bytes) old.faults new))
     → LandsAt course path object before old → IfOk result (λ next. LandsAt next path (object ++ bytes) before new)
-land-begun course path object bytes before old new result is later lands at =
+land-begun course path object bytes before old new result is lands at =
     let here : LandsAt Begun path object before old = subst (λ (c : Course). LandsAt c path object before old) is at in
-    lands-after result path (object ++ bytes) before old.faults new later (lands path object here)
-
--- bytes after a fault
-pub land-lost : (course : Course) (path object bytes : List ℕ) (before : ℕ) (keeper : KeeperView) → course ≡ Lost → LandsAt course path object before keeper → LandsAt Lost path (object ++ bytes) before keeper
-land-lost course path object bytes before keeper is at = subst (λ (c : Course). LandsAt c path object before keeper) is at
-
--- ---- the end of a whole reply
-
-pub settle-empty : (course : Course) (path object : List ℕ) (before : ℕ) (old new : KeeperView) → course ≡ Waiting → HasPending new path [] → LandsAt course path object before old → HasPending new path object
-settle-empty course path object before old new is begun at =
-    let here : LandsAt Waiting path object before old = subst (λ (c : Course). LandsAt c path object before old) is at in
-    subst (λ (x : List ℕ). HasPending new path x) (sym here.1) begun
-
-pub settle-same : (course other : Course) (path object : List ℕ) (before : ℕ) (keeper : KeeperView) → course ≡ other → LandsAt course path object before keeper → LandsAt other path object before keeper
-settle-same course other path object before keeper is at = subst (λ (c : Course). LandsAt c path object before keeper) is at
-
--- what the keeper can do by the course
-pub can-by : (course other : Course) (keeper : KeeperView) → course ≡ other → CanLand course keeper → CanLand other keeper
-can-by course other keeper is can = subst (λ (c : Course). CanLand c keeper) is can
+    lands-after result path (object ++ bytes) before old.faults new here.1 (lands path object here.0)
 
 -- ---- the answer of an attempt that lands its object
 

@@ -1,5 +1,5 @@
 -- Where the object of a reply lands.
-use Rattle.std.specs.Prelude.{◌≡◌, ◌≢◌, ℕ, ◌≤◌, false, List, [], Result, Ok, Err, IfOk}
+use Rattle.std.specs.Prelude.{◌≡◌, ◌≢◌, ℕ, ◌≤◌, false, List, [], Result, Ok, Err}
 use Rattle.farm_types.specs.declared.request.Request.{Request}
 use Rattle.farm_types.specs.declared.hosts.Host.{Host}
 use Rattle.farm_types.specs.declared.ran.Outcome.{Outcome}
@@ -32,9 +32,9 @@ pub record KeeperStays (old new : KeeperView) : Type 0 where
   pub overruns : Still old.overruns new.overruns
   pub faults : old.faults ≤ new.faults
 
--- where the object of a whole reply is, which has these bytes, after the keeper's count stood at before
+-- Where the object of a whole reply is, which has these bytes, after the keeper's count stood at before. It is in the pending put only where that count stands still.
 abbrev pub IsLanding : Landing → Outcome → List ℕ → List ℕ → ℕ → KeeperView → Type 0
-IsLanding Pending o path object before now = (o.status ≡ 0) × HasPending now path object
+IsLanding Pending o path object before now = (o.status ≡ 0) × HasPending now path object × Still before now.faults
 IsLanding LostObject o path object before now = (o.status ≡ 0) × IsIdle now × Rose before now.faults
 IsLanding Nothing o path object before now = (o.status ≢ 0) × IsIdle now × (object ≡ [])
 
@@ -70,8 +70,8 @@ IsUnasked other before now = Unit {0}
 
 -- how far the object has come with these bytes, after the keeper's count stood at before
 abbrev pub LandsAt : Course → List ℕ → List ℕ → ℕ → KeeperView → Type 0
-LandsAt Waiting path object before now = IsIdle now × (object ≡ [])
-LandsAt Begun path object before now = HasPending now path object
+LandsAt Waiting path object before now = IsIdle now × (object ≡ []) × Still before now.faults
+LandsAt Begun path object before now = HasPending now path object × Still before now.faults
 LandsAt Lost path object before now = IsIdle now × Rose before now.faults
 
 -- the keeper is ready for more bytes
@@ -82,7 +82,7 @@ CanLand Lost now = IsIdle now
 
 -- where an object of status 0 is
 abbrev pub LandedAt : Landing → List ℕ → List ℕ → ℕ → KeeperView → Type 0
-LandedAt Pending path object before now = HasPending now path object
+LandedAt Pending path object before now = HasPending now path object × Still before now.faults
 LandedAt LostObject path object before now = IsIdle now × Rose before now.faults
 LandedAt Nothing path object before now = ⊥
 

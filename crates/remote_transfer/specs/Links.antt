@@ -1,5 +1,5 @@
 -- What was sent and given over a link. The contracts of the parts of an attempt cite this.
-use Rattle.std.specs.Prelude.{◌≡◌, ◌≢◌, ℕ, ◌<◌, true, List, [], ◌++◌, length, Result, Ok, Err}
+use Rattle.std.specs.Prelude.{◌≡◌, ◌≢◌, ℕ, true, List, [], ◌++◌, length, Result, Ok, Err}
 use Rattle.farm_types.specs.declared.request.Request.{Request}
 use Rattle.farm_types.specs.declared.ran.Outcome.{Outcome}
 use Rattle.farm_types.specs.declared.hosts.Host.{Host}

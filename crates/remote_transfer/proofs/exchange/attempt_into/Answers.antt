@@ -1,5 +1,4 @@
 use Rattle.std.proofs.Common.{◌∙◌, sym, subst}
-use Rattle.remote_transfer.specs.Answers.{landed_of}
 use Rattle.remote_transfer.specs.Attempts.{AttemptAdds}
 use Rattle.remote_transfer.specs.Landings.{received_of, LandedAdds, LandedCause}
 use Rattle.remote_transfer.proofs.Attempting.{adds, no_failed_dial}

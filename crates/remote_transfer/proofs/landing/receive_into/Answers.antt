@@ -1,4 +1,3 @@
-use Rattle.remote_transfer.proofs.IntoFiles.{stays-then}
 use Rattle.remote_transfer.proofs.landing.receive_into.Goals as goal
 
 pub returns-in-Ok-clause-lands : goal.returns-in-Ok-clause-lands

@@ -1,11 +1,10 @@
-use Rattle.std.proofs.Common.{◌+◌, ◌++◌, arith, ◌∙◌, sym, subst}
+use Rattle.std.proofs.Common.{arith, ◌∙◌, sym, subst}
 use Rattle.std.specs.Prelude.{None}
 use Rattle.std.proofs.lemmas.Result.{err_from_is_err_and}
 use Rattle.edge_traits.proofs.ToldLemmas.{Grew-still}
 use Rattle.reply_stream.specs.Objects.{spanned}
-use Rattle.remote_transfer.specs.declared.answers.Stop.TheVariants.{Memory}
 use Rattle.remote_transfer.specs.declared.receiving.Brought.TheVariants.{More, Whole}
-use Rattle.remote_transfer.specs.Landings.{ReceivedInto, WantsMemory}
+use Rattle.remote_transfer.specs.Landings.{ReceivedInto}
 use Rattle.remote_transfer.specs.Pieces.{PieceBrought}
 use Rattle.remote_transfer.proofs.ByPieces.{receiving-small}
 use Rattle.remote_transfer.proofs.IntoFiles.{stays-then, into-stops, into-memory, into-more, into-last}

@@ -1,8 +1,6 @@
-use Rattle.std.proofs.Common.{◌≡◌, ◌<◌, ◌≤◌, ◌-◌, ℕ, List, [], length}
+use Rattle.std.proofs.Common.{◌≡◌, ◌<◌, ◌≤◌, ◌-◌, [], length}
 use Rattle.edge_traits.specs.Told.{Grew}
-use Rattle.reply_stream.specs.Reader.{Place}
-use Rattle.remote_transfer.specs.Landings.{KeeperStays, LandsAt}
-use Rattle.remote_transfer.proofs.ByPieces.{Receiving}
+use Rattle.remote_transfer.specs.Landings.{KeeperStays}
 use Rattle.remote_transfer.proofs.IntoFiles.{ReceivingInto}
 use Rattle.remote_transfer.proofs.landing.receive_landing.Given as goal
 

@@ -1,4 +1,4 @@
-use Rattle.std.proofs.Common.{take, rules, arith}
+use Rattle.std.proofs.Common.{take, arith}
 use Rattle.std.proofs.lemmas.Grind.{common_steps}
 use Rattle.std.proofs.lemmas.List.{length-take}
 use Rattle.remote_transfer.proofs.ByPieces.{span_in_room, comes-more, comes-whole}
