@@ -129,6 +129,7 @@ fn load_task<K: Keeper>(alloc: Global, task: &Task, keeper: &mut K) -> Result<Fi
     ensures tried { OnErr result (IsTrue (K.shows keeper.new).files.known
         → FetchedFront (unstaged (K.shows keeper.new).files.value) (firsts_after [] (task_names (unstaged (K.shows keeper.new).files.value) task.now)) (K.shows keeper.old).fetches (K.shows keeper.new).fetches) }
     ensures named { IfErr result (LongNamed (K.shows keeper.new) (task_names (unstaged (K.shows keeper.new).files.value) task.now)) }
+    ensures missed { OnOk result (OverrunsStand (K.shows keeper.old) (K.shows keeper.new) (task_names (unstaged (K.shows keeper.new).files.value) task.now)) }
     ensures hides { IfErr result (HidesNone (K.shows keeper.old) (K.shows keeper.new) (task_names (unstaged (K.shows keeper.new).files.value) task.now)) }
     ensures only { OnlyFetched (K.shows keeper.old) (K.shows keeper.new) }
     ensures calm { OnOk result (Still (K.shows keeper.old).faults (K.shows keeper.new).faults) }
@@ -161,6 +162,7 @@ pub fn load<K: Keeper>(alloc: Global, words: &Words, keeper: &mut K) -> Result<F
     ensures tried { OnErr result (IsTrue (K.shows keeper.new).files.known
         → FetchedFront (unstaged (K.shows keeper.new).files.value) (names_for (unstaged (K.shows keeper.new).files.value) words.now) (K.shows keeper.old).fetches (K.shows keeper.new).fetches) }
     ensures named { IfErr result (LongNamed (K.shows keeper.new) (asked_names (unstaged (K.shows keeper.new).files.value) (task_of words.now))) }
+    ensures missed { OnOk result (OverrunsStand (K.shows keeper.old) (K.shows keeper.new) (asked_names (unstaged (K.shows keeper.new).files.value) (task_of words.now))) }
     ensures hides { IfErr result (HidesNone (K.shows keeper.old) (K.shows keeper.new) (asked_names (unstaged (K.shows keeper.new).files.value) (task_of words.now))) }
     ensures only { OnlyFetched (K.shows keeper.old) (K.shows keeper.new) }
     ensures calm { OnOk result (Still (K.shows keeper.old).faults (K.shows keeper.new).faults) }
