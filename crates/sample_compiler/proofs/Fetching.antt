@@ -1,15 +1,15 @@
 -- What fetches, one after another, leave.
-use Rattle.std.proofs.Common.{◌≡◌, ℕ, ◌≤◌, List, [], ◌++◌, refl, ap, sym, ◌∙◌, subst, append_assoc, arith}
-use Rattle.std.specs.Prelude.{true, false, IsTrue}
+use Rattle.std.proofs.Common.{ℕ, ◌≤◌, List, [], ◌++◌, refl, ap, sym, ◌∙◌, subst, append_assoc, arith}
+use Rattle.std.specs.Prelude.{false, IsTrue}
 use Rattle.std.proofs.lemmas.List.{append-nil}
-use Rattle.edge_traits.specs.Told.{Told, Grew, Became}
+use Rattle.edge_traits.specs.Told.{Told, Grew}
 use Rattle.edge_traits.specs.Causes.{Rose, Still}
 use Rattle.edge_traits.specs.Keepers.{KeeperView, IsIdle}
 use Rattle.file_map.specs.FileMaps.{Files}
 use Rattle.sample_compiler.specs.declared.loading.LoadFault.{LoadFault}
 use Rattle.sample_compiler.specs.declared.loading.LoadFault.TheVariants.{Failed, TooMuch, Memory}
 use Rattle.sample_compiler.specs.Lookups.{Agrees}
-use Rattle.sample_compiler.specs.Loads.{unstaged, OnlyFetched, WasTooLong, LoadCause}
+use Rattle.sample_compiler.specs.Loads.{unstaged, OnlyFetched, LoadCause}
 
 pub only_none : (view : KeeperView) → IsIdle view → OnlyFetched view view
 only_none view idle = record {

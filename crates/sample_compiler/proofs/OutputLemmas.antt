@@ -7,7 +7,7 @@ use Rattle.edge_traits.proofs.StagedPaths.{staged_to}
 use Rattle.arg_scan.specs.declared.verdict.Action.{Action}
 use Rattle.arg_scan.specs.declared.verdict.Action.TheVariants.{Compile, Assemble}
 use Rattle.arg_scan.specs.declared.names.Ending.{Ending}
-use Rattle.arg_scan.specs.Names.{last_name, ending_of, ending_text, object_ending, derived_output, is_reserved}
+use Rattle.arg_scan.specs.Names.{last_name, ending_of, ending_text, derived_output, is_reserved}
 use Rattle.sample_compiler.specs.declared.meaning.Command.{Command}
 use Rattle.sample_compiler.specs.declared.meaning.Command.TheVariants.{Expand, Build}
 use Rattle.sample_compiler.specs.declared.task.Product.{Product}

@@ -1,5 +1,5 @@
 -- Words leave one run.
-use Rattle.std.proofs.Common.{◌≡◌, ℕ, List, Bool, true, false, ap, sym, ◌∙◌, refl, subst, inl, inr}
+use Rattle.std.proofs.Common.{◌≡◌, ℕ, List, true, false, ap, sym, ◌∙◌, refl, subst, inl, inr}
 use Rattle.std.specs.Prelude.{◌⊎◌, Option, Some, None, Result, Ok, Err, IfOk}
 use Rattle.farm_types.specs.declared.ran.Ran.{Ran}
 use Rattle.sample_lang.specs.declared.program.Item.{Item}
@@ -12,7 +12,7 @@ use Rattle.sample_compiler.specs.Lookups.{Agrees, Stopped}
 use Rattle.sample_compiler.specs.declared.task.Product.{Product}
 use Rattle.sample_compiler.specs.declared.task.Product.TheVariants.{Text, Object}
 use Rattle.sample_compiler.specs.declared.task.Task.{Task}
-use Rattle.sample_compiler.specs.Samples.{CompilesTo, MadeOf, LeftBy, LeavesAsked, SampleOf, task_text, printed, made, failed, message_of, bad_words}
+use Rattle.sample_compiler.specs.Samples.{CompilesTo, LeftBy, LeavesAsked, task_text, printed, made, failed, message_of, bad_words}
 
 -- each text is one source or has one fault
 pub record OneReading : Type 0 where

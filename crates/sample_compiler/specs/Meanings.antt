@@ -1,5 +1,5 @@
 -- What each word of the compiler is used as.
-use Rattle.std.specs.Prelude.{ℕ, ◌≡◌, List, [], ◌∷◌, length, drop, take, codes, nat_eq, nat_lt, not, ◌==◌, if◌then◌else◌, Option, Some, None}
+use Rattle.std.specs.Prelude.{ℕ, List, [], ◌∷◌, length, drop, take, codes, nat_eq, nat_lt, not, ◌==◌, if◌then◌else◌, Option, Some, None}
 use Rattle.std.specs.List.{prefix_len, starts_with}
 use Rattle.option_table.specs.declared.table.Found.{Found}
 use Rattle.option_table.specs.Rows.{found}
