@@ -4,8 +4,9 @@ use Rattle.std.specs.FinMap.{insert}
 use Rattle.farm_types.specs.declared.ran.Ran.{Ran}
 use Rattle.farm_types.specs.Exits.{exit_code_of}
 use Rattle.edge_traits.specs.declared.entries.Put.{Put}
+use Rattle.edge_traits.specs.declared.entries.Fetch.{Fetch}
 use Rattle.edge_traits.specs.Told.{Grew, Became}
-use Rattle.edge_traits.specs.Causes.{Rose, IsRemoval}
+use Rattle.edge_traits.specs.Causes.{Rose, Still, IsRemoval}
 use Rattle.file_map.specs.FileMaps.{Files}
 use Rattle.edge_traits.specs.Keepers.{KeeperView, IsIdle}
 use Rattle.stream_print.specs.declared.pieces.SinkKind.TheVariants.{Out}
@@ -17,7 +18,9 @@ use Rattle.sample_compiler.specs.declared.task.Product.TheVariants.{Text, Object
 use Rattle.sample_compiler.specs.declared.task.Task.{Task}
 use Rattle.sample_compiler.specs.Tasks.{task_of}
 use Rattle.sample_compiler.specs.Samples.{SampleOf}
-use Rattle.sample_compiler.specs.Loads.{unstaged, WasTooLong}
+use Rattle.sample_compiler.specs.Loads.{unstaged, entries_at, names_for, FetchedFront, HasAbsent, LongNamed, WasTooLong}
+use Rattle.sample_compiler.specs.Seeking.{asked_names}
+use Rattle.sample_compiler.specs.declared.loading.LoadFault.TheVariants.{TooMuch}
 use Rattle.sample_program.specs.declared.running.RunStop.{RunStop}
 use Rattle.sample_program.specs.declared.running.RunStop.TheVariants.{File, Memory}
 use Rattle.sample_program.specs.Helps.{told_text}
@@ -53,33 +56,74 @@ pub record PutBy (puts : List Put) (old new : KeeperView) : Type 0 where
   pub files : Became old.files new.files (files_with old.files.value puts)
   pub idle : IsIdle new
 
+-- no file was fetched, and no overrun rose
+pub record NoneFetched (old new : KeeperView) : Type 0 where
+  pub fetches : Grew old.fetches new.fetches []
+  pub overruns : Still old.overruns new.overruns
+
+-- when a put that came to nothing may be told so
+abbrev pub PutStop : KeeperView → KeeperView → RunStop → Type 0
+PutStop old new File = Rose old.faults new.faults
+PutStop old new Memory = IsRemoval old.faults new.faults
+
 -- ---- a run
 
 -- the words with the compiler's name in front
 abbrev pub named : List (List ℕ) → List (List ℕ)
 named words = codes "scc" ∷ words
 
+-- the names that the words look up over these files, in order, where one that ends in `.farm~` is no file
+abbrev pub looked_up : Files → List (List ℕ) → List (List ℕ)
+looked_up files words = asked_names (unstaged files) (task_of (named words))
+
+-- the same, each where it comes first
+abbrev pub firsts_looked_up : Files → List (List ℕ) → List (List ℕ)
+firsts_looked_up files words = names_for (unstaged files) (named words)
+
+-- the files of these names, fetched in order, each once
+abbrev pub fetches_of : Files → List (List ℕ) → List Fetch
+fetches_of files words = entries_at (unstaged files) (firsts_looked_up files words)
+
+-- Where the files are told, no overrun rose, unless a name that the words look up is no file.
+abbrev pub OverrunsStandBy : List (List ℕ) → KeeperView → KeeperView → Type 0
+OverrunsStandBy words old new = IsTrue new.files.known → Still old.overruns new.overruns ⊎ HasAbsent old.files.value (looked_up old.files.value words)
+
 -- The run is that of the compiler over some files: those of the keeper, where they are told, but for names that end in
--- `.farm~`. The object of one that ended well was put, and nothing else.
+-- `.farm~`. The object of one that ended well was put, and nothing else. Each file that the words look up was fetched once,
+-- and no other, and no fault rose.
 pub record DidRun (words : List (List ℕ)) (old new : KeeperView) (ran : Ran) : Type 0 where
   pub files : Files
   pub leaves : SampleOf files (named words) ran
   pub told : IsTrue new.files.known → SampleOf (unstaged old.files.value) (named words) ran
   pub put : PutBy (puts_of (task_of (named words)) ran) old new
+  pub fetched : IsTrue new.files.known → Grew old.fetches new.fetches (fetches_of old.files.value words)
+  pub calm : Still old.faults new.faults
+  pub overruns : OverrunsStandBy words old new
 
--- the keeper's faults rose, or a file was above the bound of what is fetched
-abbrev pub FileCause : KeeperView → KeeperView → Type 0
-FileCause old new = Rose old.faults new.faults ⊎ ((bytes : ℕ) × WasTooLong old new bytes)
+-- a file that the words look up was above the bound of what is fetched
+pub record HasLong (words : List (List ℕ)) (old new : KeeperView) : Type 0 where
+  pub bytes : ℕ
+  pub long : WasTooLong old new bytes
+  pub among : LongNamed new (looked_up new.files.value words) (TooMuch bytes)
 
--- Memory was wanting only where nothing failed but the removal of what was being written.
-abbrev pub StopCause : KeeperView → KeeperView → RunStop → Type 0
-StopCause old new File = FileCause old new
-StopCause old new Memory = IsRemoval old.faults new.faults
+-- the keeper's faults rose, or a file was too long
+abbrev pub FileCause : List (List ℕ) → KeeperView → KeeperView → Type 0
+FileCause words old new = Rose old.faults new.faults ⊎ HasLong words old new
 
--- nothing was put
-pub record StoppedRun (old new : KeeperView) (stop : RunStop) : Type 0 where
+-- Memory was wanting only where nothing failed but the removal of what was being written, and it hides no file that was too long.
+pub record WantCause (words : List (List ℕ)) (old new : KeeperView) : Type 0 where
+  pub removal : IsRemoval old.faults new.faults
+  pub overruns : OverrunsStandBy words old new
+
+abbrev pub StopCause : List (List ℕ) → KeeperView → KeeperView → RunStop → Type 0
+StopCause words old new File = FileCause words old new
+StopCause words old new Memory = WantCause words old new
+
+-- nothing was put, and of the files that the words look up some first ones were fetched, each once, and no others
+pub record StoppedRun (words : List (List ℕ)) (old new : KeeperView) (stop : RunStop) : Type 0 where
   pub put : PutBy [] old new
-  pub cause : StopCause old new stop
+  pub fetched : IsTrue new.files.known → FetchedFront (unstaged old.files.value) (firsts_looked_up old.files.value words) old.fetches new.fetches
+  pub cause : StopCause words old new stop
 
 -- ---- the program
 
@@ -94,8 +138,8 @@ printed_by ran = complaint ran.err ∷ output ran.out ∷ []
 -- The compiler ran, and what it left was printed; or the files failed; or memory was wanting before anything was put or printed.
 pub data Compiled (words : List (List ℕ)) (old new : KeeperView) (sinks sinks_now : SinksView) (answer : ℕ) : Type 0 where
   ran_so : (ran : Ran) → DidRun words old new ran → Ends no_memory_text (printed_by ran) (exit_code_of ran.status) sinks sinks_now answer → Compiled words old new sinks sinks_now answer
-  files_failed : StoppedRun old new File → Ends no_memory_text (complaint file_fault_text ∷ []) 107 sinks sinks_now answer → Compiled words old new sinks sinks_now answer
-  memory_wanted : StoppedRun old new Memory → WantOf no_memory_text [] sinks sinks_now answer → Compiled words old new sinks sinks_now answer
+  files_failed : StoppedRun words old new File → Ends no_memory_text (complaint file_fault_text ∷ []) 107 sinks sinks_now answer → Compiled words old new sinks sinks_now answer
+  memory_wanted : StoppedRun words old new Memory → WantOf no_memory_text [] sinks sinks_now answer → Compiled words old new sinks sinks_now answer
 
 -- the text was printed, or memory was wanting before
 abbrev pub Told : List ℕ → SinksView → SinksView → ℕ → Type 0

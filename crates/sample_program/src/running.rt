@@ -1,10 +1,11 @@
 //! One run of the compiler over a keeper's files.
 
-ghost use Rattle.std.specs.Prelude.{◌≡◌, ◌∷◌, [], codes, map, string_bytes, IfOk, IfErr, IfSome, OnOk};
+ghost use Rattle.std.specs.Prelude.{◌≡◌, ◌∷◌, [], codes, map, string_bytes, IfOk, IfErr, IfSome, OnOk, OnErr};
+ghost use Rattle.edge_traits.specs.Causes.{Still};
 ghost use Rattle.edge_traits.specs.Keepers.{IsIdle};
 ghost use Rattle.edge_traits.specs.FileMaps.{IsStaged};
 ghost use Rattle.sample_compiler.specs.Tasks.{HasPlainOutput};
-ghost use Rattle.sample_program.specs.Programs.{PutBy, puts_of, StoppedRun, DidRun};
+ghost use Rattle.sample_program.specs.Programs.{PutBy, PutStop, NoneFetched, puts_of, StoppedRun, DidRun};
 
 use edge_traits::{EdgeFault, Keeper};
 use farm_types::{Bytes, Ran, Words};
@@ -52,7 +53,10 @@ fn put_file<K: Keeper>(
     requires idle { IsIdle (K.shows keeper.old) }
     requires name { ¬ (IsStaged output.now) }
     ensures ok { OnOk result (PutBy (record { path = output.now; bytes = object.now } ∷ []) (K.shows keeper.old) (K.shows keeper.new)) }
-    ensures err { IfErr result (StoppedRun (K.shows keeper.old) (K.shows keeper.new)) }
+    ensures err { OnErr result (PutBy [] (K.shows keeper.old) (K.shows keeper.new)) }
+    ensures none { NoneFetched (K.shows keeper.old) (K.shows keeper.new) }
+    ensures calm { OnOk result (Still (K.shows keeper.old).faults (K.shows keeper.new).faults) }
+    ensures cause { IfErr result (PutStop (K.shows keeper.old) (K.shows keeper.new)) }
 {
     match keeper.put(alloc, output, object.as_slice()) {
         Ok(()) => Ok(()),
@@ -71,7 +75,10 @@ fn put_object<K: Keeper>(
     requires idle { IsIdle (K.shows keeper.old) }
     requires output { IfSome asked.now (λ task. HasPlainOutput task.product) }
     ensures ok { OnOk result (PutBy (puts_of asked.now ran.now) (K.shows keeper.old) (K.shows keeper.new)) }
-    ensures err { IfErr result (StoppedRun (K.shows keeper.old) (K.shows keeper.new)) }
+    ensures err { OnErr result (PutBy [] (K.shows keeper.old) (K.shows keeper.new)) }
+    ensures none { NoneFetched (K.shows keeper.old) (K.shows keeper.new) }
+    ensures calm { OnOk result (Still (K.shows keeper.old).faults (K.shows keeper.new).faults) }
+    ensures cause { IfErr result (PutStop (K.shows keeper.old) (K.shows keeper.new)) }
 {
     if ran.status != 0 {
         return Ok(());
@@ -89,7 +96,7 @@ fn put_object<K: Keeper>(
 pub fn run<K: Keeper>(alloc: Global, words: &[String], keeper: &mut K) -> Result<Ran, RunStop>
     requires idle { IsIdle (K.shows keeper.old) }
     ensures ran { IfOk result (DidRun (map string_bytes words.now) (K.shows keeper.old) (K.shows keeper.new)) }
-    ensures stop { IfErr result (StoppedRun (K.shows keeper.old) (K.shows keeper.new)) }
+    ensures stop { IfErr result (StoppedRun (map string_bytes words.now) (K.shows keeper.old) (K.shows keeper.new)) }
 {
     let words = with_name(alloc, words)?;
     let files = match load(alloc, &words, keeper) {
