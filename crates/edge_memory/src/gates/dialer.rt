@@ -1,7 +1,7 @@
 ghost use Rattle.std.specs.Prelude.{◌≤◌, length};
 ghost use Rattle.edge_memory.specs.GateReply.{gate_reply};
 
-use super::count::SharedCount;
+use super::gate::{Gate, HELD_TURNS};
 use crate::moving::put_front;
 use edge_traits::{Dialer, EdgeFault, Link, raised};
 use farm_types::HostName;
@@ -16,35 +16,24 @@ const REPLY: &[u8] = b"DONE00000001STAT00000000SERR00000000SOUT00000000DOTO00000
 pub struct GateLink<'a, R> {
     host: HostName,
     port: u16,
-    asked: SharedCount<'a, R>,
-    /// Which of the gate's links it was, from 1, by their first receives. None before its first one.
-    place: Option<u32>,
+    gate: Gate<'a, R>,
     at: usize,
     ended: bool,
     faults: u64,
     ghost within: { at ≤ length gate_reply },
 }
 
-/// Whether a link's reply may be given, by its place among the gate's links. That of the first one may once a second one
-/// has asked for its own.
-fn is_let_through<R: Wait>(asked: &SharedCount<'_, R>, place: &mut Option<u32>) -> bool {
-    let number = match *place {
-        Some(number) => number,
-        None => asked.add_one(),
-    };
-    *place = Some(number);
-    number != 1 || asked.wait_for(2)
-}
-
 #[tactic(auto, using(edge_traits::proofs::Counting::causes))]
 impl<'a, R: Wait> Link for GateLink<'a, R> {
-    ghost use Rattle.std.specs.Prelude.{◌≡◌, ◌<◌, ◌||◌, ⊤, false, [], length, refl, IfOk, OnErr, IsErrOf};
+    ghost use Rattle.std.specs.Prelude.{◌≡◌, ◌≢◌, ◌+◌, ◌<◌, ◌||◌, ⊤, false, [], length, refl, IfOk, IfErr, OnErr, IsErrOf};
     ghost use Rattle.std.proofs.Common.{◌∙◌, sym};
     ghost use Rattle.edge_traits.specs.declared.faults.EdgeFault.TheVariants.{Memory};
     ghost use Rattle.edge_traits.specs.Told.{Grew};
     ghost use Rattle.edge_traits.specs.Causes.{HasCause};
     ghost use Rattle.edge_traits.specs.Links.{moved, moved_none};
-    ghost use Rattle.edge_memory.specs.Gates.{gate_link_view, next_given};
+    ghost use Rattle.edge_memory.specs.declared.gates.asked.Asked.TheVariants.{Several};
+    ghost use Rattle.edge_memory.specs.declared.gates.asked.Place.TheVariants.{NotYet, First};
+    ghost use Rattle.edge_memory.specs.Gates.{gate_link_view, next_given, gate_of, user_of, place_of, seen_of, looks_of};
 
     ghost shows = { gate_link_view };
 
@@ -69,6 +58,8 @@ impl<'a, R: Wait> Link for GateLink<'a, R> {
         ensures given { Grew (gate_link_view self.old).given (gate_link_view self.new).given [] }
         ensures stopped { moved_none result ≡ false }
         ensures same { gate_link_view self.new ≡ gate_link_view self.old }
+        ensures gate { gate_of self.new ≡ gate_of self.old }
+        ensures unasked { user_of self.new ≡ user_of self.old }
         ensures never { OnErr result ⊥ }
         ensures cause { HasCause (gate_link_view self.old).faults (gate_link_view self.new).faults result }
     {
@@ -85,8 +76,15 @@ impl<'a, R: Wait> Link for GateLink<'a, R> {
         ensures ended { (gate_link_view self.new).ended ≡ ((gate_link_view self.old).ended || moved_none result) }
         ensures never { ¬ (IsErrOf result Memory) }
         ensures cause { HasCause (gate_link_view self.old).faults (gate_link_view self.new).faults result }
+        ensures gate { gate_of self.new ≡ gate_of self.old }
+        ensures asked { place_of self.new ≢ NotYet }
+        ensures once { place_of self.old ≢ NotYet → place_of self.new ≡ place_of self.old }
+        ensures held { IfOk result (λ n. place_of self.new ≡ First → seen_of self.new ≡ Several) }
+        ensures failed { IfErr result (λ fault. place_of self.new ≡ First) }
+        ensures unseen { IfErr result (λ fault. seen_of self.new ≢ Several) }
+        ensures looks { IfErr result (λ fault. looks_of self.new ≡ looks_of self.old + HELD_TURNS + 1) }
     {
-        if !is_let_through(&self.asked, &mut self.place) {
+        if !self.gate.is_let_through() {
             self.faults = raised(self.faults);
             return Err(EdgeFault::Failed);
         }
@@ -109,17 +107,22 @@ impl<'a, R: Wait> Link for GateLink<'a, R> {
 /// most, and then fails. No dial fails.
 #[derive(Drop)]
 pub struct GateDialer<'a, R> {
-    asked: SharedCount<'a, R>,
+    gate: Gate<'a, R>,
 }
 
 impl<'a, R: Wait> GateDialer<'a, R> {
+    ghost use Rattle.std.specs.Prelude.{◌≡◌, IfOk};
+    ghost use Rattle.edge_memory.specs.Gates.{dialer_gate};
+
     /// Two dialers with one gate. It alone takes memory beside `dial`.
     pub fn pair(
         rt: &'a R,
         alloc: Global,
-    ) -> Result<(GateDialer<'a, R>, GateDialer<'a, R>), AllocError> {
-        let (first, second) = SharedCount::pair(rt, alloc)?;
-        Ok((GateDialer { asked: first }, GateDialer { asked: second }))
+    ) -> Result<(GateDialer<'a, R>, GateDialer<'a, R>), AllocError>
+        ensures { IfOk result (λ made. dialer_gate made.0 ≡ dialer_gate made.1) }
+    {
+        let (first, second) = Gate::pair(rt, alloc)?;
+        Ok((GateDialer { gate: first }, GateDialer { gate: second }))
     }
 }
 
@@ -127,8 +130,13 @@ impl<'a, R: Wait> GateDialer<'a, R> {
 impl<'a, R: Wait> Dialer for GateDialer<'a, R> {
     type Link = GateLink<'a, R>;
 
-    ghost use Rattle.std.specs.Prelude.{⊤};
-    ghost use Rattle.edge_memory.specs.Gates.{gate_dialer_view};
+    ghost use Rattle.std.specs.Prelude.{◌≡◌, ⊤, [], ◌∷◌, IfOk, OnErr};
+    ghost use Rattle.edge_traits.specs.Told.{Grew};
+    ghost use Rattle.edge_traits.specs.Causes.{HasCause};
+    ghost use Rattle.edge_traits.specs.Links.{IsFresh};
+    ghost use Rattle.edge_traits.specs.Dialers.{dial_entries};
+    ghost use Rattle.edge_memory.specs.GateRule.{newcomer};
+    ghost use Rattle.edge_memory.specs.Gates.{gate_dialer_view, gate_link_view, dialer_gate, gate_of, user_of};
 
     ghost shows = { λ d. gate_dialer_view };
 
@@ -143,19 +151,27 @@ impl<'a, R: Wait> Dialer for GateDialer<'a, R> {
         _alloc: Global,
         host: &HostName,
         port: u16,
-    ) -> Result<GateLink<'a, R>, EdgeFault> {
+    ) -> Result<GateLink<'a, R>, EdgeFault>
+        ensures fresh { IfOk result (λ link. IsFresh host.now port (gate_link_view link)) }
+        ensures entries { Grew gate_dialer_view.exchanges gate_dialer_view.exchanges (dial_entries host.now port result) }
+        ensures cause { HasCause gate_dialer_view.faults gate_dialer_view.faults result }
+        ensures same { dialer_gate self.new ≡ dialer_gate self.old }
+        ensures gate { IfOk result (λ link. gate_of link ≡ dialer_gate self.old) }
+        ensures unasked { IfOk result (λ link. user_of link ≡ newcomer) }
+    {
         Ok(GateLink {
             host: host.copy()?,
             port,
-            asked: self.asked.share()?,
-            place: None,
+            gate: self.gate.share()?,
             at: 0,
             ended: false,
             faults: 0,
         })
     }
 
-    fn hang_up(&mut self, link: GateLink<'a, R>) {
+    fn hang_up(&mut self, link: GateLink<'a, R>)
+        ensures { dialer_gate self.new ≡ dialer_gate self.old }
+    {
         drop(link);
     }
 }
