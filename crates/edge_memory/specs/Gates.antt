@@ -1,5 +1,5 @@
 -- What devices that two threads use side by side show.
-use Rattle.std.specs.Prelude.{◌≡◌, ℕ, ◌-◌, false, List, [], length, take, min}
+use Rattle.std.specs.Prelude.{◌≡◌, ℕ, ◌-◌, false, List, [], length, take, min, ⊤}
 use Rattle.farm_types.specs.declared.placed.Word.{Word}
 use Rattle.farm_types.specs.declared.ran.Ran.{Ran}
 use Rattle.farm_types.specs.Rans.{nothing_ran}
@@ -69,6 +69,10 @@ gate_link_view link = record {
 -- what its dialer tells, which never fails
 abbrev pub gate_dialer_view : DialerView
 gate_dialer_view = record { exchanges = untold []; faults = 0 }
+
+-- its peers may give anything
+abbrev pub any_exchange : List ℕ → List ℕ → Type 0
+any_exchange sent given = ⊤
 
 -- what a station tells
 abbrev pub gate_station_view : {R : Type 0} → GateStation R → StationView

@@ -33,13 +33,13 @@ impl<'a, R: Wait> Link for GateLink<'a, R> {
     ghost use Rattle.edge_traits.specs.Links.{moved, moved_none};
     ghost use Rattle.edge_memory.specs.declared.gates.asked.Asked.TheVariants.{Several};
     ghost use Rattle.edge_memory.specs.declared.gates.asked.Place.TheVariants.{NotYet, First};
-    ghost use Rattle.edge_memory.specs.Gates.{gate_link_view, next_given, gate_of, user_of, place_of, seen_of, looks_of};
+    ghost use Rattle.edge_memory.specs.Gates.{gate_link_view, next_given, any_exchange, gate_of, user_of, place_of, seen_of, looks_of};
 
     ghost shows = { gate_link_view };
 
     ghost follows = { λ a b. (gate_link_view a).origin ≡ (gate_link_view b).origin };
 
-    ghost may_give = { λ l sent given. ⊤ };
+    ghost may_give = { λ l. any_exchange };
 
     ghost follows_itself = { λ l. refl };
 
@@ -131,18 +131,18 @@ impl<'a, R: Wait> Dialer for GateDialer<'a, R> {
     type Link = GateLink<'a, R>;
 
     ghost use Rattle.std.specs.Prelude.{◌≡◌, ⊤, [], ◌∷◌, IfOk, OnErr};
-    ghost use Rattle.edge_traits.specs.Told.{Grew};
+    ghost use Rattle.edge_traits.specs.Told.{Grew, SameRelation};
     ghost use Rattle.edge_traits.specs.Causes.{HasCause};
     ghost use Rattle.edge_traits.specs.Links.{IsFresh};
-    ghost use Rattle.edge_traits.specs.Dialers.{dial_entries};
+    ghost use Rattle.edge_traits.specs.Dialers.{dial_entries, hung, IsToldOf};
     ghost use Rattle.edge_memory.specs.GateRule.{newcomer};
-    ghost use Rattle.edge_memory.specs.Gates.{gate_dialer_view, gate_link_view, dialer_gate, gate_of, user_of};
+    ghost use Rattle.edge_memory.specs.Gates.{gate_dialer_view, gate_link_view, any_exchange, dialer_gate, gate_of, user_of};
 
     ghost shows = { λ d. gate_dialer_view };
 
     ghost came = { λ d link. ⊤ };
 
-    ghost may_give = { λ d sent given. ⊤ };
+    ghost may_give = { λ d. any_exchange };
 
     ghost came_stays = { λ d a b came f. came };
 
@@ -153,7 +153,10 @@ impl<'a, R: Wait> Dialer for GateDialer<'a, R> {
         port: u16,
     ) -> Result<GateLink<'a, R>, EdgeFault>
         ensures fresh { IfOk result (λ link. IsFresh host.now port (gate_link_view link)) }
+        ensures came { IfOk result (λ link. ⊤) }
         ensures entries { Grew gate_dialer_view.exchanges gate_dialer_view.exchanges (dial_entries host.now port result) }
+        ensures lent { IfOk result (λ link. SameRelation any_exchange any_exchange) }
+        ensures stays { OnErr result (SameRelation any_exchange any_exchange) }
         ensures cause { HasCause gate_dialer_view.faults gate_dialer_view.faults result }
         ensures same { dialer_gate self.new ≡ dialer_gate self.old }
         ensures gate { IfOk result (λ link. gate_of link ≡ dialer_gate self.old) }
@@ -170,7 +173,10 @@ impl<'a, R: Wait> Dialer for GateDialer<'a, R> {
     }
 
     fn hang_up(&mut self, link: GateLink<'a, R>)
-        ensures { dialer_gate self.new ≡ dialer_gate self.old }
+        ensures entry { Grew gate_dialer_view.exchanges gate_dialer_view.exchanges (hung (gate_link_view link.entry) ∷ []) }
+        ensures told { IsToldOf any_exchange gate_dialer_view.exchanges (gate_link_view link.entry) }
+        ensures given_back { SameRelation any_exchange any_exchange }
+        ensures same { dialer_gate self.new ≡ dialer_gate self.old }
     {
         drop(link);
     }

@@ -2,9 +2,8 @@ use Rattle.std.proofs.Common.{rules, refl, ◌∙◌}
 use denote.Enum.Bare.{sameb}
 use Rattle.crossbeam_utils.specs.Seq.{cell_view}
 use Rattle.edge_memory.specs.contracts.gates.asked.Asked.{the_type}
-use Rattle.edge_memory.specs.declared.gates.asked.Asked.{Asked}
 use Rattle.edge_memory.specs.declared.gates.asked.Asked.TheVariants.{Nobody}
-use Rattle.edge_memory.proofs.GateSteps.{asks-first-turn, asks-later-turn, was-first, SawSomebody, saw-somebody}
+use Rattle.edge_memory.proofs.GateSteps.{asks-first-turn, asks-later-turn, SawSomebody, saw-somebody}
 use Rattle.edge_memory.proofs.gates.gate.ask_now.Goals as goal
 
 pub compare_exchange_as-requires : goal.compare_exchange_as-requires
