@@ -1,4 +1,4 @@
-ghost use Rattle.std.specs.Prelude.{◌≡◌, ◌≢◌, ℕ, ◌≤◌, length, IfOk, IfErr, OnOk, OnErr, MatchResult, None, Err, string_bytes};
+ghost use Rattle.std.specs.Prelude.{◌≡◌, ◌≢◌, ℕ, ◌≤◌, length, IsOk, IfOk, IfErr, OnOk, OnErr, MatchResult, None, Err, string_bytes};
 ghost use Rattle.std.specs.IoError.{error_kind};
 ghost use Rattle.std.specs.Str.{IsUtf8};
 ghost use Rattle.edge_real.specs.Counts.{call_faults, append_faults, load_faults, load_overruns};
@@ -185,13 +185,14 @@ fn rename_file<R: rt::Files>(
     Ok(())
 }
 
-/// Takes the file that is being written away. It is being written no more, whatever the answer is.
+/// Takes the file that is being written away, and does nothing where there is none. It is being written no more, whatever the answer is.
 fn remove_file<R: rt::Files>(
     rt: &R,
     staged: &mut Option<StagedFile>,
     name: &Bytes,
 ) -> io::Result<()>
-    ensures { staged.new ≡ None }
+    ensures ended { staged.new ≡ None }
+    ensures idle { staged.old ≡ None → IsOk result }
 {
     match staged.take() {
         Some(file) => {
@@ -200,7 +201,7 @@ fn remove_file<R: rt::Files>(
             }
             fs::remove_file(rt, file.path())
         }
-        None => Err(io::Error::from(ErrorKind::NotFound)),
+        None => Ok(()),
     }
 }
 

@@ -109,12 +109,10 @@ pub fn stage<R: rt::Files<File = File>>(
         Ok(Standing::Device) => None,
         Ok(Standing::Other) | Err(_) => return Err(EdgeFault::Failed),
     };
+    // All other memory is had before the file is made, so that none is left behind for want of it.
+    let name = name.copy()?;
     let (path, file) = new_file(rt, names, alloc, beside)?;
-    Ok(StagedFile {
-        name: name.copy()?,
-        path,
-        file,
-    })
+    Ok(StagedFile { name, path, file })
 }
 
 /// A new file beside this path, or else in the folder of the names. A name that is there already is passed over.

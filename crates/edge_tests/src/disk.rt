@@ -170,12 +170,12 @@ const WRITTEN: &[(Step, bool)] = &[
     (Step::Append(b"./x.o", b"c", 1), false),
 ];
 
-/// It gets its name, and the next is taken away.
+/// It gets its name, and the next is taken away. Where none is being written, there is nothing to take away.
 const NAMED: &[(Step, bool)] = &[
     (Step::Rename(b"./x.o.farm~", b"./x.o"), true),
     (Step::Create(b"./x.o.farm~"), true),
     (Step::Remove(b"./x.o.farm~"), true),
-    (Step::Remove(b"./x.o.farm~"), false),
+    (Step::Remove(b"./x.o.farm~"), true),
 ];
 
 #[test]
