@@ -125,6 +125,18 @@ const CASES: &[Case] = &[
         },
     ),
     (
+        "a large object",
+        b"DONE00000001STAT00000000SERR00000000SOUT00000000DOTO7fffffff",
+        b"",
+        Shown::Bad {
+            at: 59,
+            fault: ReplyFault::TooLarge {
+                which: Which::Doto,
+                len: 2_147_483_647,
+            },
+        },
+    ),
+    (
         "a large object beside a failure",
         b"DONE00000001STAT00000100SERR00000000SOUT00000000DOTO7fffffff",
         b"",
