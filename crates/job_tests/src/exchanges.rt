@@ -455,13 +455,15 @@ fn objects_go_into_files(rt: HostRuntime) -> Result<(), Fail> {
 
 const LOST: LandedRow = (REPLY, (Landing::Lost, 0, 0), b"old");
 
-// In pieces of 5 bytes: one begin, and an add for each of the three pieces of the object.
+const LOST_EMPTY: LandedRow = (EMPTY, (Landing::Lost, 0, 0), b"old");
+
+// In pieces of 5 bytes: one begin, and an add for each of the three pieces of the object. An empty object has its begin alone.
 #[test]
 fn a_fault_of_the_keeper_loses_the_object(rt: HostRuntime) -> Result<(), Fail> {
     for call in 1..5 {
         expect_landed(&rt, rt.alloc(), &LOST, 5, &[call])?;
     }
-    Ok(())
+    expect_landed(&rt, rt.alloc(), &LOST_EMPTY, 5, &[1])
 }
 
 fn expect_old_file<R: Abort>(rt: &R, alloc: Global, gives: &[u8], most: u32) -> Result<(), Fail> {
