@@ -19,23 +19,30 @@ const FILES: Listed = &[
     (b"x.c", b"#define N 3\nint a = N;\n"),
 ];
 
-// One call: its words, which calls of the keeper fail and which writes of the output take nothing; and what it answers,
-// prints and puts.
+// One call: its words, which calls of the keeper fail, and of each sink which writes fail and which take nothing; and what
+// it answers, prints and puts.
 #[derive(Clone, Copy)]
 struct Row {
     words: &'static [&'static str],
     fails: &'static [u64],
-    zeros: &'static [u64],
+    out_moves: Writes,
+    err_moves: Writes,
     status: u8,
     out: &'static [u8],
     err: &'static [u8],
     object: Option<&'static [u8]>,
 }
 
+// Which writes of a sink fail, and which take nothing.
+type Writes = (&'static [u64], &'static [u64]);
+
+const GOOD: Writes = (&[], &[]);
+
 const PLAIN: Row = Row {
     words: &["-c", "a.c", "-o", "a.o"],
     fails: &[],
-    zeros: &[],
+    out_moves: GOOD,
+    err_moves: GOOD,
     status: 0,
     out: b"",
     err: b"",
@@ -55,6 +62,18 @@ const ROWS: &[Row] = &[
     },
     Row {
         fails: &[2],
+        status: 107,
+        err: b"scc: file fault\n",
+        ..PLAIN
+    },
+    Row {
+        fails: &[3],
+        status: 107,
+        err: b"scc: file fault\n",
+        ..PLAIN
+    },
+    Row {
+        fails: &[4],
         status: 107,
         err: b"scc: file fault\n",
         ..PLAIN
@@ -84,7 +103,38 @@ const ROWS: &[Row] = &[
     },
     Row {
         words: &["-E", "x.c"],
-        zeros: &[1],
+        out_moves: (&[], &[1]),
+        status: 100,
+        ..PLAIN
+    },
+    Row {
+        words: &["-E", "x.c"],
+        out_moves: (&[1], &[]),
+        status: 100,
+        ..PLAIN
+    },
+    Row {
+        words: &["-c", "b.c"],
+        err_moves: (&[], &[1]),
+        status: 100,
+        ..PLAIN
+    },
+    Row {
+        words: &["-c", "b.c"],
+        err_moves: (&[1], &[]),
+        status: 100,
+        ..PLAIN
+    },
+    // The keeper fails, and that can't be told.
+    Row {
+        fails: &[1],
+        err_moves: (&[1], &[]),
+        status: 100,
+        ..PLAIN
+    },
+    Row {
+        words: &["--version"],
+        out_moves: (&[1], &[]),
         status: 100,
         ..PLAIN
     },
@@ -95,11 +145,12 @@ const ROWS: &[Row] = &[
     },
 ];
 
-fn sink_of(alloc: Global, zeros: &[u64]) -> Result<MemSink, AllocError>
+fn sink_of(alloc: Global, writes: Writes) -> Result<MemSink, AllocError>
     ensures { IfOk result (λ sink. (sink_shows (sink_state sink)).stopped ≡ false) }
 {
+    let (fails, zeros) = writes;
     let moves = Moves {
-        fails: numbers(alloc, &[])?,
+        fails: numbers(alloc, fails)?,
         zeros: numbers(alloc, zeros)?,
         most: 1_000,
     };
@@ -126,8 +177,8 @@ struct Done {
 fn do_row(alloc: Global, row: &Row) -> Result<Done, AllocError> {
     let words = strings(alloc, row.words)?;
     let mut keeper = keeper_of(alloc, FILES, row.fails)?;
-    let mut out = sink_of(alloc, row.zeros)?;
-    let mut err = sink_of(alloc, &[])?;
+    let mut out = sink_of(alloc, row.out_moves)?;
+    let mut err = sink_of(alloc, row.err_moves)?;
     let status = scc(alloc, words.as_slice(), &mut keeper, &mut out, &mut err);
     let puts = keeper.into_puts().into_items(alloc)?;
     Ok(Done {
@@ -145,6 +196,10 @@ fn compare(rt: &impl Abort, done: &Done, row: &Row) {
     assert_eq!(rt;
         done.puts.get(0).map(|put| put.bytes.as_slice()),
         row.object
+    );
+    assert_eq!(rt;
+        done.puts.get(0).map(|put| put.path.as_slice()),
+        row.object.map(|_| b"a.o".as_slice())
     );
     assert!(rt; done.puts.len() < 2);
 }
