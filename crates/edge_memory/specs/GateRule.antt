@@ -30,6 +30,10 @@ is_first v = is_first_place v.place
 abbrev pub is_later : GateView → Bool
 is_later v = is_later_place v.place
 
+-- how often a user looks that is held and gives up: once, and then behind each of 1,000,000 turns
+abbrev pub held_looks : ℕ
+held_looks = 1000001
+
 -- a user that hasn't asked or looked
 abbrev pub newcomer : GateView
 newcomer = record { place = NotYet; seen = Nobody; looks = 0 }

@@ -1,7 +1,7 @@
 ghost use Rattle.std.specs.Prelude.{◌≤◌, length};
 ghost use Rattle.edge_memory.specs.GateReply.{gate_reply};
 
-use super::gate::{Gate, HELD_TURNS};
+use super::gate::Gate;
 use crate::moving::put_front;
 use edge_traits::{Dialer, EdgeFault, Link, raised};
 use farm_types::HostName;
@@ -33,6 +33,7 @@ impl<'a, R: Wait> Link for GateLink<'a, R> {
     ghost use Rattle.edge_traits.specs.Links.{moved, moved_none};
     ghost use Rattle.edge_memory.specs.declared.gates.asked.Asked.TheVariants.{Several};
     ghost use Rattle.edge_memory.specs.declared.gates.asked.Place.TheVariants.{NotYet, First};
+    ghost use Rattle.edge_memory.specs.GateRule.{held_looks};
     ghost use Rattle.edge_memory.specs.Gates.{gate_link_view, next_given, any_exchange, gate_of, user_of, place_of, seen_of, looks_of};
 
     ghost shows = { gate_link_view };
@@ -82,7 +83,7 @@ impl<'a, R: Wait> Link for GateLink<'a, R> {
         ensures held { IfOk result (λ n. place_of self.new ≡ First → seen_of self.new ≡ Several) }
         ensures failed { IfErr result (λ fault. place_of self.new ≡ First) }
         ensures unseen { IfErr result (λ fault. seen_of self.new ≢ Several) }
-        ensures looks { IfErr result (λ fault. looks_of self.new ≡ looks_of self.old + HELD_TURNS + 1) }
+        ensures looks { IfErr result (λ fault. looks_of self.new ≡ looks_of self.old + held_looks) }
     {
         if !self.gate.is_let_through() {
             self.faults = raised(self.faults);

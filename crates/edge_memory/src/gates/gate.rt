@@ -3,7 +3,7 @@ ghost use Rattle.std.specs.Prelude.{◌≡◌, ◌≢◌, ◌+◌, ◌≤◌, �
 ghost use Rattle.std.specs.Arc.{arc_value};
 ghost use Rattle.crossbeam_utils.specs.Seq.{cell_view, IsSamePass};
 ghost use Rattle.edge_memory.specs.declared.gates.asked.Place.TheVariants.{NotYet};
-ghost use Rattle.edge_memory.specs.GateRule.{number_of};
+ghost use Rattle.edge_memory.specs.GateRule.{number_of, held_looks};
 
 use super::asked::{AskInTurn, Asked, AsksFirst, AsksLater, GateView, Looks, Place};
 use crossbeam_utils::atomic::seq_cell::{Pass, RuledSeqCell};
@@ -12,7 +12,7 @@ use std::sync::{Arc, Wait};
 use std::thread;
 
 /// How often a call that is held lets other threads run before it fails.
-pub(crate) const HELD_TURNS: u32 = 1_000_000;
+const HELD_TURNS: u32 = 1_000_000;
 
 /// How many have asked, shared, under the rule of a gate.
 pub(crate) type SharedAsked = RuledSeqCell<Asked, GateView, AskInTurn, 1>;
@@ -33,7 +33,7 @@ impl<'a, R: Wait> Gate<'a, R> {
     ghost use Rattle.std.specs.Prelude.{◌≡◌, ◌≢◌, ◌+◌, ◌≤◌, ◌↔◌, false, IsTrue, IfOk};
     ghost use Rattle.edge_memory.specs.declared.gates.asked.Asked.TheVariants.{Several};
     ghost use Rattle.edge_memory.specs.declared.gates.asked.Place.TheVariants.{NotYet, First};
-    ghost use Rattle.edge_memory.specs.GateRule.{number_of, newcomer};
+    ghost use Rattle.edge_memory.specs.GateRule.{number_of, newcomer, held_looks};
     ghost use Rattle.edge_memory.specs.GateUsers.{view_of, name_of};
 
     /// A gate at which nobody has asked, and its two users.
@@ -96,7 +96,7 @@ impl<'a, R: Wait> Gate<'a, R> {
         ensures held { IsTrue result → (view_of self.new).place ≡ First → (view_of self.new).seen ≡ Several }
         ensures failed { result ≡ false → (view_of self.new).place ≡ First }
         ensures unseen { result ≡ false → (view_of self.new).seen ≢ Several }
-        ensures looks { result ≡ false → (view_of self.new).looks ≡ (view_of self.old).looks + HELD_TURNS + 1 }
+        ensures looks { result ≡ false → (view_of self.new).looks ≡ (view_of self.old).looks + held_looks }
     {
         self.ask();
         if !self.is_first() {
@@ -110,7 +110,7 @@ impl<'a, R: Wait> Gate<'a, R> {
         ensures one { name_of self.new ≡ name_of self.old }
         ensures place { (view_of self.new).place ≡ (view_of self.old).place }
         ensures seen { IsTrue result ↔ number_of least ≤ number_of (view_of self.new).seen }
-        ensures looks { result ≡ false → (view_of self.new).looks ≡ (view_of self.old).looks + HELD_TURNS + 1 }
+        ensures looks { result ≡ false → (view_of self.new).looks ≡ (view_of self.old).looks + held_looks }
     {
         wait_until(self.rt, &self.asked, &mut self.pass, least)
     }
@@ -156,7 +156,7 @@ fn wait_until<R: Wait>(
     ensures cell { IsSamePass pass.old pass.new }
     ensures place { (cell_view pass.new).place ≡ (cell_view pass.old).place }
     ensures seen { IsTrue result ↔ number_of least ≤ number_of (cell_view pass.new).seen }
-    ensures looks { result ≡ false → (cell_view pass.new).looks ≡ (cell_view pass.old).looks + HELD_TURNS + 1 }
+    ensures looks { result ≡ false → (cell_view pass.new).looks ≡ (cell_view pass.old).looks + held_looks }
 {
     let mut seen = look(rt, asked, pass);
     for turn in 0..HELD_TURNS {

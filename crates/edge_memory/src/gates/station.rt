@@ -1,5 +1,5 @@
 use super::asked::Asked;
-use super::gate::{Gate, HELD_TURNS};
+use super::gate::Gate;
 use super::mark::Mark;
 use edge_traits::{Bounds, Station, StationFault, raised};
 use farm_types::{Ran, Word};
@@ -80,6 +80,7 @@ impl<'a, R: Wait> Part<'a, R> {
     ghost use Rattle.std.specs.Prelude.{◌≡◌, ◌≢◌, ◌+◌, ◌++◌, [], ◌∷◌, true, false};
     ghost use Rattle.edge_memory.specs.declared.gates.asked.Asked.TheVariants.{Nobody};
     ghost use Rattle.edge_memory.specs.declared.gates.asked.Place.TheVariants.{NotYet};
+    ghost use Rattle.edge_memory.specs.GateRule.{held_looks};
     ghost use Rattle.edge_memory.specs.MarkRule.{turn_of};
     ghost use Rattle.edge_memory.specs.Gates.{Waiting, Awaited, Alone, role_of, shared_by, asked_by, tried_by};
 
@@ -90,7 +91,7 @@ impl<'a, R: Wait> Part<'a, R> {
         ensures unasked { role_of self.old ≡ Waiting → (asked_by self.new).place ≡ (asked_by self.old).place }
         ensures held { role_of self.old ≡ Waiting → result ≡ true → (asked_by self.new).seen ≢ Nobody }
         ensures unseen { role_of self.old ≡ Waiting → result ≡ false → (asked_by self.new).seen ≡ Nobody }
-        ensures looks { role_of self.old ≡ Waiting → result ≡ false → (asked_by self.new).looks ≡ (asked_by self.old).looks + HELD_TURNS + 1 }
+        ensures looks { role_of self.old ≡ Waiting → result ≡ false → (asked_by self.new).looks ≡ (asked_by self.old).looks + held_looks }
         ensures asked { role_of self.old ≡ Awaited → (asked_by self.new).place ≢ NotYet }
         ensures awaited { role_of self.old ≡ Awaited → result ≡ true }
         ensures turn { role_of self.old ≡ Alone → (tried_by self.new).turns ≡ (tried_by self.old).turns ++ turn_of result ∷ [] }
@@ -115,6 +116,7 @@ impl<'a, R: Wait> Station for GateStation<'a, R> {
     ghost use Rattle.edge_memory.specs.declared.gates.asked.Asked.TheVariants.{Nobody};
     ghost use Rattle.edge_memory.specs.declared.gates.asked.Place.TheVariants.{NotYet};
     ghost use Rattle.edge_memory.specs.declared.gates.marked.Turn.TheVariants.{Entered, Refused};
+    ghost use Rattle.edge_memory.specs.GateRule.{held_looks};
     ghost use Rattle.edge_memory.specs.Gates.{Waiting, Awaited, Alone, gate_station_view, leaves_nothing, part_of, shared_of, asked_of, tried_of};
 
     ghost shows = { gate_station_view };
@@ -135,7 +137,7 @@ impl<'a, R: Wait> Station for GateStation<'a, R> {
         ensures unasked { part_of self.old ≡ Waiting → (asked_of self.new).place ≡ (asked_of self.old).place }
         ensures held { part_of self.old ≡ Waiting → OnOk result ((asked_of self.new).seen ≢ Nobody) }
         ensures unseen { part_of self.old ≡ Waiting → OnErr result ((asked_of self.new).seen ≡ Nobody) }
-        ensures looks { part_of self.old ≡ Waiting → OnErr result ((asked_of self.new).looks ≡ (asked_of self.old).looks + HELD_TURNS + 1) }
+        ensures looks { part_of self.old ≡ Waiting → OnErr result ((asked_of self.new).looks ≡ (asked_of self.old).looks + held_looks) }
         ensures asked { part_of self.old ≡ Awaited → (asked_of self.new).place ≢ NotYet }
         ensures entered { part_of self.old ≡ Alone → OnOk result ((tried_of self.new).turns ≡ (tried_of self.old).turns ++ Entered ∷ []) }
         ensures refused { part_of self.old ≡ Alone → OnErr result ((tried_of self.new).turns ≡ (tried_of self.old).turns ++ Refused ∷ []) }
