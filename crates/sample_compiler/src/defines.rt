@@ -1,6 +1,6 @@
 //! Defined names.
 
-ghost use Rattle.std.specs.Prelude.{◌≡◌, None, IfOk};
+ghost use Rattle.std.specs.Prelude.{◌≡◌, IfOk};
 ghost use Rattle.std.specs.Option.{option_copied};
 ghost use Rattle.sample_compiler.specs.Words as words;
 
@@ -24,7 +24,7 @@ impl TryCopy for Define {
 
 /// The last definition of a name.
 pub fn last_of<'a>(defines: &'a [Define], name: &[u8]) -> Option<&'a Define>
-    ensures { option_copied result ≡ words.last_of None defines.now name.now }
+    ensures { option_copied result ≡ words.last_of defines.now name.now }
 {
     let mut found = None;
     for define in defines {
