@@ -15,7 +15,7 @@ use Rattle.daemon_worker.specs.Logs.{DoorsServed, is_door_fault}
 use Rattle.daemon_words.specs.declared.options.Options.{Options}
 use Rattle.daemon_words.specs.declared.command.Command.{Command}
 use Rattle.daemon_words.specs.declared.command.Command.TheVariants.{Help, Version, Serve}
-use Rattle.daemon_words.specs.declared.help.TheConstants.{HELP, VERSION}
+use Rattle.daemon_words.specs.Helps.{help, version}
 use Rattle.daemon_words.specs.Tables.{compilers_of, AreRules}
 use Rattle.daemon_program.specs.Texts.{log_text, bad_words_text}
 use Rattle.daemon_program.specs.Endings.{Ends, WantsAfter}
@@ -52,6 +52,6 @@ module _ {A S : Type 0} (door : A → DoorView) (station : S → StationView) (r
   -- what is done by these words: bad ones are told with their place, and nothing is served
   abbrev pub Does : List (List ℕ) → List (DoorKit A S) → List (DoorKit A S) → SinkView → SinkView → ℕ → Result Command ℕ → Type 0
   Does words olds news old new answer (Err place) = (news ≡ olds) × Ends (bad_words_text place) 101 old new answer
-  Does words olds news old new answer (Ok Help) = (news ≡ olds) × Ends HELP.now 0 old new answer
-  Does words olds news old new answer (Ok Version) = (news ≡ olds) × Ends VERSION.now 0 old new answer
+  Does words olds news old new answer (Ok Help) = (news ≡ olds) × Ends help 0 old new answer
+  Does words olds news old new answer (Ok Version) = (news ≡ olds) × Ends version 0 old new answer
   Does words olds news old new answer (Ok (Serve options)) = Serves words options olds news old new answer

@@ -1,3 +1,4 @@
+pub mod Helps
 pub mod Names
 pub mod Options
 pub mod Commands

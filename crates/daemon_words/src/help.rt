@@ -1,12 +1,13 @@
 //! What `--help` and `--version` print (docs/daemon.md says the same).
 
 ghost use Rattle.std.specs.Prelude.{◌≡◌};
+ghost use Rattle.daemon_words.specs.Helps.{help, version};
 
 /// What `farmd --version` prints.
-pub const VERSION: &[u8] = b"farmd 0.1, distcc protocol 1\n";
+const VERSION: &[u8] = b"farmd 0.1, distcc protocol 1\n";
 
 /// What `farmd --help` prints.
-pub const HELP: &[u8] = b"Usage: farmd [OPTION]...
+const HELP: &[u8] = b"Usage: farmd [OPTION]...
 Compiles for other machines, by distcc's protocol.
 
 Options, in any order:
@@ -29,14 +30,14 @@ farmd prints what became of each connection when it ends.
 
 /// The help.
 pub fn help_text() -> &'static [u8]
-    ensures { result.now ≡ HELP.now }
+    ensures { result.now ≡ help }
 {
     HELP
 }
 
 /// The version.
 pub fn version_text() -> &'static [u8]
-    ensures { result.now ≡ VERSION.now }
+    ensures { result.now ≡ version }
 {
     VERSION
 }

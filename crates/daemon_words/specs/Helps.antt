@@ -1,0 +1,30 @@
+-- What `farmd --help` and `farmd --version` print.
+use Rattle.std.specs.Prelude.{ℕ, List, ◌++◌, codes}
+
+-- the version
+abbrev pub version : List ℕ
+version =
+    codes "farmd 0.1, distcc protocol 1\n"
+
+-- the help
+abbrev pub help : List ℕ
+help =
+    codes "Usage: farmd [OPTION]...\n"
+    ++ codes "Compiles for other machines, by distcc's protocol.\n"
+    ++ codes "\n"
+    ++ codes "Options, in any order:\n"
+    ++ codes "  --compiler NAME=PROGRAM  run PROGRAM for requests whose first word is NAME;\n"
+    ++ codes "                           up to 64 times\n"
+    ++ codes "  --port N                 listen on this port, in place of 3632\n"
+    ++ codes "  --listen ADDRESS         listen on this IPv4 address, in place of 0.0.0.0\n"
+    ++ codes "  --jobs N                 serve at most N connections at once, 1 to 16, in place\n"
+    ++ codes "                           of 4\n"
+    ++ codes "  --serve N                end after N connections at each of these doors, 1 to\n"
+    ++ codes "                           100000, in place of 100000\n"
+    ++ codes "  --allow ADDRESS[/BITS]   let in peers of this network\n"
+    ++ codes "  --deny ADDRESS[/BITS]    leave peers of this network\n"
+    ++ codes "\n"
+    ++ codes "The first rule that matches decides. Without rules every peer is let in; with\n"
+    ++ codes "rules, one that matches none is not.\n"
+    ++ codes "\n"
+    ++ codes "farmd prints what became of each connection when it ends.\n"
