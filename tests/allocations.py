@@ -35,7 +35,7 @@ def rehearsed(usual):
     def end(seen):
         if seen.returncode == 0 and seen.stdout == usual:
             return USUAL
-        if seen.returncode == 105 and usual.startswith(seen.stdout) and b"farm: no memory\n".startswith(seen.stderr):
+        if seen.returncode == 105 and usual.startswith(seen.stdout) and seen.stderr == b"farm: no memory\n":
             return WANTING
         words_lost = seen.returncode == 101 and seen.stderr == b"farm: bad words at word 0\n"
         return OWN if words_lost or seen.returncode == 1 and b"error:" in seen.stderr.lower() else None
