@@ -1,7 +1,9 @@
 """Runs programs with one allocation refused, by tests/refuse.c: for some numbers, spread over all of them, or with --every for each."""
 import os
+import shutil
 import subprocess
 import sys
+import tempfile
 import time
 from collections import Counter
 
@@ -13,7 +15,7 @@ failures = 0
 
 
 def run(words, **more):
-    environment = {"PATH": os.environ["PATH"], "LD_PRELOAD": REFUSE, **more}
+    environment = {"PATH": os.environ["PATH"], "TMPDIR": tempfile.gettempdir(), "DISTCC_HOSTS": "localhost/1", "LD_PRELOAD": REFUSE, **more}
     return subprocess.run(words, env=environment, stdin=subprocess.DEVNULL, capture_output=True, timeout=60)
 
 
@@ -43,6 +45,54 @@ def rehearsed(usual):
     return end
 
 
+# a compiler whose own allocations aren't refused: it is linked statically, so that nothing is loaded into it, and then begins anew
+BARE = """#include <stdlib.h>
+#include <unistd.h>
+int main(int count, char **words) {
+  unsetenv("LD_PRELOAD");
+  words[0] = "%s";
+  return execv(words[0], words);
+}
+"""
+
+
+class Compile:
+    """One command by farm over the disk, in a folder of its own. Of all that runs, farm alone is refused allocations."""
+
+    def __init__(self, folder):
+        os.chdir(folder)
+        tempfile.tempdir = os.path.join(folder, "own")
+        os.mkdir(tempfile.tempdir)
+        os.mkdir("bin")
+        with open("bin/bare.c", "w") as file:
+            file.write(BARE % shutil.which("gcc"))
+        bare = ["cc", "-static", "bin/bare.c", "-o", "bin/gcc"]
+        self.is_built = subprocess.run(bare, stderr=subprocess.DEVNULL).returncode == 0
+        with open("a.c", "w") as file:
+            file.write("int f(int x) { return x; }\n")
+        subprocess.run(["gcc", "-c", "a.c", "-o", "whole.o"], check=True)
+        with open("whole.o", "rb") as file:
+            self.whole = file.read()
+        os.environ["PATH"] = os.path.join(folder, "bin") + ":" + os.environ["PATH"]
+        self.words = [FARM, "cc", "gcc", "-c", "a.c", "-o", "a.o"]
+
+    def end(self, seen):
+        """How a run ended: with the whole object, or with none, and nothing of farm's own left. What was put stays, whatever comes then."""
+        left = [name for name in [*os.listdir("."), *os.listdir(tempfile.tempdir)] if name.startswith("farm-")]
+        found = None
+        if os.path.exists("a.o"):
+            with open("a.o", "rb") as file:
+                found = file.read()
+            os.remove("a.o")
+        for name in left:
+            os.remove(name if os.path.exists(name) else os.path.join(tempfile.tempdir, name))
+        if left or found not in (None, self.whole):
+            return None
+        if seen.returncode == 0:
+            return USUAL if found else None
+        return "no object" if found is None else "the object, and memory wanting behind it"
+
+
 def numbers(most):
     """The numbers of the allocations to refuse: each, or steps of the golden section, which lie apart however many there is time for."""
     if EVERY:
@@ -53,8 +103,12 @@ def numbers(most):
 
 
 def refuse(name, words, end):
+    """Refuses none that is made, and then one after another."""
     global failures
     most = count(words)
+    if end(run(words, REFUSED=str(2 * most))) != USUAL:
+        failures += 1
+        print(f"FAIL {name}: with no allocation refused")
     begun = time.monotonic()
     ends = Counter()
     for number in numbers(most):
@@ -69,9 +123,6 @@ def refuse(name, words, end):
         if how is None:
             failures += 1
             print(f"FAIL {name}: with allocation {number} refused: {seen}")
-    if end(run(words, REFUSED=str(2 * most))) != USUAL:
-        failures += 1
-        print(f"FAIL {name}: with no allocation refused")
     told = ", ".join(f"{how} {times}" for how, times in ends.items() if how)
     print(f"{name}: {most} allocations, {sum(ends.values())} refused in {time.monotonic() - begun:.0f} s: {told}")
 
@@ -81,5 +132,13 @@ for name in ("daemon", "one", "four"):
 usual = run([FARM, "rehearse", "2"])
 if usual.returncode == 0:
     refuse("farm rehearse 2", [FARM, "rehearse", "2"], rehearsed(usual.stdout))
+if shutil.which("gcc"):
+    with tempfile.TemporaryDirectory() as folder:
+        job = Compile(folder)
+        if job.is_built:
+            refuse("farm cc over the disk", job.words, job.end)
+        else:
+            print("farm cc over the disk: skipped, since no program can be linked statically here")
+        os.chdir("/")
 print(f"tests/allocations: {failures} failed")
 sys.exit(1 if failures else 0)
