@@ -12,5 +12,7 @@ mod text;
 
 pub use fault::{JobError, JobFault};
 pub use laws::{one_reading_of_lines, one_reading_of_texts};
+pub use line::is_blank;
 pub use list::parse;
 pub use printing::{are_printable, print_words};
+pub use text::{is_job, line_end};
