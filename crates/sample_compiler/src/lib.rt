@@ -18,6 +18,6 @@ mod task;
 pub use compiler::{compile, one_run, preprocess};
 pub use defines::Define;
 pub use loading::{LoadFault, load};
-pub use object::object_of;
+pub use object::{object_of, put_item};
 pub use station::SampleStation;
 pub use task::{Product, Task, task_of};
