@@ -1,5 +1,5 @@
 -- Where nothing failed, every connection is answered by what it gave.
-use Rattle.std.proofs.Common.{◌≡◌, ℕ, suc, ◌⊎◌, inl, inr, Bool, true, false, List, [], ◌∷◌, take, refl, ◌∙◌, ap}
+use Rattle.std.proofs.Common.{◌≡◌, ℕ, suc, ◌⊎◌, inl, inr, Bool, true, false, List, [], ◌∷◌, ◌++◌, take, refl, ◌∙◌, ap}
 use Rattle.std.specs.Prelude.{◌||◌, if◌then◌else◌}
 use Rattle.std.specs.List.{list_any}
 use Rattle.std.proofs.lemmas.List.Folds.{list_any-append}
@@ -20,10 +20,11 @@ use Rattle.daemon_worker.specs.Logs.{DoorsServed, numbered, is_door_fault}
 use Rattle.daemon_worker.specs.Rightness.{AllRight, IsRight}
 use Rattle.daemon_worker.proofs.Answering.{rightly}
 use Rattle.daemon_words.specs.declared.options.Options.{Options}
-use Rattle.daemon_program.specs.Texts.{log_text}
+use Rattle.object_cache.specs.Stations.{cached_shows}
+use Rattle.daemon_program.specs.Texts.{log_text, books_text}
 use Rattle.daemon_program.specs.Endings.{Noticed, told_whole, told_stopped, told_wanted, Ends, printed, stopped, wanted}
-use Rattle.daemon_program.specs.Daemons.{Serves, unserved, served, log_status, doors_used}
-use Rattle.daemon_program.specs.Complete.{AllSmooth, DoorsRight, IsSmooth, Completed, nothing, all}
+use Rattle.daemon_program.specs.Daemons.{Serves, unserved, served, cached, log_status, doors_used}
+use Rattle.daemon_program.specs.Complete.{AllSmooth, DoorsRight, IsSmooth, Completed, nothing, all, beside}
 
 -- ---- no door failed
 
@@ -60,6 +61,14 @@ module _ {A S : Type 0} (door : A → DoorView) (station : S → StationView) (r
       let calm = smooth.1.calm _ (did.visits.grew smooth.1.told) in
       (done.0, done.1, done.2, done.3, rightly table rules (ran new.station) (door old.door) (door new.door) (station old.station) (station new.station) done.3.cs did smooth.0 calm, right_doors (suc number) olds news done.1 done.4 smooth.2)
 
+-- what a station with a book tells of faults and overruns is what the station tells
+smooth_beside : {A S : Type 0} (door : A → DoorView) (station : S → StationView) (ran : S → List Word → List ℕ → Ran → Type 0) (olds news : List (DoorKit A S)) → AllSmooth door station ran olds news
+    → AllSmooth door (λ s. cached_shows (station s)) ran olds news
+smooth_beside door station ran [] news smooth = smooth
+smooth_beside door station ran (old ∷ olds) [] smooth = smooth
+smooth_beside door station ran (old ∷ olds) (new ∷ news) smooth =
+    (record { door = smooth.0.door; station = smooth.0.station; overruns = smooth.0.overruns }, smooth.1, smooth_beside door station ran olds news smooth.2)
+
 abbrev status_of : Bool → Bool → ℕ
 status_of fault memory = if fault then 107 else (if memory then 105 else 0)
 
@@ -92,7 +101,13 @@ module _ {A S : Type 0} (door : A → DoorView) (station : S → StationView) (r
 
   pub completed : Serves door station ran words options olds news old new answer → IsSmooth door station ran options olds news old new → Completed door station ran words options olds news answer
   completed (unserved same wants) smooth = nothing same (never old new (goes_on smooth) answer wants.told wants.noticed)
-  completed (served config log is done others ends) smooth =
+  completed (served config log is none_kept done others ends) smooth =
       let right = right_doors door station ran config.table.rows config.access.rules config.serve 1 (take (doors_used options olds) olds) (take (doors_used options olds) news) log done smooth.doors in
       let none = no_fault door station ran config.table.rows config.access.rules config.serve 1 (take (doors_used options olds) olds) (take (doors_used options olds) news) log right in
-      all config log is right (either_status (log_status log) answer (ended_as (log_text log) (log_status log) old new answer (goes_on smooth) ends) (status_by _ _ none))
+      all config log is none_kept right (either_status (log_status log) answer (ended_as (log_text log) (log_status log) old new answer (goes_on smooth) ends) (status_by _ _ none))
+  completed (cached config log bound books is kept done others many ends) smooth =
+      let shown : S → StationView = λ s. cached_shows (station s) in
+      let calm = smooth_beside door station ran (take (doors_used options olds) olds) (take (doors_used options olds) news) smooth.doors in
+      let right = right_doors door shown ran config.table.rows config.access.rules config.serve 1 (take (doors_used options olds) olds) (take (doors_used options olds) news) log done calm in
+      let none = no_fault door shown ran config.table.rows config.access.rules config.serve 1 (take (doors_used options olds) olds) (take (doors_used options olds) news) log right in
+      beside config log bound is kept right (either_status (log_status log) answer (ended_as (log_text log ++ books_text 1 books) (log_status log) old new answer (goes_on smooth) ends) (status_by _ _ none))

@@ -1,5 +1,5 @@
 -- From what was read and served to what `farmd` does.
-use Rattle.std.proofs.Common.{◌≡◌, ℕ, ◌≤◌, List, take, drop, sym, subst, arith}
+use Rattle.std.proofs.Common.{◌≡◌, ℕ, ◌≤◌, List, ◌++◌, length, take, drop, sym, ◌∙◌, subst, arith}
 use Rattle.std.specs.Prelude.{unwrap_or, Option, Some, None, Result}
 use Rattle.farm_types.specs.declared.placed.Word.{Word}
 use Rattle.farm_types.specs.declared.ran.Ran.{Ran}
@@ -12,12 +12,14 @@ use Rattle.daemon_worker.specs.declared.log.Entry.{Entry}
 use Rattle.daemon_worker.specs.Logs.{DoorsServed}
 use Rattle.daemon_words.specs.declared.options.Options.{Options}
 use Rattle.daemon_words.specs.declared.command.Command.{Command}
-use Rattle.daemon_words.specs.Options.{IsWithin, AreWithin}
+use Rattle.daemon_words.specs.Options.{IsWithin, AreWithin, book_bound}
 use Rattle.daemon_words.specs.Commands.{ReadWords}
 use Rattle.daemon_words.proofs.Meaning.{once}
-use Rattle.daemon_program.specs.Texts.{log_text}
+use Rattle.object_cache.specs.declared.book.Stats.{Stats}
+use Rattle.object_cache.specs.Stations.{cached_shows}
+use Rattle.daemon_program.specs.Texts.{log_text, books_text}
 use Rattle.daemon_program.specs.Endings.{Ends}
-use Rattle.daemon_program.specs.Daemons.{IsConfig, Serves, served, Does, doors_used, log_status}
+use Rattle.daemon_program.specs.Daemons.{IsConfig, Serves, served, cached, Does, doors_used, log_status}
 
 given_or : (low high other : ℕ) (given : Option ℕ) → IsWithin low high given → low ≤ other → other ≤ high → (low ≤ unwrap_or given other) × (unwrap_or given other ≤ high)
 given_or low high other None within some few = (some, few)
@@ -35,14 +37,23 @@ ends_as text bytes status answered old new answer same also ends =
     subst (λ t. Ends t status old new answer) same (subst (λ s. Ends bytes s old new answer) also ends)
 
 module _ {A S : Type 0} (door : A → DoorView) (station : S → StationView) (ran : S → List Word → List ℕ → Ran → Type 0) (words : List (List ℕ)) where
-  pub served_first : (options : Options) (olds news : List (DoorKit A S)) (old new : SinkView) (answer count : ℕ) (config : DaemonConfig) (log : List Entry) → count ≡ doors_used options olds → IsConfig words options config
+  pub served_first : (options : Options) (olds news : List (DoorKit A S)) (old new : SinkView) (answer count : ℕ) (config : DaemonConfig) (log : List Entry) → count ≡ doors_used options olds → IsConfig words options config → book_bound options ≡ None
       → DoorsServed config.table.rows config.access.rules config.serve door station ran 1 (take count olds) (take count news) log
       → drop count news ≡ drop count olds → Ends (log_text log) (log_status log) old new answer
       → Serves door station ran words options olds news old new answer
-  served_first options olds news old new answer count config log is right done others ends =
-      served config log right
+  served_first options olds news old new answer count config log is right none done others ends =
+      served config log right none
       (subst (λ n. DoorsServed config.table.rows config.access.rules config.serve door station ran 1 (take n olds) (take n news) log) is done)
       (subst (λ n. drop n news ≡ drop n olds) is others) ends
+
+  pub cached_first : (options : Options) (olds news : List (DoorKit A S)) (old new : SinkView) (answer count : ℕ) (config : DaemonConfig) (log : List Entry) (bound : ℕ) (books : List Stats) → count ≡ doors_used options olds → IsConfig words options config
+      → book_bound options ≡ Some bound → DoorsServed config.table.rows config.access.rules config.serve door (λ s. cached_shows (station s)) ran 1 (take count olds) (take count news) log
+      → drop count news ≡ drop count olds → length books ≡ count → Ends (log_text log ++ books_text 1 books) (log_status log) old new answer
+      → Serves door station ran words options olds news old new answer
+  cached_first options olds news old new answer count config log bound books is right some done others many ends =
+      cached config log bound books right some
+      (subst (λ n. DoorsServed config.table.rows config.access.rules config.serve door (λ s. cached_shows (station s)) ran 1 (take n olds) (take n news) log) is done)
+      (subst (λ n. drop n news ≡ drop n olds) is others) (many ∙ is) ends
 
   pub does_by : (olds news : List (DoorKit A S)) (old new : SinkView) (answer : ℕ) (found read : Result Command ℕ) → ReadWords words found → Does door station ran words olds news old new answer found
       → ReadWords words read → Does door station ran words olds news old new answer read

@@ -1,3 +1,4 @@
 mod Telling
+mod Beside
 mod Doing
 mod Completing

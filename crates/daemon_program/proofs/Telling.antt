@@ -1,6 +1,6 @@
 -- How printing ends.
-use Rattle.std.proofs.Common.{◌≡◌, ◌≢◌, ℕ, ◌<◌, ◌≤◌, List, [], ◌∷◌, ◌++◌, length, take, drop, get_or, ◌-◌, inl, inr, refl, sym, ◌∙◌, ap, subst, append_assoc, length-drop, arith}
-use Rattle.std.specs.Prelude.{Result, Ok, Err, OnErr}
+use Rattle.std.proofs.Common.{◌≡◌, ◌≢◌, ℕ, suc, ◌+◌, ◌<◌, ◌≤◌, List, [], ◌∷◌, ◌++◌, length, take, drop, get_or, ◌-◌, inl, inr, refl, sym, ◌∙◌, ap, subst, append_assoc, length-drop, arith}
+use Rattle.std.specs.Prelude.{Result, Ok, Err, OnOk, OnErr}
 use Rattle.std.proofs.Math.Seq.{take-length}
 use Rattle.std.proofs.lemmas.List.{take-append-drop, append-nil}
 use Rattle.edge_traits.specs.Told.{Grew}
@@ -12,7 +12,8 @@ use Rattle.stream_print.specs.Prints.{GoesOn, DidStop}
 use Rattle.daemon_service.specs.declared.served.Served.TheVariants as served
 use Rattle.daemon_worker.specs.declared.log.Met.TheVariants as met
 use Rattle.daemon_worker.specs.declared.log.Entry.{Entry}
-use Rattle.daemon_program.specs.Texts.{line_text, log_text, no_memory_text}
+use Rattle.object_cache.specs.declared.book.Stats.{Stats}
+use Rattle.daemon_program.specs.Texts.{book_line, books_text, no_memory_text}
 use Rattle.daemon_program.specs.Endings.{IsPart, Noticed, told_whole, told_stopped, told_wanted, WantsAfter, Ends, wanted}
 
 rest_left : (n : ℕ) (text : List ℕ) → n < length text → drop n text ≢ []
@@ -69,50 +70,102 @@ none_wanted text status old new answer some wants = wanted [] text refl some wan
 
 -- ---- line after line
 
-pub record SoFar (log rest : List Entry) (old now : SinkView) : Type 0 where
+-- What was written of a text so far, and what is left of it.
+pub record SoFar (all left : List ℕ) (old now : SinkView) : Type 0 where
   pub done : List ℕ
-  pub parts : log_text log ≡ done ++ log_text rest
+  pub parts : all ≡ done ++ left
   pub grew : Grew old.written now.written done
   pub on : GoesOn old now
 
-module _ (log rest after : List Entry) (entry : Entry) (old mid : SinkView) (so_far : SoFar log rest old mid) (is : rest ≡ entry ∷ after) where
-  text_is : log_text log ≡ (so_far.done ++ line_text entry) ++ log_text after
-  text_is = so_far.parts ∙ ap (λ l. so_far.done ++ log_text l) is ∙ sym (append_assoc so_far.done (line_text entry) (log_text after))
+more_left : (xs ys : List ℕ) → xs ≢ [] → xs ++ ys ≢ []
+more_left [] ys some none = some refl
+more_left (x ∷ xs) ys some none = cc none
 
-  pub next_line : (new : SinkView) → Grew mid.written new.written (line_text entry) → GoesOn mid new → SoFar log after old new
+module _ (all left line more : List ℕ) (old mid : SinkView) (so_far : SoFar all left old mid) (is : left ≡ line ++ more) where
+  text_is : all ≡ (so_far.done ++ line) ++ more
+  text_is = so_far.parts ∙ ap (λ l. so_far.done ++ l) is ∙ sym (append_assoc so_far.done line more)
+
+  pub next_line : (new : SinkView) → Grew mid.written new.written line → GoesOn mid new → SoFar all more old new
   next_line new grew on = record {
-    done = so_far.done ++ line_text entry;
+    done = so_far.done ++ line;
     parts = text_is;
     grew = Grew-join so_far.grew grew refl;
     on = goes_then so_far.on on;
   }
 
-  pub failed_line : (new : SinkView) → IsPart (line_text entry) mid new → IsPart (log_text log) old new
+  pub failed_line : (new : SinkView) → IsPart line mid new → IsPart all old new
   failed_line new part = record {
     front = so_far.done ++ part.front;
-    rest = part.rest ++ log_text after;
-    parts = text_is ∙ ap (λ l. (so_far.done ++ l) ++ log_text after) part.parts ∙ ap (λ l. l ++ log_text after) (sym (append_assoc so_far.done part.front part.rest)) ∙ append_assoc (so_far.done ++ part.front) part.rest (log_text after);
-    left = more_left part.rest (log_text after) part.left;
+    rest = part.rest ++ more;
+    parts = text_is ∙ ap (λ l. (so_far.done ++ l) ++ more) part.parts ∙ ap (λ l. l ++ more) (sym (append_assoc so_far.done part.front part.rest)) ∙ append_assoc (so_far.done ++ part.front) part.rest more;
+    left = more_left part.rest more part.left;
     grew = Grew-join so_far.grew part.grew refl;
   }
-    where
-      more_left : (xs ys : List ℕ) → xs ≢ [] → xs ++ ys ≢ []
-      more_left [] ys some none = some refl
-      more_left (x ∷ xs) ys some none = cc none
 
-pub all_lines : (log rest : List Entry) (old now : SinkView) → SoFar log rest old now → length rest < 1 → Grew old.written now.written (log_text log)
-all_lines log [] old now so_far few = subst (λ t. Grew old.written now.written t) (sym (so_far.parts ∙ append-nil so_far.done)) so_far.grew
-all_lines log (entry ∷ rest) old now so_far few = absurd (omega (arith, few))
+-- nothing is left
+pub all_lines : (all left : List ℕ) (old now : SinkView) → SoFar all left old now → left ≡ [] → Grew old.written now.written all
+all_lines all left old now so_far none =
+    subst (λ t. Grew old.written now.written t) (sym (so_far.parts ∙ ap (λ l. so_far.done ++ l) none ∙ append-nil so_far.done)) so_far.grew
+
+pub none_yet : (all : List ℕ) (old : SinkView) → Grew old.written old.written [] → SoFar all all old old
+none_yet all old still = record { done = []; parts = refl; grew = still; on = record { faults = refl; stopped = refl } }
+
+-- no element is left
+pub no_more : {T : Type 0} (rest : List T) → length rest < 1 → rest ≡ []
+no_more [] few = refl
+no_more (x ∷ rest) few = absurd (omega (arith, few))
+
+-- the first of some elements, and the others
+pub one_part : {T : Type 0} (other : T) (rest : List T) → 1 ≤ length rest → rest ≡ get_or rest 0 other ∷ take (length rest - 1) (drop 1 rest)
+one_part other [] some = absurd (omega (arith, some))
+one_part other (x ∷ more) some =
+    let left : length more ≡ length (x ∷ more) - 1 = omega arith in
+    ap (λ l. x ∷ l) (sym (take-length more) ∙ ap (λ n. take n more) left)
+
+-- ---- two texts
+
+-- a part of the first of two texts
+pub part_first : (text more : List ℕ) (old new : SinkView) → IsPart text old new → IsPart (text ++ more) old new
+part_first text more old new part = record {
+  front = part.front;
+  rest = part.rest ++ more;
+  parts = ap (λ l. l ++ more) part.parts ∙ append_assoc part.front part.rest more;
+  left = more_left part.rest more part.left;
+  grew = part.grew;
+}
+
+-- the first, and a part of the second
+pub part_second : (text more : List ℕ) (old mid new : SinkView) → Grew old.written mid.written text → IsPart more mid new → IsPart (text ++ more) old new
+part_second text more old mid new grew part = record {
+  front = text ++ part.front;
+  rest = part.rest;
+  parts = ap (λ l. text ++ l) part.parts ∙ sym (append_assoc text part.front part.rest);
+  left = part.left;
+  grew = Grew-join grew part.grew refl;
+}
+
+-- the first, and then what became of the second
+pub second_part : {A : Type 0} (text more : List ℕ) (old mid new : SinkView) (result : Result A PrintStop) → Grew old.written mid.written text → OnErr result (IsPart more mid new) → OnErr result (IsPart (text ++ more) old new)
+second_part text more old mid new (Ok done) grew part = tt
+second_part text more old mid new (Err stop) grew part = part_second text more old mid new grew part
+
+pub second_all : {A : Type 0} (text more : List ℕ) (old mid new : SinkView) (result : Result A PrintStop) → Grew old.written mid.written text → OnOk result (Grew mid.written new.written more) → OnOk result (Grew old.written new.written (text ++ more))
+second_all text more old mid new (Ok done) grew all = Grew-join grew all refl
+second_all text more old mid new (Err stop) grew all = tt
+
+pub second_on : {A : Type 0} (old mid new : SinkView) (result : Result A PrintStop) → GoesOn old mid → OnOk result (GoesOn mid new) → OnOk result (GoesOn old new)
+second_on old mid new (Ok done) on more = goes_then on more
+second_on old mid new (Err stop) on more = tt
 
 -- the entry that stands for one behind a list's end
 abbrev pub blank : Entry
 blank = record { door = 0; number = 0; what = met.Served (served.Answered 0) }
 
-pub one_part : (rest : List Entry) → 1 ≤ length rest → rest ≡ get_or rest 0 blank ∷ take (length rest - 1) (drop 1 rest)
-one_part [] some = absurd (omega (arith, some))
-one_part (x ∷ more) some =
-    let left : length more ≡ length (x ∷ more) - 1 = omega arith in
-    ap (λ l. x ∷ l) (sym (take-length more) ∙ ap (λ n. take n more) left)
+abbrev pub no_stats : Stats
+no_stats = record { hits = 0; misses = 0; unkept = 0; bytes = 0 }
 
-pub none_yet : (log : List Entry) (old : SinkView) → Grew old.written old.written [] → SoFar log log old old
-none_yet log old still = record { done = []; parts = refl; grew = still; on = record { faults = refl; stopped = refl } }
+-- the line of the first of some books, and the lines of the others
+pub first_book : (door : ℕ) (stats : Stats) (books more : List Stats) → books ≡ stats ∷ more → books_text door books ≡ book_line door stats ++ books_text (door + 1) more
+first_book door stats books more are =
+    let next : suc door ≡ door + 1 = omega arith in
+    ap (books_text door) are ∙ ap (λ n. book_line door stats ++ books_text n more) next

@@ -1,5 +1,5 @@
 -- Where nothing failed, every connection is answered by what it gave.
-use Rattle.std.specs.Prelude.{◌≡◌, ℕ, suc, ◌⊎◌, false, IsTrue, List, [], ◌∷◌, ◌++◌, take}
+use Rattle.std.specs.Prelude.{◌≡◌, ℕ, suc, ◌⊎◌, false, IsTrue, List, [], ◌∷◌, ◌++◌, take, Some, None}
 use Rattle.farm_types.specs.declared.placed.Word.{Word}
 use Rattle.farm_types.specs.declared.ran.Ran.{Ran}
 use Rattle.edge_traits.specs.declared.entries.Visit.{Visit}
@@ -15,6 +15,8 @@ use Rattle.daemon_worker.specs.declared.log.Entry.{Entry}
 use Rattle.daemon_worker.specs.Logs.{DoorServed}
 use Rattle.daemon_worker.specs.Rightness.{AllRight, AreCalm, NoneFailed}
 use Rattle.daemon_words.specs.declared.options.Options.{Options}
+use Rattle.daemon_words.specs.Options.{book_bound}
+use Rattle.object_cache.specs.Stations.{cached_shows}
 use Rattle.daemon_program.specs.Daemons.{IsConfig, doors_used}
 
 -- the door tells its visits, and over none of the new ones a call failed or a send took nothing
@@ -46,9 +48,14 @@ module _ {A S : Type 0} (door : A → DoorView) (station : S → StationView) (r
     pub sink : Rose old.faults new.faults → ⊥
     pub going : new.stopped ≡ false
 
-  -- Memory was wanting before anything was served; or every connection was answered rightly, and the status is 0 or that of want of memory.
+module _ {A S : Type 0} (door : A → DoorView) (station : S → StationView) (ran : S → List Word → List ℕ → Ran → Type 0) where
+  -- Memory was wanting before anything was served; or every connection was answered rightly, and the status is 0 or that of want of memory;
+  -- with books, by stations that tell no runs.
   pub data Completed (words : List (List ℕ)) (options : Options) (olds news : List (DoorKit A S)) (answer : ℕ) : Type 0 where
     nothing : news ≡ olds → answer ≡ 105 → Completed words options olds news answer
-    all : (config : DaemonConfig) (log : List Entry) → IsConfig words options config
-        → DoorsRight config.table.rows config.access.rules config.serve 1 (take (doors_used options olds) olds) (take (doors_used options olds) news) log
+    all : (config : DaemonConfig) (log : List Entry) → IsConfig words options config → book_bound options ≡ None
+        → DoorsRight door station ran config.table.rows config.access.rules config.serve 1 (take (doors_used options olds) olds) (take (doors_used options olds) news) log
+        → (answer ≡ 0) ⊎ (answer ≡ 105) → Completed words options olds news answer
+    beside : (config : DaemonConfig) (log : List Entry) (bound : ℕ) → IsConfig words options config → book_bound options ≡ Some bound
+        → DoorsRight door (λ s. cached_shows (station s)) ran config.table.rows config.access.rules config.serve 1 (take (doors_used options olds) olds) (take (doors_used options olds) news) log
         → (answer ≡ 0) ⊎ (answer ≡ 105) → Completed words options olds news answer

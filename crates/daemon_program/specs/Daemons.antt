@@ -1,5 +1,5 @@
 -- What `farmd` does by its words.
-use Rattle.std.specs.Prelude.{◌≡◌, ℕ, min, Bool, true, false, List, [], length, take, drop, unwrap_or, Result, Ok, Err, if◌then◌else◌}
+use Rattle.std.specs.Prelude.{◌≡◌, ℕ, min, Bool, true, false, List, [], ◌++◌, length, take, drop, unwrap_or, Some, None, Result, Ok, Err, if◌then◌else◌}
 use Rattle.std.specs.List.{list_any}
 use Rattle.farm_types.specs.declared.placed.Word.{Word}
 use Rattle.farm_types.specs.declared.ran.Ran.{Ran}
@@ -13,11 +13,14 @@ use Rattle.daemon_worker.specs.declared.log.Met.{Met}
 use Rattle.daemon_worker.specs.declared.log.Met.TheVariants as met
 use Rattle.daemon_worker.specs.Logs.{DoorsServed, is_door_fault}
 use Rattle.daemon_words.specs.declared.options.Options.{Options}
+use Rattle.daemon_words.specs.Options.{book_bound}
 use Rattle.daemon_words.specs.declared.command.Command.{Command}
 use Rattle.daemon_words.specs.declared.command.Command.TheVariants.{Help, Version, Serve}
 use Rattle.daemon_words.specs.Helps.{help, version}
 use Rattle.daemon_words.specs.Tables.{compilers_of, AreRules}
-use Rattle.daemon_program.specs.Texts.{log_text, bad_words_text}
+use Rattle.object_cache.specs.declared.book.Stats.{Stats}
+use Rattle.object_cache.specs.Stations.{cached_shows}
+use Rattle.daemon_program.specs.Texts.{log_text, books_text, bad_words_text}
 use Rattle.daemon_program.specs.Endings.{Ends, WantsAfter}
 
 abbrev pub is_door_memory : Met → Bool
@@ -41,13 +44,19 @@ abbrev pub doors_used : {K : Type 0} → Options → List K → ℕ
 doors_used options doors = min (unwrap_or options.jobs 4) (length doors)
 
 module _ {A S : Type 0} (door : A → DoorView) (station : S → StationView) (ran : S → List Word → List ℕ → Ran → Type 0) where
-  -- Memory was wanting before anything was served. Or the doors were served, the others are as before, and the log was printed.
+  -- Memory was wanting before anything was served. Or the doors were served, the others are as before, and the log was printed;
+  -- where each door's station stood beside a book, it told no runs, and the lines of the books were printed behind the log.
   pub data Serves (words : List (List ℕ)) (options : Options) (olds news : List (DoorKit A S)) (old new : SinkView) (answer : ℕ) : Type 0 where
     unserved : news ≡ olds → WantsAfter [] old new answer → Serves words options olds news old new answer
-    served : (config : DaemonConfig) (log : List Entry) → IsConfig words options config
+    served : (config : DaemonConfig) (log : List Entry) → IsConfig words options config → book_bound options ≡ None
         → DoorsServed config.table.rows config.access.rules config.serve door station ran 1 (take (doors_used options olds) olds) (take (doors_used options olds) news) log
         → drop (doors_used options olds) news ≡ drop (doors_used options olds) olds
         → Ends (log_text log) (log_status log) old new answer → Serves words options olds news old new answer
+    cached : (config : DaemonConfig) (log : List Entry) (bound : ℕ) (books : List Stats) → IsConfig words options config → book_bound options ≡ Some bound
+        → DoorsServed config.table.rows config.access.rules config.serve door (λ s. cached_shows (station s)) ran 1 (take (doors_used options olds) olds) (take (doors_used options olds) news) log
+        → drop (doors_used options olds) news ≡ drop (doors_used options olds) olds
+        → length books ≡ doors_used options olds
+        → Ends (log_text log ++ books_text 1 books) (log_status log) old new answer → Serves words options olds news old new answer
 
   -- what is done by these words: bad ones are told with their place, and nothing is served
   abbrev pub Does : List (List ℕ) → List (DoorKit A S) → List (DoorKit A S) → SinkView → SinkView → ℕ → Result Command ℕ → Type 0

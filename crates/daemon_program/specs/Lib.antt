@@ -1,4 +1,5 @@
 pub mod Texts
+pub mod Books
 pub mod Endings
 pub mod Daemons
 pub mod Complete

@@ -1,5 +1,5 @@
 -- What `farmd` prints (docs/daemon.md).
-use Rattle.std.specs.Prelude.{ℕ, List, ◌++◌, codes, Option, Some, None}
+use Rattle.std.specs.Prelude.{ℕ, suc, List, [], ◌∷◌, ◌++◌, codes, Option, Some, None}
 use Rattle.std.specs.Fmt.{decimal}
 use Rattle.std.specs.List.{flat_map}
 use Rattle.wire_tokens.specs.Token.{lower_digits}
@@ -9,6 +9,7 @@ use Rattle.daemon_service.specs.Services.{number_of}
 use Rattle.daemon_worker.specs.declared.log.Met.{Met}
 use Rattle.daemon_worker.specs.declared.log.Met.TheVariants as met
 use Rattle.daemon_worker.specs.declared.log.Entry.{Entry}
+use Rattle.object_cache.specs.declared.book.Stats.{Stats}
 
 -- the status is a wait status, as eight lower-case hexadecimal digits
 abbrev pub served_text : Served → List ℕ
@@ -36,6 +37,17 @@ line_text entry = codes "door " ++ decimal entry.door ++ codes " conn " ++ decim
 
 abbrev pub log_text : List Entry → List ℕ
 log_text entries = flat_map line_text entries
+
+-- one line for the book of a door
+abbrev pub book_line : ℕ → Stats → List ℕ
+book_line door stats =
+    codes "cache door " ++ decimal door ++ codes " hits " ++ decimal stats.hits ++ codes " misses " ++ decimal stats.misses
+    ++ codes " unkept " ++ decimal stats.unkept ++ codes " bytes " ++ decimal stats.bytes ++ codes "\n"
+
+-- the lines of the books, of doors whose numbers go on from this one
+abbrev pub books_text : ℕ → List Stats → List ℕ
+books_text door [] = []
+books_text door (stats ∷ more) = book_line door stats ++ books_text (suc door) more
 
 abbrev pub bad_words_text : ℕ → List ℕ
 bad_words_text place = codes "farmd: bad words at word " ++ decimal place ++ codes "\n"

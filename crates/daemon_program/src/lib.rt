@@ -1,6 +1,7 @@
 //! The program `farmd`: what its `main` calls.
 #![tactic(auto)]
 
+mod books;
 mod lines;
 mod output;
 mod printing;

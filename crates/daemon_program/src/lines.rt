@@ -3,11 +3,12 @@
 ghost use Rattle.std.specs.Prelude.{◌≡◌, ◌++◌, IfOk, OnOk};
 ghost use Rattle.std.specs.Fmt.{decimal};
 ghost use Rattle.wire_tokens.specs.Token.{lower_digits};
-ghost use Rattle.daemon_program.specs.Texts.{line_text, rule_text, served_text, what_text};
+ghost use Rattle.daemon_program.specs.Texts.{book_line, line_text, rule_text, served_text, what_text};
 
 use daemon_service::{Served, fault_number};
 use daemon_worker::{Entry, Met};
 use farm_types::Bytes;
+use object_cache::Stats;
 use std::alloc::{AllocError, Global};
 use wire_tokens::{Name4, write_token};
 
@@ -87,6 +88,24 @@ pub(crate) fn line(alloc: Global, entry: &Entry) -> Result<Bytes, AllocError>
     add_number(alloc, &mut text, u64::from(entry.number))?;
     text.try_extend(b" ")?;
     add_what(alloc, &mut text, entry.what)?;
+    text.try_extend(b"\n")?;
+    Ok(text)
+}
+
+/// The line of a door's book.
+pub(crate) fn book_line(alloc: Global, door: u32, stats: &Stats) -> Result<Bytes, AllocError>
+    ensures { IfOk result (λ text. text ≡ book_line door stats.now) }
+{
+    let mut text = Bytes::from_slice(alloc, b"cache door ")?;
+    add_number(alloc, &mut text, u64::from(door))?;
+    text.try_extend(b" hits ")?;
+    add_number(alloc, &mut text, stats.hits)?;
+    text.try_extend(b" misses ")?;
+    add_number(alloc, &mut text, stats.misses)?;
+    text.try_extend(b" unkept ")?;
+    add_number(alloc, &mut text, stats.unkept)?;
+    text.try_extend(b" bytes ")?;
+    add_number(alloc, &mut text, stats.bytes)?;
     text.try_extend(b"\n")?;
     Ok(text)
 }

@@ -8,6 +8,7 @@ ghost use Rattle.daemon_words.specs.declared.options.Options.{Options as Given};
 ghost use Rattle.daemon_program.specs.Daemons.{Does, IsConfig, Serves};
 ghost use Rattle.daemon_program.specs.Complete.{Completed, IsSmooth};
 
+use crate::books::serve_beside_books;
 use crate::output::{refuse_words, tell, want_memory};
 use crate::printing::print_log;
 use crate::status::status_of;
@@ -56,9 +57,18 @@ where
         return want_memory(out);
     };
     let count = usize::from(options.jobs()).min(doors.len());
-    match serve_first(rt, alloc, doors, count, &config) {
-        Ok(log) => print_log(alloc, log.as_slice(), status_of(log.as_slice()), out),
-        Err(_) => want_memory(out),
+    match options.book_bound() {
+        Some(bound) => match serve_beside_books(rt, alloc, doors, count, &config, bound) {
+            Ok((log, books)) => {
+                let status = status_of(log.as_slice());
+                print_log(alloc, log.as_slice(), books.as_slice(), status, out)
+            }
+            Err(_) => want_memory(out),
+        },
+        None => match serve_first(rt, alloc, doors, count, &config) {
+            Ok(log) => print_log(alloc, log.as_slice(), &[], status_of(log.as_slice()), out),
+            Err(_) => want_memory(out),
+        },
     }
 }
 

@@ -4,5 +4,6 @@ mod Receiving
 mod Refusing
 mod Assembling
 mod Causing
+mod Calling
 pub mod Services
 pub mod Runs

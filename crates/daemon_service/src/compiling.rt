@@ -10,6 +10,7 @@ ghost use Rattle.daemon_service.specs.Replies as replies;
 ghost use Rattle.daemon_service.specs.Replies.{with_program, compile_bounds};
 ghost use Rattle.daemon_service.specs.Parts.{Made};
 ghost use Rattle.daemon_service.specs.Services.{StationCause};
+ghost use Rattle.daemon_service.specs.Calls.{Tries, Asks};
 
 use crate::{Compilers, Served};
 use arg_strip::{is_remote, placed};
@@ -119,6 +120,7 @@ fn compile<S: Station>(
     ensures same { SameRelation3 (S.ran station.old) (S.ran station.new) }
     ensures faults { (S.shows station.old).faults ≤ (S.shows station.new).faults }
     ensures overruns { (S.shows station.old).overruns ≤ (S.shows station.new).overruns }
+    ensures calls { Tries S.goes program.now request.now station.old station.new result }
 {
     let words = placed(alloc, &request.words)?;
     let words = exchange_first(words, program.copy()?);
@@ -138,6 +140,7 @@ pub(crate) fn make_outcome<S: Station>(
     ensures same { SameRelation3 (S.ran station.old) (S.ran station.new) }
     ensures faults { (S.shows station.old).faults ≤ (S.shows station.new).faults }
     ensures overruns { (S.shows station.old).overruns ≤ (S.shows station.new).overruns }
+    ensures calls { Asks S.goes table.now.rows request.now station.old station.new result }
 {
     let name = first_word(&request.words);
     let Some(program) = table.program(name) else {

@@ -1,6 +1,7 @@
 ghost use Rattle.std.specs.Prelude.{◌≡◌, ◌≤◌, length, IfOk};
 ghost use Rattle.edge_traits.specs.Told.{SameRelation3};
 ghost use Rattle.daemon_service.specs.Services.{Service, IsUnused, LinkCause, StationCause};
+ghost use Rattle.daemon_service.specs.Calls.{Calls};
 
 use crate::compiling::make_outcome;
 use crate::reading::read_request;
@@ -41,6 +42,9 @@ pub fn serve_connection<L: Link, S: Station>(
     ensures same { SameRelation3 (S.ran station.old) (S.ran station.new) }
     ensures faults { (S.shows station.old).faults ≤ (S.shows station.new).faults }
     ensures overruns { (S.shows station.old).overruns ≤ (S.shows station.new).overruns }
+
+    // What the station says of its runs holds of the one that was made.
+    ensures calls { Calls S.goes table.now.rows station.old station.new result }
 {
     let Ok(mut room) = make_room(alloc) else {
         return Served::Memory;

@@ -3,11 +3,12 @@
 ghost use Rattle.std.specs.Prelude.{◌≡◌, false, IfOk};
 ghost use Rattle.edge_memory.specs.Sinks.{sink_state, sink_shows};
 
-use crate::scripts::{REQUEST, door, numbers};
+use crate::scripts::{REPLY, REQUEST, door, numbers};
 use daemon_program::farmd;
 use daemon_worker::DoorKit;
 use edge_memory::{GateStation, MemDoor, MemSink, MemStation, Moves, RanList};
 use edge_traits::{CallNumbers, Station};
+use farm_types::{Bytes, Ran};
 use std::alloc::{AllocError, Global};
 use std::process::Abort;
 use std::test::Fail;
@@ -94,6 +95,22 @@ const ROWS: &[Row] = &[
         accepts_fail: &[1],
         out: "door 1 conn 1 door fault\n",
         status: 107,
+        ..ONE
+    },
+    // the same compile twice, beside a book: 7 bytes of words and 11 of source
+    Row {
+        words: &[
+            "--compiler",
+            "scc=scc",
+            "--jobs",
+            "1",
+            "--serve",
+            "2",
+            "--cache",
+            "1",
+        ],
+        doors: &[&[REQUEST, REQUEST]],
+        out: "door 1 conn 1 answered 00000000\ndoor 1 conn 2 answered 00000000\ncache door 1 hits 1 misses 1 unkept 0 bytes 18\n",
         ..ONE
     },
     // fewer doors than jobs, and more
@@ -259,6 +276,66 @@ const STOPPED: &[Row] = &[
 #[test]
 fn a_sink_that_stops(rt: HostRuntime) -> Result<(), Fail> {
     expect_rows(&rt, rt.alloc(), STOPPED)
+}
+
+const CACHED: Row = Row {
+    words: &[
+        "--compiler",
+        "scc=scc",
+        "--jobs",
+        "1",
+        "--serve",
+        "2",
+        "--cache",
+        "1",
+    ],
+    doors: &[&[REQUEST, REQUEST]],
+    out: "door 1 conn 1 answered 00000000\ndoor 1 conn 2 answered 00000000\ncache door 1 hits 1 misses 1 unkept 0 bytes 31\n",
+    ..ONE
+};
+
+// A station whose first run makes an object, and no other does.
+fn compiling(alloc: Global) -> Result<MemStation, AllocError> {
+    let mut rans = RanList::new(alloc);
+    rans.try_push(Ran {
+        status: 0,
+        out: Bytes::new(alloc),
+        err: Bytes::new(alloc),
+        object: Bytes::from_slice(alloc, b"SCO1\ndef a 1\n")?,
+    })?;
+    Ok(MemStation::new(rans, CallNumbers::new(alloc)))
+}
+
+fn expect_replies<R: Abort>(
+    rt: &R,
+    alloc: Global,
+    door: MemDoor,
+    count: usize,
+) -> Result<(), Fail> {
+    let visits = door.into_visits().into_items(alloc)?;
+    assert_eq!(rt; visits.len(), count);
+    for visit in visits.as_slice() {
+        assert_eq!(rt; visit.sent.as_slice(), REPLY);
+    }
+    Ok(())
+}
+
+// The same compile twice beside a book: both are answered alike, by one run.
+#[test]
+fn a_cache(rt: HostRuntime) -> Result<(), Fail> {
+    let mut doors = Vec::new(rt.alloc());
+    doors.push(DoorKit {
+        door: door(rt.alloc(), &[REQUEST, REQUEST], &[], &[])?,
+        station: compiling(rt.alloc())?,
+    })?;
+    expect(&rt, rt.alloc(), &CACHED, &mut doors)?;
+    let Some(DoorKit { door, station }) = doors.pop() else {
+        return Err("there is no door".into());
+    };
+    expect_replies(&rt, rt.alloc(), door, 2)?;
+    let runs = station.into_runs().into_items(rt.alloc())?;
+    assert_eq!(rt; runs.len(), 1);
+    Ok(())
 }
 
 const SIDE_BY_SIDE: Row = Row {

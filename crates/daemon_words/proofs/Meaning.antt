@@ -42,6 +42,7 @@ one_in value a b (Some option.Port) p q = p ∙ sym q
 one_in value a b (Some option.Listen) p q = p ∙ sym q
 one_in value a b (Some option.Jobs) p q = p ∙ sym q
 one_in value a b (Some option.Serve) p q = p ∙ sym q
+one_in value a b (Some option.Cache) p q = p ∙ sym q
 one_in value a b None p q = p ∙ sym q
 
 pub same_rules : (words : List (List ℕ)) (a b : List Rule) → AreRules words a → AreRules words b → a ≡ b
@@ -71,6 +72,7 @@ found_small value (Some rule) (Some option.Port) is = absurd (cc is)
 found_small value (Some rule) (Some option.Listen) is = absurd (cc is)
 found_small value (Some rule) (Some option.Jobs) is = absurd (cc is)
 found_small value (Some rule) (Some option.Serve) is = absurd (cc is)
+found_small value (Some rule) (Some option.Cache) is = absurd (cc is)
 found_small value (Some rule) None is = absurd (cc is)
 
 all_small : (words : List (List ℕ)) (rules : List Rule) → AreRules words rules → All IsSmall rules
@@ -111,6 +113,7 @@ stepped option.Port value before options next found sets is = kept options next 
 stepped option.Listen value before options next found sets is = kept options next found (ap (λ o. o.rules) sets.2) is
 stepped option.Jobs value before options next found sets is = kept options next found (ap (λ o. o.rules) sets.2) is
 stepped option.Serve value before options next found sets is = kept options next found (ap (λ o. o.rules) sets.2) is
+stepped option.Cache value before options next found sets is = kept options next found (ap (λ o. o.rules) sets.2) is
 stepped option.Allow value before options next found sets is = added options next found (ap (λ o. o.rules) sets.next_is) sets.room
 stepped option.Deny value before options next found sets is = added options next found (ap (λ o. o.rules) sets.next_is) sets.room
 
@@ -199,13 +202,14 @@ positive_within : (most greatest : ℕ) (value : List ℕ) (n : ℕ) → IsPosit
 positive_within most greatest value n is = (is.some, is.number.high)
 
 set_within : (name : OptionName) (value : List ℕ) (before : List (List ℕ)) (options next : Options) → Sets name value before options next → AreWithin options → AreWithin next
-set_within option.Compiler value before options next sets within = subst AreWithin (sym sets.next_is) (record { port = within.port; jobs = within.jobs; serve = within.serve })
-set_within option.Port value before options next sets within = subst AreWithin (sym sets.2) (record { port = positive_within 5 65535 value sets.0 sets.1; jobs = within.jobs; serve = within.serve })
-set_within option.Listen value before options next sets within = subst AreWithin (sym sets.2) (record { port = within.port; jobs = within.jobs; serve = within.serve })
-set_within option.Jobs value before options next sets within = subst AreWithin (sym sets.2) (record { port = within.port; jobs = positive_within 2 16 value sets.0 sets.1; serve = within.serve })
-set_within option.Serve value before options next sets within = subst AreWithin (sym sets.2) (record { port = within.port; jobs = within.jobs; serve = positive_within 6 100000 value sets.0 sets.1 })
-set_within option.Allow value before options next sets within = subst AreWithin (sym sets.next_is) (record { port = within.port; jobs = within.jobs; serve = within.serve })
-set_within option.Deny value before options next sets within = subst AreWithin (sym sets.next_is) (record { port = within.port; jobs = within.jobs; serve = within.serve })
+set_within option.Compiler value before options next sets within = subst AreWithin (sym sets.next_is) (record { port = within.port; jobs = within.jobs; serve = within.serve; cache = within.cache })
+set_within option.Port value before options next sets within = subst AreWithin (sym sets.2) (record { port = positive_within 5 65535 value sets.0 sets.1; jobs = within.jobs; serve = within.serve; cache = within.cache })
+set_within option.Listen value before options next sets within = subst AreWithin (sym sets.2) (record { port = within.port; jobs = within.jobs; serve = within.serve; cache = within.cache })
+set_within option.Jobs value before options next sets within = subst AreWithin (sym sets.2) (record { port = within.port; jobs = positive_within 2 16 value sets.0 sets.1; serve = within.serve; cache = within.cache })
+set_within option.Serve value before options next sets within = subst AreWithin (sym sets.2) (record { port = within.port; jobs = within.jobs; serve = positive_within 6 100000 value sets.0 sets.1; cache = within.cache })
+set_within option.Cache value before options next sets within = subst AreWithin (sym sets.2) (record { port = within.port; jobs = within.jobs; serve = within.serve; cache = positive_within 3 128 value sets.0 sets.1 })
+set_within option.Allow value before options next sets within = subst AreWithin (sym sets.next_is) (record { port = within.port; jobs = within.jobs; serve = within.serve; cache = within.cache })
+set_within option.Deny value before options next sets within = subst AreWithin (sym sets.next_is) (record { port = within.port; jobs = within.jobs; serve = within.serve; cache = within.cache })
 
 within_pair : (value : List ℕ) (before : List (List ℕ)) (options final : Options) (more : Options → Type 0) → ((next : Options) → more next → AreWithin next → AreWithin final)
     → (here : Option OptionName) → PairIs value before options more (Ok final) here → AreWithin options → AreWithin final
@@ -223,7 +227,7 @@ reads_within before options (word ∷ value ∷ more) final reads within =
 served_within : (words : List (List ℕ)) (options : Options) (read : Result Options ℕ) → Reads [] nothing_given words read → Ok (Serve options) ≡ served read → AreWithin options
 served_within words options (Ok final) reads same =
     let is : final ≡ options = cc same in
-    subst AreWithin is (reads_within [] nothing_given words final reads (record { port = tt; jobs = tt; serve = tt }))
+    subst AreWithin is (reads_within [] nothing_given words final reads (record { port = tt; jobs = tt; serve = tt; cache = tt }))
 served_within words options (Err place) reads same = absurd (cc same)
 
 first_within : (words : List (List ℕ)) (options : Options) (first : Option Command) → asked words ≡ first → ByFirst words (Ok (Serve options)) first → AreWithin options

@@ -128,6 +128,7 @@ one_set option.Port value before options a b p q = p.2 ∙ ap (λ n. record opti
 one_set option.Listen value before options a b p q = p.2 ∙ ap (λ n. record options { listen = Some n }) (one_address value p.0 q.0 p.1 q.1) ∙ sym q.2
 one_set option.Jobs value before options a b p q = p.2 ∙ ap (λ n. record options { jobs = Some n }) (one_positive p.0 q.0 p.1 q.1) ∙ sym q.2
 one_set option.Serve value before options a b p q = p.2 ∙ ap (λ n. record options { serve = Some n }) (one_positive p.0 q.0 p.1 q.1) ∙ sym q.2
+one_set option.Cache value before options a b p q = p.2 ∙ ap (λ n. record options { cache = Some n }) (one_positive p.0 q.0 p.1 q.1) ∙ sym q.2
 one_set option.Allow value before options a b p q = p.next_is ∙ sym q.next_is
 one_set option.Deny value before options a b p q = p.next_is ∙ sym q.next_is
 

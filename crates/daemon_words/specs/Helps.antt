@@ -23,6 +23,8 @@ help =
     ++ codes "                           100000, in place of 100000\n"
     ++ codes "  --allow ADDRESS[/BITS]   let in peers of this network\n"
     ++ codes "  --deny ADDRESS[/BITS]    leave peers of this network\n"
+    ++ codes "  --cache N                answer repeated compiles from memory: at most N MiB at\n"
+    ++ codes "                           each of these doors, 1 to 128\n"
     ++ codes "\n"
     ++ codes "The first rule that matches decides. Without rules every peer is let in; with\n"
     ++ codes "rules, one that matches none is not.\n"

@@ -13,4 +13,5 @@ option_named word =
     else (if bytes_eq word (codes "--serve") then Some option.Serve
     else (if bytes_eq word (codes "--allow") then Some option.Allow
     else (if bytes_eq word (codes "--deny") then Some option.Deny
-    else None))))))
+    else (if bytes_eq word (codes "--cache") then Some option.Cache
+    else None)))))))

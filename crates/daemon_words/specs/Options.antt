@@ -1,5 +1,5 @@
 -- What the options say, by their words: each option is a name and a value.
-use Rattle.std.specs.Prelude.{◌≡◌, ℕ, ◌+◌, ◌<◌, ◌≤◌, ◌==◌, ◌||◌, ◌&&◌, ◌⊎◌, Bool, true, false, List, [], ◌∷◌, ◌++◌, length, take, drop, codes, bytes_eq, Option, Some, None, is_some, Result, Ok, Err, if◌then◌else◌}
+use Rattle.std.specs.Prelude.{◌≡◌, ℕ, ◌+◌, ◌*◌, ◌<◌, ◌≤◌, ◌==◌, ◌||◌, ◌&&◌, ◌⊎◌, Bool, true, false, List, [], ◌∷◌, ◌++◌, length, take, drop, codes, bytes_eq, Option, Some, None, is_some, Result, Ok, Err, if◌then◌else◌}
 use Rattle.std.specs.List.{position_or_len}
 use Rattle.access_list.specs.declared.rule.Rule.{Rule}
 use Rattle.access_list.specs.Addresses.{IsNumber, IsAddress}
@@ -10,7 +10,7 @@ use Rattle.daemon_words.specs.declared.options.Options.{Options}
 use Rattle.daemon_words.specs.Names.{option_named}
 
 abbrev pub nothing_given : Options
-nothing_given = record { port = None; listen = None; jobs = None; serve = None; compilers = 0; rules = 0 }
+nothing_given = record { port = None; listen = None; jobs = None; serve = None; cache = None; compilers = 0; rules = 0 }
 
 -- an option stood already that may stand once
 abbrev pub is_given : Options → OptionName → Bool
@@ -18,6 +18,7 @@ is_given options option.Port = is_some options.port
 is_given options option.Listen = is_some options.listen
 is_given options option.Jobs = is_some options.jobs
 is_given options option.Serve = is_some options.serve
+is_given options option.Cache = is_some options.cache
 is_given options option.Compiler = false
 is_given options option.Allow = false
 is_given options option.Deny = false
@@ -77,6 +78,7 @@ Sets option.Port value before options next = (n : ℕ) × IsPositive 5 65535 val
 Sets option.Listen value before options next = (addr : ℕ) × IsAddress value addr × (next ≡ record options { listen = Some addr })
 Sets option.Jobs value before options next = (n : ℕ) × IsPositive 2 16 value n × (next ≡ record options { jobs = Some n })
 Sets option.Serve value before options next = (n : ℕ) × IsPositive 6 100000 value n × (next ≡ record options { serve = Some n })
+Sets option.Cache value before options next = (n : ℕ) × IsPositive 3 128 value n × (next ≡ record options { cache = Some n })
 Sets option.Allow value before options next = AddsRule true value options next
 Sets option.Deny value before options next = AddsRule false value options next
 
@@ -112,3 +114,13 @@ pub record AreWithin (options : Options) : Type 0 where
   pub port : IsWithin 1 65535 options.port
   pub jobs : IsWithin 1 16 options.jobs
   pub serve : IsWithin 1 100000 options.serve
+  pub cache : IsWithin 1 128 options.cache
+
+-- the bytes of a number of MiB
+abbrev pub mebibytes : Option ℕ → Option ℕ
+mebibytes None = None
+mebibytes (Some n) = Some (n * 1048576)
+
+-- how many bytes the book of each door's station may have, where there are books
+abbrev pub book_bound : Options → Option ℕ
+book_bound options = mebibytes options.cache

@@ -21,6 +21,8 @@ Options, in any order:
                            100000, in place of 100000
   --allow ADDRESS[/BITS]   let in peers of this network
   --deny ADDRESS[/BITS]    leave peers of this network
+  --cache N                answer repeated compiles from memory: at most N MiB at
+                           each of these doors, 1 to 128
 
 The first rule that matches decides. Without rules every peer is let in; with
 rules, one that matches none is not.

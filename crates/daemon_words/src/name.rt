@@ -20,6 +20,8 @@ pub enum OptionName {
     Allow,
     /// `--deny`
     Deny,
+    /// `--cache`
+    Cache,
 }
 
 // The option that a word names.
@@ -34,6 +36,7 @@ pub(crate) fn parse_option(word: &str) -> Option<OptionName>
         "--serve" => Some(OptionName::Serve),
         "--allow" => Some(OptionName::Allow),
         "--deny" => Some(OptionName::Deny),
+        "--cache" => Some(OptionName::Cache),
         _ => None,
     }
 }

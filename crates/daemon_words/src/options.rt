@@ -2,7 +2,7 @@
 
 ghost use Rattle.std.specs.Prelude.{◌≡◌, unwrap_or};
 ghost use Rattle.daemon_words.specs.Options as says;
-ghost use Rattle.daemon_words.specs.Options.{nothing_given, is_given};
+ghost use Rattle.daemon_words.specs.Options.{nothing_given, is_given, book_bound};
 
 use crate::name::{OptionName, parse_option};
 
@@ -12,6 +12,8 @@ const PORT: u16 = 3632;
 const JOBS: u8 = 4;
 /// The number of connections of a door where none is given.
 const SERVE: u32 = 100_000;
+/// The bytes of one MiB.
+const MEBIBYTE: u64 = 1_048_576;
 
 /// What the options say; of the compilers and the rules, how many there are.
 #[derive(Clone, Copy, Debug, PartialEq, Eq)]
@@ -24,6 +26,8 @@ pub struct Options {
     pub jobs: Option<u8>,
     /// 1 to 100,000.
     pub serve: Option<u32>,
+    /// 1 to 128, in MiB.
+    pub cache: Option<u8>,
     pub compilers: u32,
     pub rules: u32,
 }
@@ -38,6 +42,7 @@ impl Options {
             listen: None,
             jobs: None,
             serve: None,
+            cache: None,
             compilers: 0,
             rules: 0,
         }
@@ -71,6 +76,16 @@ impl Options {
         self.serve.unwrap_or(SERVE)
     }
 
+    /// How many bytes the book of each door's station may have; None where there are no books.
+    pub fn book_bound(&self) -> Option<u64>
+        ensures { result ≡ book_bound self.now }
+    {
+        match self.cache {
+            Some(mebibytes) => Some(u64::from(mebibytes) * MEBIBYTE),
+            None => None,
+        }
+    }
+
     // Whether an option stood already that may stand once.
     fn is_given(&self, option: OptionName) -> bool
         ensures { result ≡ is_given self.now option }
@@ -80,6 +95,7 @@ impl Options {
             OptionName::Listen => self.listen.is_some(),
             OptionName::Jobs => self.jobs.is_some(),
             OptionName::Serve => self.serve.is_some(),
+            OptionName::Cache => self.cache.is_some(),
             OptionName::Compiler | OptionName::Allow | OptionName::Deny => false,
         }
     }

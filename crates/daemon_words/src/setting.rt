@@ -142,6 +142,19 @@ fn set_serve(options: &Options, value: &[u8]) -> Option<Options>
     })
 }
 
+fn set_cache(options: &Options, value: &[u8]) -> Option<Options>
+    ensures found { IfSome result (Sets names.Cache value.now [] options.now) }
+    ensures none { IfNone result (IsWrong names.Cache value.now [] options.now) }
+{
+    let Some(mebibytes) = read_positive(value, 3, 128) else {
+        return None;
+    };
+    Some(Options {
+        cache: Some(mebibytes as u8),
+        ..*options
+    })
+}
+
 /// What the options say with one more behind these words. None where its value isn't right.
 pub(crate) fn set_option(
     options: &Options,
@@ -158,6 +171,7 @@ pub(crate) fn set_option(
         OptionName::Listen => set_listen(options, value),
         OptionName::Jobs => set_jobs(options, value),
         OptionName::Serve => set_serve(options, value),
+        OptionName::Cache => set_cache(options, value),
         OptionName::Allow => add_rule(options, true, value),
         OptionName::Deny => add_rule(options, false, value),
     }

@@ -7,6 +7,8 @@ use Rattle.std.proofs.Math.Seq.{take-append_seam, drop-append-add}
 use Rattle.std.proofs.lemmas.List.{length-map, append-nil, take-append-drop}
 use Rattle.farm_types.specs.declared.placed.Word.{Word}
 use Rattle.farm_types.specs.declared.ran.Ran.{Ran}
+use Rattle.edge_traits.specs.declared.faults.Bounds.{Bounds}
+use Rattle.edge_traits.specs.declared.faults.StationFault.{StationFault}
 use Rattle.edge_traits.specs.Doors.{DoorView}
 use Rattle.edge_traits.specs.Stations.{StationView}
 use Rattle.access_list.specs.declared.rule.Rule.{Rule}
@@ -15,6 +17,7 @@ use Rattle.daemon_worker.specs.declared.log.DoorKit.{DoorKit}
 use Rattle.daemon_worker.specs.declared.log.Entry.{Entry}
 use Rattle.daemon_worker.specs.declared.worker.Worker.{Worker}
 use Rattle.daemon_worker.specs.Logs.{DoorServed, LogGrew, DoorsServed}
+use Rattle.daemon_worker.specs.Paths.{DoorsPaths}
 use Rattle.daemon_worker.specs.Workers.{Worked, kit_of, log_of}
 use Rattle.daemon_worker.proofs.Logging.{few_entries}
 
@@ -25,9 +28,9 @@ from_empty table rules ran serve door old new before after log_before log_after 
     let is : grew.entries ≡ log_after = sym (grew.grew ∙ ap (λ l. l ++ grew.entries) empty) in
     subst (λ l. DoorServed table rules serve door ran old new before after l) is grew.served
 
-module _ {A S : Type 0} (table : List Compiler) (rules : List Rule) (serve : ℕ) (door : A → DoorView) (station : S → StationView) (ran : S → List Word → List ℕ → Ran → Type 0) where
+module _ {A S : Type 0} (table : List Compiler) (rules : List Rule) (serve : ℕ) (door : A → DoorView) (station : S → StationView) (ran : S → List Word → List ℕ → Ran → Type 0) (goes : S → List Word → List ℕ → Bounds → Result Ran StationFault → S → Type 0) where
   doors_worked : (first : ℕ) (vs ws : List (Worker A S)) → length ws ≡ length vs
-      → ((i n : ℕ) (d : Worker A S) → n ≡ first + i → i < length vs → Worked table rules serve door station ran n (get_or vs i d) (get_or ws i d))
+      → ((i n : ℕ) (d : Worker A S) → n ≡ first + i → i < length vs → Worked table rules serve door station ran goes n (get_or vs i d) (get_or ws i d))
       → DoorsServed table rules serve door station ran first (map kit_of vs) (map kit_of ws) (flat_map log_of ws)
   doors_worked first [] [] same each = refl
   doors_worked first [] (w ∷ ws) same each = absurd (omega (arith, same))
@@ -36,18 +39,37 @@ module _ {A S : Type 0} (table : List Compiler) (rules : List Rule) (serve : ℕ
     log_of w,
     flat_map log_of ws,
     refl,
-    each zero first v (omega arith) (omega arith),
+    (each zero first v (omega arith) (omega arith)).0,
     doors_worked (suc first) vs ws (omega (arith, same)) (λ i n d place below. each (suc i) n d (omega (arith, place)) (omega (arith, below))),
   )
 
-  module _ (vs ws : List (Worker A S)) (same : length ws ≡ length vs) (each : (i : ℕ) (d : Worker A S) → i < length vs → Worked table rules serve door station ran (i + 1) (get_or vs i d) (get_or ws i d)) where
+  doors_went : (first : ℕ) (vs ws : List (Worker A S)) → length ws ≡ length vs
+      → ((i n : ℕ) (d : Worker A S) → n ≡ first + i → i < length vs → Worked table rules serve door station ran goes n (get_or vs i d) (get_or ws i d))
+      → DoorsPaths goes table first (map kit_of vs) (map kit_of ws) (flat_map log_of ws)
+  doors_went first [] [] same each = refl
+  doors_went first [] (w ∷ ws) same each = absurd (omega (arith, same))
+  doors_went first (v ∷ vs) [] same each = absurd (omega (arith, same))
+  doors_went first (v ∷ vs) (w ∷ ws) same each = (
+    log_of w,
+    flat_map log_of ws,
+    refl,
+    (each zero first v (omega arith) (omega arith)).1,
+    doors_went (suc first) vs ws (omega (arith, same)) (λ i n d place below. each (suc i) n d (omega (arith, place)) (omega (arith, below))),
+  )
+
+  module _ (vs ws : List (Worker A S)) (same : length ws ≡ length vs) (each : (i : ℕ) (d : Worker A S) → i < length vs → Worked table rules serve door station ran goes (i + 1) (get_or vs i d) (get_or ws i d)) where
     pub all_worked : DoorsServed table rules serve door station ran 1 (map kit_of vs) (map kit_of ws) (flat_map log_of ws)
     all_worked = doors_worked 1 vs ws same (λ i n d place below.
         let is : i + 1 ≡ n = omega (arith, place) in
-        subst (λ m. Worked table rules serve door station ran m (get_or vs i d) (get_or ws i d)) is (each i d below))
+        subst (λ m. Worked table rules serve door station ran goes m (get_or vs i d) (get_or ws i d)) is (each i d below))
+
+    pub all_went : DoorsPaths goes table 1 (map kit_of vs) (map kit_of ws) (flat_map log_of ws)
+    all_went = doors_went 1 vs ws same (λ i n d place below.
+        let is : i + 1 ≡ n = omega (arith, place) in
+        subst (λ m. Worked table rules serve door station ran goes m (get_or vs i d) (get_or ws i d)) is (each i d below))
 
     each_few : (i : ℕ) (d : Worker A S) → i < length ws → length (log_of (get_or ws i d)) ≤ serve
-    each_few i d below = few_entries table rules _ serve (i + 1) _ _ _ _ _ (each i d (omega (arith, below, same)))
+    each_few i d below = few_entries table rules _ serve (i + 1) _ _ _ _ _ (each i d (omega (arith, below, same))).0
 
     logs_few : (us : List (Worker A S)) → ((i : ℕ) (d : Worker A S) → i < length us → length (log_of (get_or us i d)) ≤ serve) → length (flat_map log_of us) ≤ length us * serve
     logs_few [] few = omega arith
@@ -82,15 +104,25 @@ nothing_left [] none = refl
 nothing_left (x ∷ xs) none = absurd (omega (arith, none))
 
 module _ {A S : Type 0} (table : List Compiler) (rules : List Rule) (serve : ℕ) (door : A → DoorView) (station : S → StationView) (ran : S → List Word → List ℕ → Ran → Type 0) where
-  pub first_served : (vs ws : List (Worker A S)) (same : length ws ≡ length vs) (each : (i : ℕ) (d : Worker A S) → i < length vs → Worked table rules serve door station ran (i + 1) (get_or vs i d) (get_or ws i d))
+  pub first_served : (goes : S → List Word → List ℕ → Bounds → Result Ran StationFault → S → Type 0) (vs ws : List (Worker A S)) (same : length ws ≡ length vs) (each : (i : ℕ) (d : Worker A S) → i < length vs → Worked table rules serve door station ran goes (i + 1) (get_or vs i d) (get_or ws i d))
       (count : ℕ) (olds news others left : List (DoorKit A S)) (log : List Entry) → length vs ≡ count → map kit_of vs ++ others ≡ olds → news ≡ map kit_of ws ++ left → log ≡ flat_map log_of ws
       → DoorsServed table rules serve door station ran 1 (take count olds) (take count news) log
-  first_served vs ws same each count olds news others left log many before after joined =
+  first_served goes vs ws same each count olds news others left log many before after joined =
       let first : take count olds ≡ map kit_of vs = first_of count (map kit_of vs) others olds (kits_many count vs many) before in
       let last : take count news ≡ map kit_of ws = first_of count (map kit_of ws) left news (kits_many count ws (same ∙ many)) (sym after) in
       subst (λ l. DoorsServed table rules serve door station ran 1 l (take count news) log) (sym first)
       (subst (λ l. DoorsServed table rules serve door station ran 1 (map kit_of vs) l log) (sym last)
-      (subst (λ l. DoorsServed table rules serve door station ran 1 (map kit_of vs) (map kit_of ws) l) (sym joined) (all_worked table rules serve door station ran vs ws same each)))
+      (subst (λ l. DoorsServed table rules serve door station ran 1 (map kit_of vs) (map kit_of ws) l) (sym joined) (all_worked table rules serve door station ran goes vs ws same each)))
+
+  pub first_went : (goes : S → List Word → List ℕ → Bounds → Result Ran StationFault → S → Type 0) (vs ws : List (Worker A S)) (same : length ws ≡ length vs) (each : (i : ℕ) (d : Worker A S) → i < length vs → Worked table rules serve door station ran goes (i + 1) (get_or vs i d) (get_or ws i d))
+      (count : ℕ) (olds news others left : List (DoorKit A S)) (log : List Entry) → length vs ≡ count → map kit_of vs ++ others ≡ olds → news ≡ map kit_of ws ++ left → log ≡ flat_map log_of ws
+      → DoorsPaths goes table 1 (take count olds) (take count news) log
+  first_went goes vs ws same each count olds news others left log many before after joined =
+      let first : take count olds ≡ map kit_of vs = first_of count (map kit_of vs) others olds (kits_many count vs many) before in
+      let last : take count news ≡ map kit_of ws = first_of count (map kit_of ws) left news (kits_many count ws (same ∙ many)) (sym after) in
+      subst (λ l. DoorsPaths goes table 1 l (take count news) log) (sym first)
+      (subst (λ l. DoorsPaths goes table 1 (map kit_of vs) l log) (sym last)
+      (subst (λ l. DoorsPaths goes table 1 (map kit_of vs) (map kit_of ws) l) (sym joined) (all_went table rules serve door station ran goes vs ws same each)))
 
   whole : (count : ℕ) (olds : List (DoorKit A S)) → count ≡ length olds → drop count olds ≡ []
   whole count olds many = nothing_left (drop count olds) (omega (arith, length-drop count olds, many))
@@ -103,6 +135,14 @@ module _ {A S : Type 0} (table : List Compiler) (rules : List Rule) (serve : ℕ
   all_served count olds news log many others served =
       subst (λ l. DoorsServed table rules serve door station ran 1 l news log) (all_taken count olds (whole count olds many))
       (subst (λ l. DoorsServed table rules serve door station ran 1 (take count olds) l log) (all_taken count news (others ∙ whole count olds many)) served)
+
+  pub each_went : {E : Type 0} (goes : S → List Word → List ℕ → Bounds → Result Ran StationFault → S → Type 0) (count : ℕ) (olds news : List (DoorKit A S)) (result : Result (List Entry) E) → count ≡ length olds
+      → IfOk result (λ log. DoorsPaths goes table 1 (take count olds) (take count news) log) → IfOk result (λ _. drop count news ≡ drop count olds)
+      → IfOk result (λ log. DoorsPaths goes table 1 olds news log)
+  each_went goes count olds news (Ok log) many went others =
+      subst (λ l. DoorsPaths goes table 1 l news log) (all_taken count olds (whole count olds many))
+      (subst (λ l. DoorsPaths goes table 1 (take count olds) l log) (all_taken count news (others ∙ whole count olds many)) went)
+  each_went goes count olds news (Err fault) many went others = tt
 
   pub each_served : {E : Type 0} (count : ℕ) (olds news : List (DoorKit A S)) (result : Result (List Entry) E) → count ≡ length olds
       → IfOk result (λ log. DoorsServed table rules serve door station ran 1 (take count olds) (take count news) log) → IfOk result (λ _. drop count news ≡ drop count olds)

@@ -4,6 +4,7 @@ ghost use Rattle.std.specs.Prelude.{◌≡◌, ◌+◌, ◌<◌, ◌≤◌, [], 
 ghost use Rattle.edge_traits.specs.Told.{SameRelation3};
 ghost use Rattle.access_list.specs.Rules.{AreRight};
 ghost use Rattle.daemon_worker.specs.Logs.{LogGrew};
+ghost use Rattle.daemon_worker.specs.Paths.{PathGrew};
 
 use crate::meeting::meet;
 use crate::{DaemonConfig, DoorKit, Entry};
@@ -35,6 +36,7 @@ pub fn serve_door<A: Door, S: Station>(
     requires room { vec_len log.old + config.now.serve ≤ vec_capacity log.old }
     ensures served { LogGrew config.now.table.rows config.now.access.rules config.now.serve door (S.ran kit.new.station)
         (A.shows kit.old.door) (A.shows kit.new.door) (S.shows kit.old.station) (S.shows kit.new.station) log.old.items log.new.items }
+    ensures path { PathGrew S.goes config.now.table.rows door kit.old.station kit.new.station log.old.items log.new.items }
     ensures same { SameRelation3 (S.ran kit.old.station) (S.ran kit.new.station) }
     ensures len { vec_len log.new ≤ vec_len log.old + config.now.serve }
     ensures capacity { vec_capacity log.old ≤ vec_capacity log.new }

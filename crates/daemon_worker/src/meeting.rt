@@ -7,6 +7,7 @@ ghost use Rattle.edge_traits.specs.Doors.{DoorView};
 ghost use Rattle.edge_traits.specs.Links.{IsNew};
 ghost use Rattle.access_list.specs.Rules.{AreRight};
 ghost use Rattle.daemon_worker.specs.Meetings.{Meets};
+ghost use Rattle.daemon_worker.specs.Paths.{MetCalls};
 
 use crate::{DaemonConfig, DoorKit, Met};
 use access_list::Decision;
@@ -31,6 +32,7 @@ fn welcome<A: Door, S: Station>(
     ensures door { (A.shows kit.old.door).faults ≤ (A.shows kit.new.door).faults }
     ensures faults { (S.shows kit.old.station).faults ≤ (S.shows kit.new.station).faults }
     ensures overruns { (S.shows kit.old.station).overruns ≤ (S.shows kit.new.station).overruns }
+    ensures calls { MetCalls S.goes config.now.table.rows kit.old.station kit.new.station result }
 {
     match config.access.decide(addr) {
         Decision::Denied { rule } => {
@@ -57,6 +59,7 @@ pub(crate) fn meet<A: Door, S: Station>(
     ensures door { (A.shows kit.old.door).faults ≤ (A.shows kit.new.door).faults }
     ensures faults { (S.shows kit.old.station).faults ≤ (S.shows kit.new.station).faults }
     ensures overruns { (S.shows kit.old.station).overruns ≤ (S.shows kit.new.station).overruns }
+    ensures calls { MetCalls S.goes config.now.table.rows kit.old.station kit.new.station result }
 {
     match kit.door.accept(alloc) {
         Ok((link, addr)) => welcome(alloc, kit, link, addr, config),

@@ -3,6 +3,7 @@
 ghost use Rattle.std.specs.Prelude.{◌≡◌, ◌≤◌, length, take, drop, IfOk, IfErr};
 ghost use Rattle.access_list.specs.Rules.{AreRight};
 ghost use Rattle.daemon_worker.specs.Logs.{DoorsServed};
+ghost use Rattle.daemon_worker.specs.Paths.{DoorsPaths};
 
 use crate::moving::{join_logs, make_logs, put_back, take_kits};
 use crate::worker::work_all;
@@ -29,6 +30,7 @@ where
     requires right { AreRight config.now.access.rules }
     ensures served { IfOk result (λ log. DoorsServed config.now.table.rows config.now.access.rules config.now.serve A.shows S.shows S.ran 1
         (take count doors.old.items) (take count doors.new.items) log) }
+    ensures paths { IfOk result (λ log. DoorsPaths S.goes config.now.table.rows 1 (take count doors.old.items) (take count doors.new.items) log) }
     ensures others { IfOk result (λ _. drop count doors.new.items ≡ drop count doors.old.items) }
     ensures untouched { IfErr result (λ _. doors.new.items ≡ doors.old.items) }
 {
@@ -56,6 +58,7 @@ where
     requires serve { (1 ≤ config.now.serve) × (config.now.serve ≤ 100000) }
     requires right { AreRight config.now.access.rules }
     ensures served { IfOk result (λ log. DoorsServed config.now.table.rows config.now.access.rules config.now.serve A.shows S.shows S.ran 1 doors.old.items doors.new.items log) }
+    ensures paths { IfOk result (λ log. DoorsPaths S.goes config.now.table.rows 1 doors.old.items doors.new.items log) }
     ensures untouched { IfErr result (λ _. doors.new.items ≡ doors.old.items) }
 {
     let count = doors.len();

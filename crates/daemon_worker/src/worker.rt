@@ -27,7 +27,7 @@ fn work<A: Door, S: Station>(
     requires at { at < 16 }
     requires right { AreRight config.now.access.rules }
     requires ready { IsReady config.now.serve worker.old }
-    ensures { Worked config.now.table.rows config.now.access.rules config.now.serve A.shows S.shows S.ran (at + 1) worker.old worker.new }
+    ensures { Worked config.now.table.rows config.now.access.rules config.now.serve A.shows S.shows S.ran S.goes (at + 1) worker.old worker.new }
 {
     serve_door(
         alloc,
@@ -53,7 +53,7 @@ where
     requires right { AreRight config.now.access.rules }
     requires ready { All (λ worker. IsReady config.now.serve worker) workers.old }
     ensures each { (at : ℕ) (d : _) → at < length workers.old →
-        Worked config.now.table.rows config.now.access.rules config.now.serve A.shows S.shows S.ran (at + 1) (slice_index_or workers.old at d) (slice_index_or workers.new at d) }
+        Worked config.now.table.rows config.now.access.rules config.now.serve A.shows S.shows S.ran S.goes (at + 1) (slice_index_or workers.old at d) (slice_index_or workers.new at d) }
 {
     thread::for_each_mut(
         rt,
@@ -79,7 +79,7 @@ where
     ensures count { length workers.new.items ≡ length workers.old.items }
     ensures len { vec_len workers.new ≡ vec_len workers.old }
     ensures each { (at : ℕ) (d : _) → at < length workers.old.items →
-        Worked config.now.table.rows config.now.access.rules config.now.serve A.shows S.shows S.ran (at + 1) (slice_index_or workers.old.items at d) (slice_index_or workers.new.items at d) }
+        Worked config.now.table.rows config.now.access.rules config.now.serve A.shows S.shows S.ran S.goes (at + 1) (slice_index_or workers.old.items at d) (slice_index_or workers.new.items at d) }
 {
     let threads = workers.len();
     work_side_by_side(rt, alloc, config, workers.as_mut_slice(), threads);

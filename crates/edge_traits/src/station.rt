@@ -1,6 +1,8 @@
-ghost use Rattle.std.specs.Prelude.{◌≡◌, ℕ, ◌≤◌, List, [], false, IfOk, IfErr, OnOk};
+ghost use Rattle.std.specs.Prelude.{◌≡◌, ℕ, ◌≤◌, List, [], false, Result, IfOk, IfErr, OnOk};
 ghost use Rattle.farm_types.specs.declared.ran.Ran.{Ran};
 ghost use Rattle.farm_types.specs.declared.placed.Word.{Word};
+ghost use Rattle.edge_traits.specs.declared.faults.Bounds.{Bounds as RunBounds};
+ghost use Rattle.edge_traits.specs.declared.faults.StationFault.{StationFault as RunStop};
 ghost use Rattle.edge_traits.specs.Told.{Grew, SameRelation3};
 ghost use Rattle.edge_traits.specs.Stations.{StationView, IsWithin, has_output, run_entries, NoneRose, RunFault};
 
@@ -15,6 +17,10 @@ pub trait Station {
 
     /// A program run by these words on this input may leave this.
     ghost ran: { Self → List Word → List ℕ → Ran → Type 0 };
+
+    /// A run of these words on this input within these bounds, which ended so, may do this to the station. Where a station says
+    /// nothing of it, it is anything.
+    ghost goes: { Self → List Word → List ℕ → RunBounds → Result Ran RunStop → Self → Type 0 } = { λ _ _ _ _ _ _. Unit {0} };
 
     /// Runs the program that the first word names. The object is empty where no word stands for it.
     fn run(
@@ -32,7 +38,8 @@ pub trait Station {
         ensures faults { (shows self.old).faults ≤ (shows self.new).faults }
         ensures overruns { (shows self.old).overruns ≤ (shows self.new).overruns }
         ensures done { OnOk result (NoneRose (shows self.old) (shows self.new)) }
-        ensures cause { IfErr result (RunFault bounds.now (shows self.old) (shows self.new)) };
+        ensures cause { IfErr result (RunFault bounds.now (shows self.old) (shows self.new)) }
+        ensures goes { goes self.old words.now input.now bounds.now result self.new };
 }
 
 /// Whether one of the words stands for the object. It takes no memory.

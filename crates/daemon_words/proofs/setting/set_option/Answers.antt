@@ -11,3 +11,6 @@ returns-in-Jobs-clause-none c = rw c.in-Jobs.is c.set_jobs.ensures.none
 
 pub returns-in-Serve-clause-none : goal.returns-in-Serve-clause-none
 returns-in-Serve-clause-none c = rw c.in-Serve.is c.set_serve.ensures.none
+
+pub returns-in-Cache-clause-none : goal.returns-in-Cache-clause-none
+returns-in-Cache-clause-none c = rw c.in-Cache.is c.set_cache.ensures.none
