@@ -1,0 +1,7 @@
+use Rattle.std.proofs.Common.{rules}
+use Rattle.served_words.specs.Served.{has_path_front}
+use Rattle.served_words.proofs.spellings.has_path_front.Goals as goal
+
+pub returns : goal.returns
+unfolding has_path_front
+returns c = search rules

@@ -1,0 +1,12 @@
+//! What an operand is.
+
+/// What the operand of an option is that takes the next word.
+#[derive(Clone, Copy)]
+pub enum Operand {
+    /// A folder of the compiler's own parts: `-B`.
+    Path,
+    /// An option of the back end: `-mllvm`.
+    Flag,
+    /// A name and a value: `--param`, `-target`.
+    Setting,
+}
