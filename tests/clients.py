@@ -1,8 +1,10 @@
 """Clients of farmd that a test wants: they die, half-close, say too much or nothing, or come all at once."""
+import os
 import socket
 import struct
 import sys
 import threading
+import time
 
 PORT = int(sys.argv[1])
 
@@ -11,8 +13,8 @@ def token(name, number):
     return name + b"%08x" % number
 
 
-def request(compiler, source):
-    words = [compiler, b"-c", b"a.i", b"-o", b"a.o"]
+def request(compiler, source, *options, name=b"a.i"):
+    words = [compiler, *options, b"-c", name, b"-o", b"a.o"]
     text = token(b"DIST", 1) + token(b"ARGC", len(words))
     for word in words:
         text += token(b"ARGV", len(word)) + word
@@ -83,8 +85,33 @@ def all_kinds():
     idle.close()
 
 
+def own_objects(rounds):
+    """Two doors at once: one compiler takes its output away and ends later, the other writes its object meanwhile. Each has its own.
+
+    One source is C and the other C++, so that names of a process and a serial are the same for both objects."""
+    for number in range(rounds):
+        status = number % 2
+        answers = {}
+
+        def ask(word, name, wait):
+            time.sleep(wait)
+            answers[word] = exchange(request(b"shared", b"x", word, name=name))
+
+        asked = [(b"-fremoves-%d" % status, b"a.c", 0), (b"-fwrites", b"b.cc", 0.2)]
+        threads = [threading.Thread(target=ask, args=each) for each in asked]
+        for thread in threads:
+            thread.start()
+        for thread in threads:
+            thread.join()
+        none, written = answers[asked[0][0]], answers[b"-fwrites"]
+        ends = b"DONE00000001STAT%08xSERR00000000SOUT00000000DOTO00000000" % (256 * status)
+        assert none == ends, f"round {number}: the one that took its output away: {none}"
+        assert written.endswith(b"DOTO00000010THE OTHER'S OWN\n"), f"round {number}: the one that wrote: {written}"
+
+
+MODES = {"all": all_kinds, "four": four, "own": lambda: own_objects(int(os.environ.get("ROUNDS", "5")))}
 try:
-    four() if sys.argv[2:] else all_kinds()
+    MODES[sys.argv[2] if sys.argv[2:] else "all"]()
 except (AssertionError, OSError) as error:
     print("FAIL clients.py:", error)
     sys.exit(1)

@@ -1,6 +1,7 @@
 """Objects on a real disk, by a host of this script's own that answers in protocol 1 of distcc.
 
-A source is a number and a letter, as `30000000 B`: its object has so many bytes of this letter. FARM names the program.
+A source is a number and a letter, as `30000000 B`: its object has so many bytes of this letter. FARM names the program, and ROUNDS how often
+two compilers run at once of which one takes its output away.
 """
 import os
 import random
@@ -171,6 +172,41 @@ def other_outputs(folder):
     expect("nothing is left", not leftovers(folder))
 
 
+REMOVER = """#!/bin/sh
+for word; do output=$word; done
+case "$*" in
+*-E*) echo x ;;
+*-fremoves-*) rm -f "$output"; sleep 0.4; case "$*" in *-fremoves-1*) exit 1 ;; esac ;;
+*-fwrites*) sleep 0.1; echo OTHER >"$output"; sleep 0.5 ;;
+esac
+"""
+
+
+def own_objects(folder, rounds):
+    """Two workers at once: one's compiler takes its output away and ends later, the other's writes its object meanwhile. Each has its own."""
+    place = f"{folder}/own"
+    os.mkdir(place)
+    write(f"{place}/cc1", REMOVER)
+    os.chmod(f"{place}/cc1", 0o755)
+    write(f"{place}/a.c", "")
+    write(f"{place}/b.cc", "")
+    os.mkdir(f"{place}/tmp")
+    for number in range(rounds):
+        jobs = f"./cc1 -fremoves-{number % 2} -c a.c -o a.o\n./cc1 -fwrites -c b.cc -o b.o\n"
+        words = [FARM, "build", "--hosts", "--localslots=2", "--workers", "2"]
+        farm = subprocess.run(words, cwd=place, input=jobs.encode(), capture_output=True, env={**os.environ, "TMPDIR": f"{place}/tmp"})
+        with open(f"{place}/b.o", "rb") as file:
+            held = file.read()
+        expect("an object is that of its own compiler", held == b"OTHER\n", (number, held, farm.stdout, farm.stderr))
+        told = b"./cc1: left no object\n" in farm.stderr
+        expect("a compile that left no object is told", told == (number % 2 == 0), (number, farm.stderr))
+        expect("the folder of each run is gone", not os.listdir(f"{place}/tmp"))
+        for name in ("a.o", "b.o"):
+            if os.path.exists(f"{place}/{name}"):
+                os.remove(f"{place}/{name}")
+    print(f"{rounds} rounds of two compilers at once")
+
+
 PORT = start_host(serve)
 work = tempfile.mkdtemp()
 try:
@@ -182,6 +218,7 @@ try:
     limited(work)
     full_disk(work)
     other_outputs(work)
+    own_objects(work, int(os.environ.get("ROUNDS", "5")))
 finally:
     shutil.rmtree(work, ignore_errors=True)
 print(f"tests/delivery: {len(failures)} failed")

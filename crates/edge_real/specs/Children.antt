@@ -18,7 +18,7 @@ use Rattle.edge_traits.specs.declared.faults.FetchFault.TheVariants as fetch
 use Rattle.edge_traits.specs.Stations.{bound_of, has_output}
 use Rattle.edge_real.specs.declared.reading.Reading.{Reading}
 use Rattle.edge_real.specs.declared.reading.Reading.TheVariants as reading
-use Rattle.edge_real.specs.OwnNames.{NamesView, own_name}
+use Rattle.edge_real.specs.RunFolders.{file_in}
 
 -- a stream that is named is above its bound
 abbrev pub IsRunFault : Bounds → StationFault → Type 0
@@ -78,14 +78,14 @@ first_input (Text bytes ∷ words) = first_input words
 first_input (Input ext ∷ words) = Some ext
 first_input (Output ∷ words) = first_input words
 
--- the ending of a name
-abbrev pub ending_text : Ext → List ℕ
-ending_text I = codes "i"
-ending_text Ii = codes "ii"
+-- the name of the input in its folder
+abbrev pub source_text : Ext → List ℕ
+source_text I = codes "input.i"
+source_text Ii = codes "input.ii"
 
--- the name of the file that stands for the input, if one does, and so of the file that stands for the object
-abbrev pub input_name : NamesView → List Word → Option (List ℕ)
-input_name names words = option_map (λ ext. own_name names (ending_text ext)) (first_input words)
+-- the path of the file that stands for the input in this folder, if one does, and so of the file that stands for the object
+abbrev pub input_path : List ℕ → List Word → Option (List ℕ)
+input_path folder words = option_map (λ ext. file_in folder (source_text ext)) (first_input words)
 
-abbrev pub output_name : NamesView → List Word → Option (List ℕ)
-output_name names words = if has_output words then Some (own_name names (codes "o")) else None
+abbrev pub output_path : List ℕ → List Word → Option (List ℕ)
+output_path folder words = if has_output words then Some (file_in folder (codes "output.o")) else None

@@ -3,6 +3,7 @@ pub mod Children
 pub mod Counts
 pub mod Notices
 pub mod OwnNames
+pub mod RunFolders
 pub mod Staging
 pub mod Views
 pub mod Kits

@@ -1,9 +1,7 @@
--- The names of a station's own files.
-use Rattle.std.specs.Prelude.{◌≡◌, ℕ, ◌+◌, ◌%◌, ◌^◌, ◌⊎◌, List, ◌++◌, take, codes, Option, string_bytes}
-use Rattle.std.specs.Option.{option_map}
+-- The names of files that are being written.
+use Rattle.std.specs.Prelude.{◌≡◌, ℕ, ◌+◌, ◌%◌, ◌^◌, ◌⊎◌, List, ◌++◌, take, codes, string_bytes}
 use Rattle.std.specs.Fmt.{decimal}
 use Rattle.edge_real.specs.declared.own_files.OwnNames.{OwnNames}
-use Rattle.edge_real.specs.declared.own_files.OwnFile.{OwnFile}
 
 -- the folder, the number of the process, and the serial of the last name that was made
 pub record NamesView : Type 0 where
@@ -30,14 +28,6 @@ own_name names ending = names.folder ++ (codes "/farm-" ++ decimal names.process
 pub record SameOwner (old new : NamesView) : Type 0 where
   pub folder : new.folder ≡ old.folder
   pub process : new.process ≡ old.process
-
--- the name of a file of a station's own
-abbrev pub name_of : {R F D : Type 0} → OwnFile R F D → List ℕ
-name_of file = string_bytes file.path
-
--- the name of a file that may be there or not
-abbrev pub name_if : {R F D : Type 0} → Option (OwnFile R F D) → Option (List ℕ)
-name_if file = option_map name_of file
 
 -- the last part of the name of a file that is being written: `farm-PROCESS-SERIAL.farm~`
 abbrev pub numbered : ℕ → ℕ → List ℕ

@@ -1,5 +1,5 @@
 -- What the devices of the system show: how they stand and their counts, but no content.
-use Rattle.std.specs.Prelude.{ℕ, Bool, []}
+use Rattle.std.specs.Prelude.{ℕ, Bool, List, [], string_bytes}
 use Rattle.std.specs.FinMap.{empty}
 use Rattle.std.specs.Option.{is_some}
 use Rattle.std.specs.Net.Addr.{ipv4_bits}
@@ -64,9 +64,9 @@ counted_station faults overruns = record { runs = untold []; faults = faults; ov
 abbrev pub station_view : {R : Type 0} → ChildStation R → StationView
 station_view station = counted_station station.faults station.overruns
 
--- the names of a station's own files
-abbrev pub names_of : {R : Type 0} → ChildStation R → NamesView
-names_of station = names_view station.names
+-- the folder in which a station makes those of its runs
+abbrev pub folder_of : {R : Type 0} → ChildStation R → List ℕ
+folder_of station = string_bytes station.folder
 
 abbrev pub counted_files : ℕ → ℕ → FilesView
 counted_files faults overruns = record { files = untold empty; faults = faults; overruns = overruns }

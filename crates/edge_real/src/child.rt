@@ -3,16 +3,16 @@ ghost use Rattle.std.specs.Option.{unwrap_or};
 ghost use Rattle.std.specs.Process.{command_program, command_args, SameEnv, SameDir};
 ghost use Rattle.edge_traits.specs.Stations.{IsWithin, has_output};
 ghost use Rattle.edge_real.specs.Counts.{run_faults, run_overruns};
-ghost use Rattle.edge_real.specs.Children.{IsRunFault, IsStreamFault, NamesNoStream, given_word, CanBeGiven, IsCommandOf, first_input, ending_text, input_name, output_name, taken_of, left_by};
+ghost use Rattle.edge_real.specs.Children.{IsRunFault, IsStreamFault, NamesNoStream, given_word, CanBeGiven, IsCommandOf, first_input, source_text, input_path, output_path, taken_of, left_by};
 ghost use Rattle.edge_real.specs.Reading.{IsReadWithin, IsReadOf, IsLoadFault};
-ghost use Rattle.edge_real.specs.OwnNames.{names_view, first_names, name_if, SameOwner};
-ghost use Rattle.edge_real.specs.Views.{station_view, counted_station, names_of};
+ghost use Rattle.edge_real.specs.RunFolders.{place_of, bytes_if};
+ghost use Rattle.edge_real.specs.Views.{station_view, counted_station, folder_of};
 
 use crate::counting::raise;
 use crate::disk::load;
-use crate::notices::{tell_overrun, tell_unstarted};
-use crate::own_files::{OwnFile, OwnNames};
+use crate::notices::{tell_missing, tell_overrun, tell_unstarted};
 use crate::reading::{Reading, read_to_end};
+use crate::run_folder::RunFolder;
 use edge_traits::{Bounds, FetchFault, Station, StationFault, Stream, has_output};
 use farm_types::{Bytes, Ext, Ran, Word};
 use std::alloc::Global;
@@ -20,41 +20,42 @@ use std::fs::File;
 use std::io::{Eprint, Read, Seek, Write};
 use std::os::unix::process::ExitStatusExt;
 use std::process::{Child, Command, OpenProcess, Processes, Stdio};
+use std::random::RandomSource;
 use std::{rt, str};
 
 /// Runs programs as children of this process, and waits for their ends.
 ///
 /// The program is sought as the system seeks it, in `PATH` where its name has no slash. It has the environment and the folder of this process, and an
-/// empty standard input. The files that stand for `Input` and `Output` are in the folder that the station was given, and are gone when the run
-/// ends, whatever it answers. So is the one that takes its standard error, which has a name only until it is open.
+/// empty standard input. The files that stand for `Input` and `Output`, and the one that takes its standard error, are in a folder that this run
+/// makes and no other can share: it is new, its owner alone may look into it, and its name has a random word. It is gone when the run ends, whatever
+/// it answers, with all that the program left there. No file stands for `Output` until the program makes one.
 ///
 /// Why a run came to nothing stands as a line on the standard error of this process: the program or the file and the system's reason, or the
-/// stream that was too long.
+/// stream that was too long. So does it where a program ended with status 0 and left no object, and where the folder couldn't be removed.
 #[derive(Drop)]
 pub struct ChildStation<R> {
     rt: R,
-    names: OwnNames,
+    folder: String,
     faults: u64,
     overruns: u64,
 }
 
 impl<R: Processes + rt::Files<File = File>> ChildStation<R> {
-    /// A station whose own files are in `folder`. Stations of one process, and of others, with one folder use names of their own: `process` is the
-    /// number of this process, and a name that is there already is passed over.
-    pub fn new(rt: R, folder: String, process: u32) -> ChildStation<R>
+    /// A station that makes the folders of its runs in `folder`. So may any number of stations, of this process and of others.
+    pub fn new(rt: R, folder: String) -> ChildStation<R>
         ensures view { station_view result ≡ counted_station 0 0 }
-        ensures names { names_of result ≡ first_names (string_bytes folder) process }
+        ensures folder { folder_of result ≡ string_bytes folder }
     {
         ChildStation {
             rt,
-            names: OwnNames::new(folder, process),
+            folder,
             faults: 0,
             overruns: 0,
         }
     }
 }
 
-impl<R: Processes + rt::Files<File = File> + Eprint> Station for ChildStation<R> {
+impl<R: Processes + rt::Files<File = File> + RandomSource + Eprint> Station for ChildStation<R> {
     ghost shows = { station_view };
 
     ghost ran = { λ s words input ran. ⊤ };
@@ -70,11 +71,11 @@ impl<R: Processes + rt::Files<File = File> + Eprint> Station for ChildStation<R>
         ensures fault { IfErr result (IsRunFault bounds.now) }
         ensures given { OnOk result (All CanBeGiven words.now) }
         ensures no_object { IfOk result (λ ran. has_output words.now ≡ false → ran.object ≡ []) }
-        ensures names { SameOwner (names_of self.old) (names_of self.new) }
+        ensures folder { folder_of self.new ≡ folder_of self.old }
         ensures faults { (station_view self.new).faults ≡ run_faults result (station_view self.old).faults }
         ensures overruns { (station_view self.new).overruns ≡ run_overruns result (station_view self.old).overruns }
     {
-        let ran = run_child(&self.rt, &mut self.names, alloc, words, input, bounds);
+        let ran = run_child(&self.rt, self.folder.as_str(), alloc, words, input, bounds);
         match ran {
             Ok(_) => {}
             Err(StationFault::TooMuch { stream, bytes }) => {
@@ -89,9 +90,9 @@ impl<R: Processes + rt::Files<File = File> + Eprint> Station for ChildStation<R>
 }
 
 #[tactic(auto, using(crate::proofs::ChildLemmas::unnamed))]
-fn run_child<R: Processes + rt::Files<File = File> + Eprint>(
+fn run_child<R: Processes + rt::Files<File = File> + RandomSource + Eprint>(
     rt: &R,
-    names: &mut OwnNames,
+    folder: &str,
     alloc: Global,
     words: &[Word],
     input: &[u8],
@@ -101,17 +102,23 @@ fn run_child<R: Processes + rt::Files<File = File> + Eprint>(
     ensures fault { IfErr result (IsRunFault bounds.now) }
     ensures given { OnOk result (All CanBeGiven words.now) }
     ensures no_object { IfOk result (λ ran. has_output words.now ≡ false → ran.object ≡ []) }
-    ensures owner { SameOwner (names_view names.old) (names_view names.new) }
 {
-    let source = input_file(rt, names, alloc, words, input)?;
-    let object = output_file(rt, names, alloc, words)?;
-    let mut messages = nameless_file(rt, names, alloc)?;
+    let folder = RunFolder::create(rt, alloc, folder)?;
+    let source = input_file(&folder, words, input)?;
+    let object = output_path(&folder, words)?;
+    let mut messages = messages_file(&folder)?;
     let command = command_of(alloc, words, path_of(&source), path_of(&object))?;
     let child = start(rt, command, &messages)?;
     let (status, out) = run_to_end(child, alloc, bounds.out)?;
     let err = read_again(&mut messages, alloc, bounds.err)?;
     let object = match &object {
-        Some(file) => load_own(rt, alloc, file.path(), bounds.object, Stream::Object)?,
+        Some(path) => {
+            let loaded = load(rt, alloc, path.as_str(), bounds.object);
+            if status == 0 && matches!(loaded, Err(FetchFault::Absent)) {
+                tell_missing(rt, words);
+            }
+            left_by(alloc, loaded, Stream::Object)?
+        }
         None => Bytes::new(alloc),
     };
     Ok(Ran {
@@ -122,24 +129,22 @@ fn run_child<R: Processes + rt::Files<File = File> + Eprint>(
     })
 }
 
-/// The file that stands for `Input`, where it stands in the words.
-fn input_file<'a, R: rt::Files + Eprint>(
-    rt: &'a R,
-    names: &mut OwnNames,
-    alloc: Global,
+/// Makes the file that stands for `Input` in the folder, where it stands in the words, and answers its path.
+fn input_file<R: rt::Files + Eprint>(
+    folder: &RunFolder<'_, R>,
     words: &[Word],
     input: &[u8],
-) -> Result<Option<OwnFile<'a, R>>, StationFault>
-    ensures name { IfOk result (λ file. name_if file ≡ input_name (names_view names.new) words.now) }
-    ensures owner { SameOwner (names_view names.old) (names_view names.new) }
+) -> Result<Option<String>, StationFault>
+    ensures path { IfOk result (λ path. bytes_if path ≡ input_path (place_of folder.now) words.now) }
     ensures fault { IfErr result NamesNoStream }
 {
     let Some(ext) = input_ext(words) else {
         return Ok(None);
     };
-    let (source, mut file) = OwnFile::create(rt, names, alloc, ending_of(ext))?;
+    let path = folder.name_of(source_name(ext))?;
+    let mut file = folder.create_file(path.as_str())?;
     fill(&mut file, input)?;
-    Ok(Some(source))
+    Ok(Some(path))
 }
 
 /// Writes the whole input. It takes no memory.
@@ -153,35 +158,28 @@ fn fill<F: Write>(file: &mut F, input: &[u8]) -> Result<(), StationFault>
     }
 }
 
-/// The file that stands for `Output`, where it stands in the words. It is empty until the program writes it.
-fn output_file<'a, R: rt::Files + Eprint>(
-    rt: &'a R,
-    names: &mut OwnNames,
-    alloc: Global,
+/// The path in the folder that stands for `Output`, where it stands in the words. The program makes the file.
+fn output_path<R: rt::Files + Eprint>(
+    folder: &RunFolder<'_, R>,
     words: &[Word],
-) -> Result<Option<OwnFile<'a, R>>, StationFault>
-    ensures name { IfOk result (λ file. name_if file ≡ output_name (names_view names.new) words.now) }
-    ensures owner { SameOwner (names_view names.old) (names_view names.new) }
+) -> Result<Option<String>, StationFault>
+    ensures path { IfOk result (λ path. bytes_if path ≡ output_path (place_of folder.now) words.now) }
     ensures fault { IfErr result NamesNoStream }
 {
     if !has_output(words) {
         return Ok(None);
     }
-    let (object, _file) = OwnFile::create(rt, names, alloc, "o")?;
-    Ok(Some(object))
+    Ok(Some(folder.name_of("output.o")?))
 }
 
-/// A file for the program's standard error. Its name is gone at once, so that nothing is left of it even where this process is killed.
-fn nameless_file<R: rt::Files<File = File> + Eprint>(
-    rt: &R,
-    names: &mut OwnNames,
-    alloc: Global,
+/// A file in the folder for the program's standard error.
+fn messages_file<R: rt::Files<File = File> + Eprint>(
+    folder: &RunFolder<'_, R>,
 ) -> Result<File, StationFault>
-    ensures owner { SameOwner (names_view names.old) (names_view names.new) }
     ensures fault { IfErr result NamesNoStream }
 {
-    let (_named, file) = OwnFile::create(rt, names, alloc, "err")?;
-    Ok(file)
+    let path = folder.name_of("messages")?;
+    folder.create_file(path.as_str())
 }
 
 #[tactic(auto, using(crate::proofs::WordLemmas::inputs))]
@@ -196,21 +194,22 @@ fn input_ext(words: &[Word]) -> Option<Ext>
     None
 }
 
-fn ending_of(ext: Ext) -> &'static str
-    ensures { result.now ≡ ending_text ext }
+/// The name of the input in its folder.
+fn source_name(ext: Ext) -> &'static str
+    ensures { result.now ≡ source_text ext }
 {
     match ext {
-        Ext::I => "i",
-        Ext::Ii => "ii",
+        Ext::I => "input.i",
+        Ext::Ii => "input.ii",
     }
 }
 
-/// The name of the file, and nothing where there is none.
-fn path_of<'a, R: rt::Files>(file: &'a Option<OwnFile<'_, R>>) -> &'a str
-    ensures { result.now ≡ unwrap_or (name_if file.now) [] }
+/// The path, and nothing where there is none.
+fn path_of(path: &Option<String>) -> &str
+    ensures { result.now ≡ unwrap_or (bytes_if path.now) [] }
 {
-    match file {
-        Some(file) => file.path(),
+    match path {
+        Some(path) => path.as_str(),
         None => "",
     }
 }
@@ -407,21 +406,7 @@ fn taken(reading: Reading, which: Stream) -> Result<Bytes, StationFault>
     }
 }
 
-/// What a file of the station's own holds. One that the program took away holds nothing.
-fn load_own<R: rt::Files>(
-    rt: &R,
-    alloc: Global,
-    path: &str,
-    bound: u32,
-    stream: Stream,
-) -> Result<Bytes, StationFault>
-    ensures within { IfOk result (λ bytes. length bytes ≤ bound) }
-    ensures fault { IfErr result (IsStreamFault stream bound) }
-{
-    left_by(alloc, load(rt, alloc, path, bound), stream)
-}
-
-/// What a program left in a file, by the load of it.
+/// What a program left in a file, by the load of it: one that isn't there holds nothing.
 fn left_by(
     alloc: Global,
     loaded: Result<Bytes, FetchFault>,

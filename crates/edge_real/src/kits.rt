@@ -8,13 +8,14 @@ use std::alloc::{AllocError, Global};
 use std::fs::File;
 use std::net::Net;
 use std::process::Processes;
+use std::random::RandomSource;
 use std::rt;
 
 /// The devices of one worker of `farm`, over the system.
 pub type SystemKit<R> = Kit<TcpDialer<R>, ChildStation<R>, FileKeeper<DiskFiles<R>>, WallClock<R>>;
 
-/// A worker's devices. The files of its own are in `folder`, and `process` is the number of this process.
-pub fn system_kit<R: Net + Processes + rt::Files<File = File> + rt::Clock + Copy>(
+/// A worker's devices. What is of its own is in `folder`, and `process` is the number of this process.
+pub fn system_kit<R: Net + Processes + RandomSource + rt::Files<File = File> + rt::Clock + Copy>(
     rt: R,
     alloc: Global,
     folder: &str,
@@ -25,14 +26,14 @@ pub fn system_kit<R: Net + Processes + rt::Files<File = File> + rt::Clock + Copy
     let staging = String::from_str(alloc, folder)?;
     Ok(Kit {
         dialer: TcpDialer::new(rt),
-        station: ChildStation::new(rt, String::from_str(alloc, folder)?, process),
+        station: ChildStation::new(rt, String::from_str(alloc, folder)?),
         keeper: FileKeeper::new(DiskFiles::new(rt, staging, process)),
         clock: WallClock::new(rt),
     })
 }
 
 /// So many kits.
-pub fn system_kits<R: Net + Processes + rt::Files<File = File> + rt::Clock + Copy>(
+pub fn system_kits<R: Net + Processes + RandomSource + rt::Files<File = File> + rt::Clock + Copy>(
     rt: R,
     alloc: Global,
     folder: &str,

@@ -13,6 +13,7 @@ mod notices;
 mod own_files;
 mod reading;
 mod retrying;
+mod run_folder;
 mod staging;
 mod stream;
 mod tcp;

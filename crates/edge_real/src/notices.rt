@@ -12,9 +12,19 @@ pub fn tell_unstarted<R: Eprint>(rt: &R, program: &str, error: &Error) {
     let _ = eprintln!(rt; "{program}: cannot be started: {error}");
 }
 
-/// A file of the station's own couldn't be made, for the system's reason.
+/// A folder or a file of the station's own couldn't be made, for the system's reason.
 pub fn tell_unmade<R: Eprint>(rt: &R, path: &str, error: &Error) {
     let _ = eprintln!(rt; "{path}: cannot be made: {error}");
+}
+
+/// A folder of the station's own couldn't be removed, for the system's reason.
+pub fn tell_unremoved<R: Eprint>(rt: &R, path: &str, error: &Error) {
+    let _ = eprintln!(rt; "{path}: cannot be removed: {error}");
+}
+
+/// The program ended with status 0, and no file stands where its object was to be.
+pub fn tell_missing<R: Eprint>(rt: &R, words: &[Word]) {
+    let _ = eprintln!(rt; "{}: left no object", program_of(words));
 }
 
 /// The program left more in a stream than is taken.

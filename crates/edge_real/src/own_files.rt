@@ -1,17 +1,9 @@
-ghost use Rattle.std.specs.Prelude.{◌≡◌, true, IfOk, IfErr, string_bytes};
-ghost use Rattle.std.specs.Fs.{asks_read, asks_write, asks_create_new};
-ghost use Rattle.edge_real.specs.Children.{NamesNoStream};
-ghost use Rattle.edge_real.specs.OwnNames.{names_view, first_names, next_names, own_name, name_of, SameOwner, IsBeside, numbered, staged_text};
+ghost use Rattle.std.specs.Prelude.{◌≡◌, IfOk, string_bytes};
+ghost use Rattle.edge_real.specs.OwnNames.{names_view, first_names, next_names, own_name, IsBeside, numbered, staged_text};
 
-use crate::notices::tell_unmade;
-use edge_traits::StationFault;
 use std::alloc::{AllocError, Global};
-use std::fs::OpenOptions;
-use std::io::{Eprint, ErrorKind};
-use std::os::unix::fs::OpenOptionsExt;
-use std::{fs, rt};
 
-/// Names for files of a station's own: `FOLDER/farm-PROCESS-SERIAL.ENDING`.
+/// Names for files that are being written: `FOLDER/farm-PROCESS-SERIAL.ENDING`.
 #[derive(Drop)]
 pub struct OwnNames {
     folder: String,
@@ -91,72 +83,3 @@ fn numbered(alloc: Global, process: u32, serial: u64) -> Result<String, AllocErr
     let name = format!(in alloc; "farm-{process}-{serial}.farm~")?;
     Ok(name)
 }
-
-/// A file of a station's own, which goes away with this value.
-pub struct OwnFile<'a, R: rt::Files> {
-    rt: &'a R,
-    path: String,
-}
-
-impl<'a, R: rt::Files + Eprint> OwnFile<'a, R> {
-    /// A new empty file that its owner alone may read, opened for reading and writing. A name that is there already is passed over.
-    pub fn create(
-        rt: &'a R,
-        names: &mut OwnNames,
-        alloc: Global,
-        ending: &str,
-    ) -> Result<(OwnFile<'a, R>, R::File), StationFault>
-        ensures name { IfOk result (λ made. name_of made.0 ≡ own_name (names_view names.new) ending.now) }
-        ensures owner { SameOwner (names_view names.old) (names_view names.new) }
-        ensures fault { IfErr result NamesNoStream }
-    {
-        for _ in 0..NAMES_TRIED {
-            let path = names.next(alloc, ending)?;
-            match for_owner_alone().open(rt, path.as_str()) {
-                Ok(file) => return Ok((OwnFile { rt, path }, file)),
-                Err(error) => {
-                    if error.kind() != ErrorKind::AlreadyExists {
-                        tell_unmade(rt, path.as_str(), &error);
-                        return Err(StationFault::Failed);
-                    }
-                }
-            }
-        }
-        Err(StationFault::Failed)
-    }
-}
-
-impl<R: rt::Files> OwnFile<'_, R> {
-    /// Where it is.
-    pub fn path(&self) -> &str
-        ensures { result.now ≡ name_of self.now }
-    {
-        self.path.as_str()
-    }
-}
-
-impl<R: rt::Files> Drop for OwnFile<'_, R> {
-    fn drop(self) {
-        let _ = fs::remove_file(self.rt, self.path.as_str());
-        let OwnFile { rt: _, path } = self;
-        drop(path);
-    }
-}
-
-/// How a file of a station's own is opened: it is new, it is written and read, and its owner alone may do so.
-fn for_owner_alone() -> OpenOptions
-    ensures read { asks_read result ≡ true }
-    ensures written { asks_write result ≡ true }
-    ensures is_new { asks_create_new result ≡ true }
-{
-    let mut options = OpenOptions::new();
-    options.mode(OWNER_ALONE);
-    options.read(true).write(true).create_new(true);
-    options
-}
-
-/// How many names are tried before a file is given up.
-const NAMES_TRIED: u32 = 1000;
-
-/// Reading and writing by the file's owner.
-const OWNER_ALONE: u32 = 0o600;

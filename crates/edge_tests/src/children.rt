@@ -1,12 +1,12 @@
 //! Programs that are run as children.
 
-use edge_real::{ChildStation, DiskFiles};
-use edge_traits::{Bounds, FetchFault, Station, StationFault, Stream};
+use edge_real::ChildStation;
+use edge_traits::{Bounds, Station, StationFault, Stream};
 use farm_types::{Bytes, Ext, Ran, Word};
-use object_delivery::Files;
 use std::alloc::{AllocError, Global};
 use std::fs;
 use std::process::Abort;
+use std::rt::Files;
 use std::test::Fail;
 
 const BOUNDS: Bounds = Bounds {
@@ -15,9 +15,9 @@ const BOUNDS: Bounds = Bounds {
     object: 100_000,
 };
 
-fn station(rt: HostRuntime, process: u32) -> Result<ChildStation<HostRuntime>, AllocError> {
+fn station(rt: HostRuntime) -> Result<ChildStation<HostRuntime>, AllocError> {
     let folder = String::from_str(rt.alloc(), ".")?;
-    Ok(ChildStation::new(rt, folder, process))
+    Ok(ChildStation::new(rt, folder))
 }
 
 fn text(alloc: Global, word: &[u8]) -> Result<Word, AllocError> {
@@ -54,57 +54,78 @@ fn run_name<S: Station>(alloc: Global, station: &mut S, name: &[u8]) -> Result<R
     station.run(alloc, &words, b"", &BOUNDS)
 }
 
-/// None of these files is there.
-fn expect_absent<R: Abort, F: Files>(
-    rt: &R,
-    alloc: Global,
-    files: &mut F,
-    names: &[&[u8]],
-) -> Result<(), Fail> {
-    for name in names {
-        let name = Bytes::from_slice(alloc, name)?;
-        assert!(rt; matches!(files.load(alloc, &name, 9), Err(FetchFault::Absent)));
+/// No folder of a run is left.
+fn expect_empty<R: Abort + Files + AllocGlobal + Clone + Drop>(rt: &R) -> Result<(), Fail> {
+    for entry in fs::read_dir(rt, ".")? {
+        let entry = entry?;
+        assert!(rt; !entry.file_name().as_bytes().starts_with(b"farm-"));
     }
     Ok(())
 }
 
-fn files(rt: HostRuntime) -> Result<DiskFiles<HostRuntime>, AllocError> {
-    Ok(DiskFiles::new(rt, String::from_str(rt.alloc(), ".")?, 1))
+/// Whether the bytes are those of a hexadecimal number.
+fn are_digits(text: &[u8]) -> bool {
+    for byte in text {
+        if !byte.is_ascii_hexdigit() {
+            return false;
+        }
+    }
+    true
 }
 
 #[test]
 fn a_child_gives_its_status_outputs_and_object(rt: HostRuntime) -> Result<(), Fail> {
-    let mut station = station(rt, 7)?;
+    let mut station = station(rt)?;
     let ran = run_script(
         rt.alloc(),
         &mut station,
-        b"cat $0 > $1; cat; echo $0; stat -c %a $0 $1; readlink /proc/$$/fd/0; echo no >&2; exit 3",
+        b"test -e $1 && exit 9; cat $0 > $1; cat; stat -c %a ${0%/*} $0; readlink /proc/$$/fd/0; ls ${0%/*}; echo no >&2; exit 3",
         b"int a;\n",
     )?;
     assert_eq!(rt; ran.status, 768);
-    let out: &[u8] = b"./farm-7-1.ii\n600\n600\n/dev/null\n";
+    let out: &[u8] = b"700\n600\n/dev/null\ninput.ii\nmessages\noutput.o\n";
     assert_eq!(rt; ran.out.as_slice(), out);
     assert_eq!(rt; ran.err.as_slice(), b"no\n".as_slice());
     assert_eq!(rt; ran.object.as_slice(), b"int a;\n".as_slice());
-    expect_absent(&rt, rt.alloc(), &mut files(rt)?, OWN_FILES_OF_7)
+    expect_empty(&rt)
 }
 
-const OWN_FILES_OF_7: &[&[u8]] = &[b"farm-7-1.ii", b"farm-7-2.o", b"farm-7-3.err"];
+#[test]
+fn no_two_runs_share_a_folder(rt: HostRuntime) -> Result<(), Fail> {
+    let mut station = station(rt)?;
+    let one = run_script(rt.alloc(), &mut station, b"echo $0; rm $0", b"")?;
+    let other = run_script(rt.alloc(), &mut station, b"echo $0; rm $0", b"")?;
+    for ran in [&one, &other] {
+        let out = ran.out.as_slice();
+        assert_eq!(rt; out.len(), 49);
+        assert!(rt; out.starts_with(b"./farm-"));
+        assert!(rt; are_digits(&out[7..39]));
+        assert_eq!(rt; &out[39..], b"/input.ii\n".as_slice());
+        assert!(rt; ran.object.is_empty());
+    }
+    assert!(rt; one.out.as_slice() != other.out.as_slice());
+    expect_empty(&rt)
+}
 
 #[test]
-fn a_name_that_is_there_is_passed_over(rt: HostRuntime) -> Result<(), Fail> {
-    fs::write(&rt, "farm-6-1.ii", "mine")?;
-    let mut station = station(rt, 6)?;
-    let ran = run_script(rt.alloc(), &mut station, b"echo $0; rm $1", b"int a;\n")?;
-    assert_eq!(rt; ran.out.as_slice(), b"./farm-6-2.ii\n".as_slice());
-    assert!(rt; ran.object.is_empty());
-    assert_eq!(rt; fs::read_to_string(&rt, "farm-6-1.ii")?.as_str(), "mine");
-    Ok(())
+fn what_a_child_left_is_removed(rt: HostRuntime) -> Result<(), Fail> {
+    fs::write(&rt, "mine", "mine")?;
+    let mut station = station(rt)?;
+    let ran = run_script(
+        rt.alloc(),
+        &mut station,
+        b"d=${0%/*}; echo su > $d/output.su; mkdir -p $d/a/b $d/c; echo x > $d/a/b/x; ln -s ../mine $d/c/link; ln -s .. $d/up; cat mine",
+        b"",
+    )?;
+    assert_eq!(rt; ran.out.as_slice(), b"mine".as_slice());
+    assert_eq!(rt; fs::read_to_string(&rt, "mine")?.as_str(), "mine");
+    fs::remove_file(&rt, "mine")?;
+    expect_empty(&rt)
 }
 
 #[test]
 fn a_stream_that_is_too_long_is_named(rt: HostRuntime) -> Result<(), Fail> {
-    let mut station = station(rt, 8)?;
+    let mut station = station(rt)?;
     for (script, stream) in OVERRUNS {
         let ended = run_script(rt.alloc(), &mut station, script, b"");
         let over = StationFault::TooMuch {
@@ -113,7 +134,7 @@ fn a_stream_that_is_too_long_is_named(rt: HostRuntime) -> Result<(), Fail> {
         };
         assert!(rt; ended.err() == Some(over));
     }
-    expect_absent(&rt, rt.alloc(), &mut files(rt)?, OWN_FILES_OF_8)
+    expect_empty(&rt)
 }
 
 /// Of several streams above their bounds, standard output is named first, then standard error, then the object.
@@ -129,46 +150,29 @@ const OVERRUNS: &[(&[u8], Stream)] = &[
     (b"head -c 300000 /dev/zero >$1", Stream::Object),
 ];
 
-const OWN_FILES_OF_8: &[&[u8]] = &[
-    b"farm-8-1.ii",
-    b"farm-8-2.o",
-    b"farm-8-3.err",
-    b"farm-8-4.ii",
-    b"farm-8-5.o",
-    b"farm-8-6.err",
-    b"farm-8-7.ii",
-    b"farm-8-8.o",
-    b"farm-8-9.err",
-];
-
 #[test]
 fn a_child_that_is_killed_has_ended(rt: HostRuntime) -> Result<(), Fail> {
-    let mut station = station(rt, 10)?;
+    let mut station = station(rt)?;
     let ran = run_script(rt.alloc(), &mut station, b"kill -KILL $$", b"")?;
     assert_eq!(rt; ran.status, 9);
     assert!(rt; ran.object.is_empty());
-    expect_absent(&rt, rt.alloc(), &mut files(rt)?, OWN_FILES_OF_10)
+    expect_empty(&rt)
 }
-
-const OWN_FILES_OF_10: &[&[u8]] = &[b"farm-10-1.ii", b"farm-10-2.o", b"farm-10-3.err"];
 
 #[test]
 fn a_program_that_cannot_be_started_is_a_fault(rt: HostRuntime) -> Result<(), Fail> {
-    let mut station = station(rt, 11)?;
+    let mut station = station(rt)?;
     for name in [b"no/such/program".as_slice(), b"\xff", b"sh\0"] {
         let ended = run_name(rt.alloc(), &mut station, name);
         assert!(rt; ended.err() == Some(StationFault::Failed));
     }
-    expect_absent(&rt, rt.alloc(), &mut files(rt)?, OWN_FILES_OF_11)
+    expect_empty(&rt)
 }
-
-/// Each had only the file of its messages.
-const OWN_FILES_OF_11: &[&[u8]] = &[b"farm-11-1.err", b"farm-11-2.err", b"farm-11-3.err"];
 
 #[test]
 fn a_folder_that_is_not_there_is_a_fault(rt: HostRuntime) -> Result<(), Fail> {
     let folder = String::from_str(rt.alloc(), "no/such/folder")?;
-    let mut station = ChildStation::new(rt, folder, 12);
+    let mut station = ChildStation::new(rt, folder);
     let ended = run_script(rt.alloc(), &mut station, b"exit 0", b"");
     assert!(rt; ended.err() == Some(StationFault::Failed));
     Ok(())

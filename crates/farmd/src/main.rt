@@ -9,7 +9,7 @@ use edge_real::{ChildStation, StdSink, TcpDoor, command_words, own_folder};
 use log::warn;
 use std::alloc::AllocError;
 use std::net::TcpListener;
-use std::process::{self, ExitCode};
+use std::process::ExitCode;
 use std::thread::Threads;
 
 /// The doors and stations of the system.
@@ -32,7 +32,7 @@ fn words_of(rt: &HostRuntime) -> Result<Vec<String>, AllocError> {
 fn kit_of(rt: &HostRuntime, door: TcpDoor<TcpListener>) -> Result<SystemDoor, AllocError> {
     Ok(DoorKit {
         door,
-        station: ChildStation::new(*rt, own_folder(rt)?, process::id(rt.process())),
+        station: ChildStation::new(*rt, own_folder(rt)?),
     })
 }
 

@@ -1,0 +1,157 @@
+// A folder for one run, in which the files of the run are.
+ghost use Rattle.std.specs.Prelude.{◌≡◌, ◌≢◌, true, IfOk, IfErr, Err, string_bytes};
+ghost use Rattle.std.specs.Fs.{asks_read, asks_write, asks_create_new};
+ghost use Rattle.edge_real.specs.Children.{NamesNoStream};
+ghost use Rattle.edge_real.specs.RunFolders.{folder_name, IsFolderIn, place_of, file_in};
+
+use crate::notices::{tell_unmade, tell_unremoved};
+use edge_traits::StationFault;
+use std::alloc::{AllocError, Global};
+use std::fs::OpenOptions;
+use std::io::{Eprint, ErrorKind};
+use std::os::unix::fs::OpenOptionsExt;
+use std::random::RandomSource;
+use std::rt;
+
+/// A folder that this value made, which goes away with it, and with all that is in it then.
+///
+/// Its owner alone may look into it or write there, and nobody can foresee its name, so neither another station, thread or process nor a peer can
+/// name a file of the run.
+pub struct RunFolder<'a, R: rt::Files + Eprint> {
+    rt: &'a R,
+    alloc: Global,
+    path: String,
+}
+
+impl<'a, R: rt::Files + RandomSource + Eprint> RunFolder<'a, R> {
+    /// A new empty folder in this one. A name that is there already is passed over.
+    pub fn create(rt: &'a R, alloc: Global, folder: &str) -> Result<RunFolder<'a, R>, StationFault>
+        ensures name { IfOk result (λ made. IsFolderIn folder.now (place_of made)) }
+        ensures fault { IfErr result NamesNoStream }
+    {
+        for _ in 0..NAMES_TRIED {
+            let path = folder_name(alloc, folder, &random_word(rt, folder)?)?;
+            match rt.create_dir_with_mode(path.as_str(), FOLDER_OF_OWNER) {
+                Ok(()) => return Ok(RunFolder { rt, alloc, path }),
+                Err(error) => {
+                    if error.kind() != ErrorKind::AlreadyExists {
+                        tell_unmade(rt, path.as_str(), &error);
+                        return Err(StationFault::Failed);
+                    }
+                }
+            }
+        }
+        Err(StationFault::Failed)
+    }
+}
+
+impl<R: rt::Files + Eprint> RunFolder<'_, R> {
+    /// Where a file of this name is in the folder.
+    pub fn name_of(&self, name: &str) -> Result<String, AllocError>
+        ensures { IfOk result (λ path. string_bytes path ≡ file_in (place_of self.now) name.now) }
+    {
+        let mut path = String::from_str(self.alloc, self.path.as_str())?;
+        path.push_str("/")?;
+        path.push_str(name)?;
+        Ok(path)
+    }
+
+    /// A new empty file at this path that its owner alone may read, opened for reading and writing.
+    pub fn create_file(&self, path: &str) -> Result<R::File, StationFault>
+        ensures fault { IfErr result NamesNoStream }
+        ensures memory { result ≢ Err StationFault.Memory }
+    {
+        match for_owner_alone().open(self.rt, path) {
+            Ok(file) => Ok(file),
+            Err(error) => {
+                tell_unmade(self.rt, path, &error);
+                Err(StationFault::Failed)
+            }
+        }
+    }
+}
+
+impl<R: rt::Files + Eprint> Drop for RunFolder<'_, R> {
+    fn drop(self) {
+        remove_whole(self.rt, self.alloc, self.path.as_str());
+        let RunFolder {
+            rt: _,
+            alloc: _,
+            path,
+        } = self;
+        drop(path);
+    }
+}
+
+/// Removes a folder and all that is in it. Where something was put there meanwhile, as by a child of the program that outlived it, it is tried again.
+fn remove_whole<R: rt::Files + Eprint>(rt: &R, alloc: Global, path: &str) {
+    for _ in 1..REMOVALS_TRIED {
+        match rt.remove_dir_all(alloc, path) {
+            Ok(()) => return,
+            Err(error) => {
+                if error.kind() != ErrorKind::DirectoryNotEmpty {
+                    tell_unremoved(rt, path, &error);
+                    return;
+                }
+            }
+        }
+    }
+    if let Err(error) = rt.remove_dir_all(alloc, path) {
+        tell_unremoved(rt, path, &error);
+    }
+}
+
+/// A word that nobody can foresee, by the system's random bytes.
+fn random_word<R: RandomSource + Eprint>(
+    rt: &R,
+    folder: &str,
+) -> Result<[u8; WORD_LENGTH], StationFault>
+    ensures fault { IfErr result NamesNoStream }
+    ensures memory { result ≢ Err StationFault.Memory }
+{
+    let mut word = [0u8; WORD_LENGTH];
+    match rt.fill_bytes(&mut word) {
+        Ok(()) => Ok(word),
+        Err(error) => {
+            tell_unmade(rt, folder, &error);
+            Err(StationFault::Failed)
+        }
+    }
+}
+
+/// `FOLDER/farm-WORD`, with the word in hexadecimal digits.
+fn folder_name(alloc: Global, folder: &str, word: &[u8; WORD_LENGTH]) -> Result<String, AllocError>
+    ensures { IfOk result (λ name. string_bytes name ≡ folder_name folder.now word.now) }
+{
+    let mut name = String::from_str(alloc, folder)?;
+    name.push_str("/farm-")?;
+    name.push_str(hex::encode(alloc, word.as_slice())?.as_str())?;
+    Ok(name)
+}
+
+/// How a file of a run is opened: it is new, it is written and read, and its owner alone may do so.
+fn for_owner_alone() -> OpenOptions
+    ensures read { asks_read result ≡ true }
+    ensures written { asks_write result ≡ true }
+    ensures is_new { asks_create_new result ≡ true }
+{
+    let mut options = OpenOptions::new();
+    options.mode(FILE_OF_OWNER);
+    options.read(true).write(true).create_new(true);
+    options
+}
+
+/// How many names are tried before a folder is given up.
+const NAMES_TRIED: u32 = 1000;
+
+/// How often the removal of a folder is tried that isn't empty when all in it was removed.
+const REMOVALS_TRIED: u32 = 10;
+
+/// How many random bytes a name has.
+const WORD_LENGTH: usize = 16;
+
+/// Reading, writing and entering by the folder's owner.
+const FOLDER_OF_OWNER: u32 = 0o700;
+
+/// Reading and writing by the file's owner.
+const FILE_OF_OWNER: u32 = 0o600;
