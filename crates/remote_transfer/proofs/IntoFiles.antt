@@ -1,5 +1,5 @@
 -- The object of a reply on its way into a file.
-use Rattle.std.proofs.Common.{◌≡◌, ℕ, ◌+◌, ◌≤◌, List, [], ◌++◌, refl, sym, subst, ◌∙◌, arith, append-nil, rules}
+use Rattle.std.proofs.Common.{◌≡◌, ℕ, ◌+◌, ◌<◌, ◌≤◌, List, [], ◌++◌, length, refl, ap, sym, subst, ◌∙◌, arith, append-nil, length-append, rules}
 use Rattle.std.specs.Prelude.{◌≢◌, Result, Ok, Err, IfOk, IfErr, Option, Some, None, IsSome}
 use Rattle.edge_traits.specs.Keepers.{PendingPut, KeeperView, IsPending, IsPutOf, HasPending}
 use Rattle.edge_traits.proofs.ToldLemmas.{Grew-then}
@@ -17,7 +17,7 @@ use Rattle.remote_transfer.specs.declared.landing.Course.{Course}
 use Rattle.remote_transfer.specs.declared.landing.Course.TheVariants.{Begun}
 use Rattle.remote_transfer.specs.Links.{Given, ReplyIs}
 use Rattle.remote_transfer.specs.Pieces.{PieceRead, PieceStops}
-use Rattle.remote_transfer.specs.Landings.{KeeperStays, LandsAt, attempt_of, Lands, LandedCause, IsLanding, paired, received_of, LandsOr, ReceivedInto}
+use Rattle.remote_transfer.specs.Landings.{KeeperStays, LandsAt, attempt_of, Lands, LandedCause, IsUnasked, IsLanding, paired, received_of, LandsOr, ReceivedInto}
 use Rattle.remote_transfer.proofs.ByPieces.{Receiving, receiving-more, receiving-whole, receiving-memory, receiving-stops}
 
 pub stays-same : (keeper : KeeperView) → KeeperStays keeper keeper
@@ -66,7 +66,32 @@ land-begun course path object bytes before old new result is lands at =
     let here : LandsAt Begun path object before old = subst (λ (c : Course). LandsAt c path object before old) is at in
     lands-after result path (object ++ bytes) before old.faults new here.1 (lands path object here.0)
 
+-- some bytes more are some
+pub longer : (object bytes : List ℕ) → 0 < length bytes → 0 < length (object ++ bytes)
+longer object bytes some = omega (arith, length-append object bytes, some)
+
 -- ---- the answer of an attempt that lands its object
+
+-- the keeper wasn't asked
+pub never-asked : (stop : Stop) (keeper : KeeperView) → IsUnasked (landed_of (Err stop)) keeper keeper
+never-asked (Broke Dial) keeper = refl
+never-asked (Broke Send) keeper = refl
+never-asked (Broke Recv) keeper = tt
+never-asked (Broke (Truncated have)) keeper = tt
+never-asked (Broke (BadReply at fault)) keeper = tt
+never-asked (Broke Stopped) keeper = refl
+never-asked Memory keeper = tt
+
+-- behind a request that was sent whole it may have been
+pub maybe-asked : (talked : Result (Outcome × Landing) Stop) (object : List ℕ) (old new : LinkView) (given : List ℕ) (before now : KeeperView) → ReplyIs (received_of talked object) old new given → IsUnasked (landed_of talked) before now
+maybe-asked (Ok received) object old new given before now is = tt
+maybe-asked (Err (Broke Dial)) object old new given before now is = absurd is
+maybe-asked (Err (Broke Send)) object old new given before now is = absurd is
+maybe-asked (Err (Broke Recv)) object old new given before now is = tt
+maybe-asked (Err (Broke (Truncated have))) object old new given before now is = tt
+maybe-asked (Err (Broke (BadReply at fault))) object old new given before now is = tt
+maybe-asked (Err (Broke Stopped)) object old new given before now is = absurd is
+maybe-asked (Err Memory) object old new given before now is = tt
 
 pub same-answer : (talked : Result (Outcome × Landing) Stop) (object : List ℕ) → answer_of (received_of talked object) ≡ attempt_of (landed_of talked) object
 same-answer (Ok received) object = refl

@@ -1,10 +1,10 @@
 -- Where the object of a reply lands.
-use Rattle.std.specs.Prelude.{◌≡◌, ◌≢◌, ℕ, ◌≤◌, false, List, [], Result, Ok, Err}
+use Rattle.std.specs.Prelude.{◌≡◌, ◌≢◌, ℕ, ◌<◌, ◌≤◌, length, false, List, [], Result, Ok, Err}
 use Rattle.farm_types.specs.declared.request.Request.{Request}
 use Rattle.farm_types.specs.declared.hosts.Host.{Host}
 use Rattle.farm_types.specs.declared.ran.Outcome.{Outcome}
 use Rattle.edge_traits.specs.declared.entries.Exchange.{Exchange}
-use Rattle.edge_traits.specs.declared.cause.Cause.TheVariants.{Dial}
+use Rattle.edge_traits.specs.declared.cause.Cause.TheVariants.{Dial, Send, Stopped}
 use Rattle.edge_traits.specs.Told.{Told, Grew, Became}
 use Rattle.edge_traits.specs.Causes.{Rose, Still}
 use Rattle.edge_traits.specs.Links.{LinkView}
@@ -20,7 +20,7 @@ use Rattle.remote_transfer.specs.declared.answers.Stop.{Stop}
 use Rattle.remote_transfer.specs.declared.answers.Stop.TheVariants.{Memory}
 use Rattle.remote_transfer.specs.declared.landing.Course.{Course}
 use Rattle.remote_transfer.specs.declared.landing.Course.TheVariants.{Waiting, Begun, Lost}
-use Rattle.remote_transfer.specs.Answers.{answer_of}
+use Rattle.remote_transfer.specs.Answers.{answer_of, landed_of}
 use Rattle.remote_transfer.specs.Attempts.{ExchangeIs, EndsBy, AttemptAdds}
 use Rattle.remote_transfer.specs.Links.{Given, ReplyIs, IsFor, Passed}
 
@@ -32,11 +32,11 @@ pub record KeeperStays (old new : KeeperView) : Type 0 where
   pub overruns : Still old.overruns new.overruns
   pub faults : old.faults ≤ new.faults
 
--- Where the object of a whole reply is, which has these bytes, after the keeper's count stood at before. It is in the pending put only where that count stands still.
+-- Where the object of a whole reply is, which has these bytes, after the keeper's count stood at before. That count rises only where the put was lost.
 abbrev pub IsLanding : Landing → Outcome → List ℕ → List ℕ → ℕ → KeeperView → Type 0
 IsLanding Pending o path object before now = (o.status ≡ 0) × HasPending now path object × Still before now.faults
 IsLanding LostObject o path object before now = (o.status ≡ 0) × IsIdle now × Rose before now.faults
-IsLanding Nothing o path object before now = (o.status ≢ 0) × IsIdle now × (object ≡ [])
+IsLanding Nothing o path object before now = (o.status ≢ 0) × IsIdle now × (object ≡ []) × Still before now.faults
 
 -- the answer of an attempt whose outcome has this object
 abbrev pub attempt_of : Landed → List ℕ → Attempt
@@ -61,9 +61,12 @@ abbrev pub LandedCause : Landed → ℕ → ℕ → Type 0
 LandedCause (landeds.Broke Dial) before now = Rose before now
 LandedCause other before now = Still before now
 
--- Where memory ran out before the dial had succeeded, the keeper wasn't asked and shows what it did.
+-- Where the request wasn't sent whole, since the dial or a send failed or memory ran out before the dial had succeeded, the keeper wasn't asked and shows what it did.
 abbrev pub IsUnasked : Landed → KeeperView → KeeperView → Type 0
 IsUnasked (landeds.Memory false) before now = now ≡ before
+IsUnasked (landeds.Broke Dial) before now = now ≡ before
+IsUnasked (landeds.Broke Send) before now = now ≡ before
+IsUnasked (landeds.Broke Stopped) before now = now ≡ before
 IsUnasked other before now = Unit {0}
 
 -- ---- the parts of such an attempt
@@ -71,8 +74,8 @@ IsUnasked other before now = Unit {0}
 -- how far the object has come with these bytes, after the keeper's count stood at before
 abbrev pub LandsAt : Course → List ℕ → List ℕ → ℕ → KeeperView → Type 0
 LandsAt Waiting path object before now = IsIdle now × (object ≡ []) × Still before now.faults
-LandsAt Begun path object before now = HasPending now path object × Still before now.faults
-LandsAt Lost path object before now = IsIdle now × Rose before now.faults
+LandsAt Begun path object before now = HasPending now path object × Still before now.faults × (0 < length object)
+LandsAt Lost path object before now = IsIdle now × Rose before now.faults × (0 < length object)
 
 -- the keeper is ready for more bytes
 abbrev pub CanLand : Course → KeeperView → Type 0
@@ -126,3 +129,4 @@ pub record PassedInto (result : Result (Outcome × Landing) Stop) (path text : L
   pub object : List ℕ
   pub passed : (q : Request) (h : Host) → IsFor q h text old → Passed old new (λ x. ExchangeIs q h (answer_of (received_of result object)) x × EndsBy (answer_of (received_of result object)) x)
   pub lands : LandsOr result path object before.faults now
+  pub unasked : IsUnasked (landed_of result) before now

@@ -129,6 +129,7 @@ fn landed_of(talked: Result<(Outcome, Landing), Stop>) -> Landed
 ///
 /// After a whole reply of status 0 the put is pending with the whole object, for the caller to commit; or the keeper failed
 /// while it was written, and then the reply was read to its end all the same. After any other answer no put is pending.
+/// The keeper isn't asked before the request was sent whole, nor for a reply that has no object.
 pub fn attempt_into<D: Dialer, K: Keeper>(
     alloc: Global,
     request: &Request,

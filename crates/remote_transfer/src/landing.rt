@@ -137,7 +137,6 @@ fn land_last<K: Keeper>(
     if outcome.status == 0 {
         settle(alloc, path, keeper, course)
     } else {
-        keeper.abandon();
         Ok(Landing::Nothing)
     }
 }

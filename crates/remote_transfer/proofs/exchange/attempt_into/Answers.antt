@@ -1,6 +1,6 @@
 use Rattle.std.proofs.Common.{◌∙◌, sym, subst}
 use Rattle.remote_transfer.specs.Attempts.{AttemptAdds}
-use Rattle.remote_transfer.specs.Landings.{received_of, LandedAdds, LandedCause}
+use Rattle.remote_transfer.specs.Landings.{received_of, LandedAdds, LandedCause, IsUnasked}
 use Rattle.remote_transfer.proofs.Attempting.{adds, no_failed_dial}
 use Rattle.remote_transfer.proofs.IntoFiles.{same-answer, lands-answer, landed-cause}
 use Rattle.remote_transfer.proofs.exchange.attempt_into.Goals as goal
@@ -27,3 +27,7 @@ returns-in-Ok-dial-clause-cause g c =
     let passed = into.passed c.args.request.now c.args.host.now (record { spelled = c.as_slice.ensures ∙ c.in-Ok.ensures.text; host = fresh.host; port = fresh.port }) in
     subst (λ answer. LandedCause answer (g.D.Dialer.shows c.args.dialer.now).faults (g.D.Dialer.shows c.hang_up.new.self).faults) (sym c.landed_of.ensures)
     (landed-cause talked into.object _ _ (no_failed_dial c.args.request.now c.args.host.now (g.D.Link.Link.shows c.in-Ok-dial.link) (g.D.Link.Link.shows c.converse_into-talked.new.link) (received_of talked into.object) passed _ _ (c.hang_up.ensures.faults ∙ c.in-Ok-dial.ensures.cause.done)))
+
+pub returns-in-Ok-dial-clause-unasked : goal.returns-in-Ok-dial-clause-unasked
+returns-in-Ok-dial-clause-unasked g c =
+    subst (λ answer. IsUnasked answer (g.K.Keeper.shows c.args.keeper.now) (g.K.Keeper.shows c.converse_into-talked.new.keeper)) (sym c.landed_of.ensures) c.converse_into-talked.ensures.passed.unasked

@@ -3,6 +3,7 @@ use Rattle.std.specs.Prelude.{Err}
 use Rattle.std.proofs.lemmas.Result.{err_from_is_err_and}
 use Rattle.remote_transfer.proofs.Passing.{not_sent, replied}
 use Rattle.remote_transfer.specs.Landings.{received_of, PassedInto}
+use Rattle.remote_transfer.proofs.IntoFiles.{never-asked, maybe-asked}
 use Rattle.remote_transfer.proofs.exchange.converse_into.Goals as goal
 
 pub returns-clause-passed : goal.returns-clause-passed
@@ -14,6 +15,7 @@ returns-clause-passed g c =
       passed = λ q h is_for. replied q h c.args.text.now _ _ is_for c.requires.new (g.met.L.Link.origin_stays _ _ (g.met.L.Link.follows_on _ _ _ sent.follows received.follows))
           _ sent.all received.sent sent.given sent.running received.stopped sent.ended sent.still (received_of c.receive_into.result received.lands.object) received.lands.given;
       lands = received.lands.lands;
+      unasked = maybe-asked c.receive_into.result received.lands.object _ _ received.lands.given.bytes _ _ received.lands.given.is;
     }
 
 pub returns-in_err-send_all-clause-passed : goal.returns-in_err-send_all-clause-passed
@@ -24,5 +26,6 @@ returns-in_err-send_all-clause-passed g c =
       object = [];
       passed = λ q h is_for. not_sent q h c.args.text.now (g.L.Link.shows c.args.link.now) (g.L.Link.shows c.send_all.new.link) is_for c.requires.new (g.met.L.Link.origin_stays _ _ s.follows) c.in_err-send_all.field-0.0 s.part s.stops s.given s.ended;
       lands = c.requires.idle;
+      unasked = never-asked c.in_err-send_all.field-0.0 (g.K.Keeper.shows c.args.keeper.now);
     } in
     rw (p.1, p.2) into
