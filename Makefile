@@ -7,6 +7,7 @@ bin = $(DESTDIR)$(PREFIX)/bin
 man = $(DESTDIR)$(PREFIX)/share/man/man1
 completions = $(DESTDIR)$(PREFIX)/share/bash-completion/completions
 units = $(DESTDIR)$(PREFIX)/lib/systemd/system
+defaults = $(DESTDIR)/etc/default
 
 .PHONY: bench bench-jobs bench-wire build demo install test test-all uninstall
 
@@ -40,8 +41,9 @@ test-all: test
 build:
 	tests/prove $(PROGRAMS)
 
-# The programs, their manual pages, the completion for bash, and the unit of farmd for systemd, below PREFIX; DESTDIR stands before
-# that where a package is made. What isn't built yet is proved and built.
+# The programs, their manual pages, the completion for bash, and the unit of farmd for systemd, below PREFIX; what the unit is started with,
+# in /etc/default/farmd, unless it is there already. DESTDIR stands before these where a package is made. What isn't built yet is proved
+# and built.
 install:
 	@for program in $(PROGRAMS); do [ -x crates/$$program/out/$$program ] || exec tests/prove $(PROGRAMS); done
 	install -d $(bin) $(man) $(completions) $(units)
@@ -52,10 +54,12 @@ install:
 	done
 	sed 's|/usr/local/bin/farmd|$(PREFIX)/bin/farmd|' contrib/farmd.service >$(units)/farmd.service
 	chmod 644 $(units)/farmd.service
+	[ -e $(defaults)/farmd ] || { install -d $(defaults) && install -m 644 contrib/farmd.default $(defaults)/farmd; }
 
 uninstall:
 	for program in $(PROGRAMS); do rm -f $(bin)/$$program $(man)/$$program.1 $(completions)/$$program; done
 	rm -f $(units)/farmd.service
+	if cmp -s contrib/farmd.default $(defaults)/farmd; then rm -f $(defaults)/farmd; fi
 
 # What farm and distcc add to gcc -E and gcc -c, per job, by itself and within a job list; whole builds at 2, 4 and 8 jobs at once; the
 # transfer of an object of 32 MiB; and the resident size of farm and farmd.

@@ -16,6 +16,7 @@ use Rattle.daemon_words.specs.declared.options.Options.{Options}
 use Rattle.daemon_words.specs.Options.{book_bound}
 use Rattle.daemon_words.specs.declared.command.Command.{Command}
 use Rattle.daemon_words.specs.declared.command.Command.TheVariants.{Help, Version, Serve}
+use Rattle.daemon_words.specs.Commands.{settings_of}
 use Rattle.daemon_words.specs.Helps.{help, version}
 use Rattle.daemon_words.specs.Tables.{compilers_of, AreRules}
 use Rattle.object_cache.specs.declared.book.Stats.{Stats}
@@ -35,8 +36,8 @@ log_status entries =
 
 -- what is served by, as the words say
 pub record IsConfig (words : List (List ℕ)) (options : Options) (config : DaemonConfig) : Type 0 where
-  pub table : config.table.rows ≡ compilers_of words
-  pub rules : AreRules words config.access.rules
+  pub table : config.table.rows ≡ compilers_of (settings_of words)
+  pub rules : AreRules (settings_of words) config.access.rules
   pub serve : config.serve ≡ unwrap_or options.serve 100000
 
 -- the doors that are used: the first ones, as many as the words say

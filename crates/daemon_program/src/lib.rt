@@ -8,5 +8,5 @@ mod printing;
 mod status;
 mod top;
 
-pub use daemon_words::{DoorPlace, door_place};
+pub use daemon_words::{DoorPlace, door_place, trusts_options};
 pub use top::farmd;

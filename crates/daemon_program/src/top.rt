@@ -15,7 +15,7 @@ use crate::status::status_of;
 use access_list::AccessList;
 use daemon_service::Compilers;
 use daemon_words::{
-    Command, Options, compilers_of, help_text, parse_words, rules_of, version_text,
+    Command, Options, compilers_of, help_text, parse_words, rules_of, settings_of, version_text,
 };
 use daemon_worker::{DaemonConfig, DoorKit, serve_first};
 use edge_traits::{Door, Sink, Station};
@@ -28,11 +28,11 @@ fn config_of(alloc: Global, words: &[String], options: &Options) -> Result<Daemo
 {
     Ok(DaemonConfig {
         table: Compilers {
-            rows: compilers_of(alloc, words)?,
+            rows: compilers_of(alloc, settings_of(words))?,
         },
         serve: options.serve(),
         access: AccessList {
-            rules: rules_of(alloc, words)?,
+            rules: rules_of(alloc, settings_of(words))?,
         },
     })
 }

@@ -1,7 +1,7 @@
 use access_list::Rule;
 use daemon_words::{
     Command, DoorPlace, Options, compilers_of, door_place, help_text, parse_words, rules_of,
-    version_text,
+    settings_of, trusts_options, version_text,
 };
 use std::alloc::{AllocError, Global};
 use std::process::Abort;
@@ -34,6 +34,10 @@ const BAD: &[(&[&str], usize)] = &[
     (&["--port", "1", "--help"], 2),
     (&["--help", "--help"], 1),
     (&["--version", "x"], 1),
+    (&["--trust-options", "--port", "0"], 2),
+    (&["--trust-options", "--jobs"], 2),
+    (&["--trust-options", "--trust-options"], 1),
+    (&["--port", "1", "--trust-options"], 2),
 ];
 
 const GOOD: &[&str] = &[
@@ -203,4 +207,14 @@ fn expect_most<R: Abort>(
 fn the_sixty_fifth(rt: HostRuntime) -> Result<(), Fail> {
     expect_most(&rt, rt.alloc(), "--compiler", "c", "=x")?;
     expect_most(&rt, rt.alloc(), "--allow", "10.0.0.", "")
+}
+
+#[test]
+fn trusted_options(rt: HostRuntime) -> Result<(), Fail> {
+    let words = owned(rt.alloc(), &["--trust-options", "--version"])?;
+    assert_eq!(rt; trusts_options(words.as_slice()), true);
+    assert_eq!(rt; settings_of(words.as_slice()).len(), 1);
+    assert_eq!(rt; trusts_options(settings_of(words.as_slice())), false);
+    expect_read(&rt, words.as_slice(), Ok(Command::Version));
+    Ok(())
 }

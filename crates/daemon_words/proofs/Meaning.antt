@@ -15,16 +15,24 @@ use Rattle.daemon_words.specs.declared.command.Command.{Command}
 use Rattle.daemon_words.specs.declared.command.Command.TheVariants.{Help, Version, Serve}
 use Rattle.daemon_words.specs.Names.{option_named}
 use Rattle.daemon_words.specs.Options.{unless_given, option_here, is_given, name_in, named_in, IsPositive, AreWithin, Sets, PairIs, Reads, nothing_given}
-use Rattle.daemon_words.specs.Commands.{asked, served, ByFirst, ReadWords}
+use Rattle.daemon_words.specs.Commands.{asked, served, trusts, settings_of, placed, ByFirst, ReadWords}
 use Rattle.daemon_words.specs.Tables.{SaysRule, RuleIn, AreRules, compilers_of}
 use Rattle.daemon_words.proofs.ReadingOn.{one_reading, two_parts}
+
+abbrev as_command : Command → Result Command ℕ
+as_command command = Ok command
 
 one_first : (words : List (List ℕ)) (first : Option Command) (r s : Result Command ℕ) → ByFirst words r first → ByFirst words s first → r ≡ s
 one_first words (Some command) r s p q = p ∙ sym q
 one_first words None r s p q = p.2 ∙ ap served (one_reading [] nothing_given words p.0 q.0 p.1 q.1) ∙ sym q.2
 
 pub once : (words : List (List ℕ)) (r s : Result Command ℕ) → ReadWords words r → ReadWords words s → r ≡ s
-once words r s p q = one_first words (asked words) r s p q
+once words r s p q = p.2 ∙ ap (placed (trusts words)) (one_first (settings_of words) (asked (settings_of words)) p.0 q.0 p.1 q.1) ∙ sym q.2
+
+-- a command is that of the words without `--trust-options`
+unplaced : (trusting : Bool) (command : Command) (read : Result Command ℕ) → as_command command ≡ placed trusting read → as_command command ≡ read
+unplaced trusting command (Ok other) is = is
+unplaced trusting command (Err place) is = absurd (cc is)
 
 -- ---- rules
 
@@ -193,8 +201,11 @@ right_first words options rules (Some command) is read are =
     absurd (never_asked words options (is ∙ ap Some (served_alone _ command options read)))
 right_first words options rules None is read are = right_read words options rules read.0 read.1 read.2 are
 
-pub right_rules : (words : List (List ℕ)) (options : Options) (rules : List Rule) → ReadWords words (Ok (Serve options)) → AreRules words rules → AreRight rules
-right_rules words options rules read are = right_first words options rules (asked words) refl read are
+pub right_rules : (words : List (List ℕ)) (options : Options) (rules : List Rule) → ReadWords words (Ok (Serve options)) → AreRules (settings_of words) rules → AreRight rules
+right_rules words options rules read are =
+    let settings = settings_of words in
+    let same = unplaced (trusts words) (Serve options) read.0 read.2 in
+    right_first settings options rules (asked settings) refl (subst (λ r. ByFirst settings r (asked settings)) (sym same) read.1) are
 
 -- ---- the numbers that are given
 
@@ -235,7 +246,10 @@ first_within words options (Some command) is read = absurd (never_asked words op
 first_within words options None is read = served_within words options read.0 read.1 read.2
 
 pub right_numbers : (words : List (List ℕ)) (options : Options) → ReadWords words (Ok (Serve options)) → AreWithin options
-right_numbers words options read = first_within words options (asked words) refl read
+right_numbers words options read =
+    let settings = settings_of words in
+    let same = unplaced (trusts words) (Serve options) read.0 read.2 in
+    first_within settings options (asked settings) refl (subst (λ r. ByFirst settings r (asked settings)) (sym same) read.1)
 
 -- ---- the code that looks for names, and that gathers
 

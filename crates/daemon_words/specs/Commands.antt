@@ -1,5 +1,5 @@
 -- What the words of `farmd` ask for.
-use Rattle.std.specs.Prelude.{◌≡◌, ℕ, ◌==◌, List, [], ◌∷◌, length, codes, bytes_eq, Option, Some, None, unwrap_or, Result, Ok, Err, if◌then◌else◌}
+use Rattle.std.specs.Prelude.{◌≡◌, ℕ, ◌+◌, ◌==◌, Bool, false, List, [], ◌∷◌, length, codes, bytes_eq, Option, Some, None, unwrap_or, Result, Ok, Err, if◌then◌else◌}
 use Rattle.daemon_words.specs.declared.options.Options.{Options}
 use Rattle.daemon_words.specs.declared.command.Command.{Command}
 use Rattle.daemon_words.specs.declared.command.Command.TheVariants.{Help, Version, Serve}
@@ -23,9 +23,24 @@ abbrev pub ByFirst : List (List ℕ) → Result Command ℕ → Option Command �
 ByFirst words read (Some command) = read ≡ (if length words == 1 then Ok command else Err 1)
 ByFirst words read None = (options : Result Options ℕ) × Reads [] nothing_given words options × (read ≡ served options)
 
+-- the words begin with `--trust-options`
+abbrev pub trusts : List (List ℕ) → Bool
+trusts [] = false
+trusts (word ∷ words) = bytes_eq word (codes "--trust-options")
+
+-- the words without it
+abbrev pub settings_of : List (List ℕ) → List (List ℕ)
+settings_of [] = []
+settings_of (word ∷ words) = if bytes_eq word (codes "--trust-options") then words else word ∷ words
+
+-- the same with a place among all words
+abbrev pub placed : Bool → Result Command ℕ → Result Command ℕ
+placed trusting (Ok command) = Ok command
+placed trusting (Err place) = Err (if trusting then place + 1 else place)
+
 -- what the words ask for, or the place of the first that isn't right; that of a missing word is their number
 abbrev pub ReadWords : List (List ℕ) → Result Command ℕ → Type 0
-ReadWords words read = ByFirst words read (asked words)
+ReadWords words read = (read_behind : Result Command ℕ) × ByFirst (settings_of words) read_behind (asked (settings_of words)) × (read ≡ placed (trusts words) read_behind)
 
 abbrev pub IsCommand : List (List ℕ) → Command → Type 0
 IsCommand words command = ReadWords words (Ok command)

@@ -25,6 +25,8 @@ help =
     ++ codes "  --deny ADDRESS[/BITS]    leave peers of this network\n"
     ++ codes "  --cache N                answer repeated compiles from memory: at most N MiB at\n"
     ++ codes "                           each of these doors, 1 to 128\n"
+    ++ codes "  --trust-options          before all others: run requests with any options,\n"
+    ++ codes "                           also those that read, write or run other things\n"
     ++ codes "\n"
     ++ codes "The first rule that matches decides. Without rules every peer is let in; with\n"
     ++ codes "rules, one that matches none is not.\n"

@@ -1,6 +1,6 @@
 //! What the words of `farmd` ask for.
 
-ghost use Rattle.std.specs.Prelude.{◌≡◌, ℕ, map, string_bytes, IfSome, IfNone};
+ghost use Rattle.std.specs.Prelude.{◌≡◌, ◌≤◌, ℕ, map, length, string_bytes, IfSome, IfNone, IfErr};
 ghost use Rattle.daemon_words.specs.declared.command.Command.{Command as Asked};
 ghost use Rattle.daemon_words.specs.Commands as commands;
 ghost use Rattle.daemon_words.specs.Commands.{BadAt, IsCommand, ReadWords};
@@ -48,10 +48,29 @@ fn asked(words: &[String]) -> Option<Command>
     }
 }
 
-/// What the words ask for, without the program's name. Err is the place, from 0, of the first word that isn't right; that of a
-/// missing word is the number of words. It takes no memory.
-pub fn parse_words(words: &[String]) -> Result<Command, usize>
-    ensures { ReadWords (map string_bytes words.now) result }
+/// Whether the words begin with `--trust-options`: a station is to run any words of its peers' commands (docs/daemon.md).
+pub fn trusts_options(words: &[String]) -> bool
+    ensures { result ≡ commands.trusts (map string_bytes words.now) }
+{
+    match words {
+        [first, ..] => first.as_str() == "--trust-options",
+        [] => false,
+    }
+}
+
+/// The words without `--trust-options` in front: `--help`, `--version`, or options and their values.
+pub fn settings_of(words: &[String]) -> &[String]
+    ensures { map string_bytes result.now ≡ commands.settings_of (map string_bytes words.now) }
+{
+    match words {
+        [first, settings @ ..] if first.as_str() == "--trust-options" => settings,
+        _ => words,
+    }
+}
+
+fn parse_settings(words: &[String]) -> Result<Command, usize>
+    ensures read { commands.ByFirst (map string_bytes words.now) result (commands.asked (map string_bytes words.now)) }
+    ensures within { IfErr result (λ place. place ≤ length words.now) }
 {
     match asked(words) {
         Some(command) => {
@@ -65,6 +84,23 @@ pub fn parse_words(words: &[String]) -> Result<Command, usize>
             Ok(options) => Ok(Command::Serve(options)),
             Err(place) => Err(place),
         },
+    }
+}
+
+/// What the words ask for, without the program's name. Err is the place, from 0, of the first word that isn't right; that of a
+/// missing word is the number of words. It takes no memory.
+pub fn parse_words(words: &[String]) -> Result<Command, usize>
+    ensures { ReadWords (map string_bytes words.now) result }
+{
+    match parse_settings(settings_of(words)) {
+        Ok(command) => Ok(command),
+        Err(place) => {
+            if trusts_options(words) {
+                Err(place + 1)
+            } else {
+                Err(place)
+            }
+        }
     }
 }
 

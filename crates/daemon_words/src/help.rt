@@ -23,6 +23,8 @@ Options, in any order:
   --deny ADDRESS[/BITS]    leave peers of this network
   --cache N                answer repeated compiles from memory: at most N MiB at
                            each of these doors, 1 to 128
+  --trust-options          before all others: run requests with any options,
+                           also those that read, write or run other things
 
 The first rule that matches decides. Without rules every peer is let in; with
 rules, one that matches none is not.

@@ -6,7 +6,7 @@ ghost use Rattle.access_list.specs.Rules.{AreRight};
 ghost use Rattle.daemon_words.specs.declared.command.Command.{Command};
 ghost use Rattle.daemon_words.specs.declared.command.Command.TheVariants.{Serve};
 ghost use Rattle.daemon_words.specs.declared.options.Options.{Options};
-ghost use Rattle.daemon_words.specs.Commands.{IsCommand, ReadWords};
+ghost use Rattle.daemon_words.specs.Commands.{IsCommand, ReadWords, settings_of};
 ghost use Rattle.daemon_words.specs.Options.{AreWithin};
 ghost use Rattle.daemon_words.specs.Tables.{AreRules};
 
@@ -19,5 +19,5 @@ pub fn one_reading()
     ensures within { (words : List (List ℕ)) (options : Options) → IsCommand words (Serve options) → AreWithin options }
 
     // The rules of right words are at most 64, each with at most 32 bits.
-    ensures right { (words : List (List ℕ)) (options : Options) (rules : List Rule) → IsCommand words (Serve options) → AreRules words rules → AreRight rules }
+    ensures right { (words : List (List ℕ)) (options : Options) (rules : List Rule) → IsCommand words (Serve options) → AreRules (settings_of words) rules → AreRight rules }
 {}

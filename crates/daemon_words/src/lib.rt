@@ -10,7 +10,7 @@ mod reading;
 mod setting;
 mod tables;
 
-pub use command::{Command, DoorPlace, door_place, parse_words};
+pub use command::{Command, DoorPlace, door_place, parse_words, settings_of, trusts_options};
 pub use help::{help_text, version_text};
 pub use laws::one_reading;
 pub use name::OptionName;

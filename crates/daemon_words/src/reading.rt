@@ -1,6 +1,6 @@
 //! The words that are options.
 
-ghost use Rattle.std.specs.Prelude.{[], map, string_bytes};
+ghost use Rattle.std.specs.Prelude.{◌≤◌, [], map, length, string_bytes, IfErr};
 ghost use Rattle.daemon_words.specs.Options.{Reads, nothing_given};
 
 use crate::options::Options;
@@ -9,7 +9,8 @@ use crate::setting::set_option;
 /// What options say, or the place of the first word that isn't right; that of a missing word is the number of words. It takes
 /// no memory.
 pub(crate) fn read_options(words: &[String]) -> Result<Options, usize>
-    ensures { Reads [] nothing_given (map string_bytes words.now) result }
+    ensures read { Reads [] nothing_given (map string_bytes words.now) result }
+    ensures within { IfErr result (λ place. place ≤ length words.now) }
 {
     let mut options = Options::nothing();
     let mut at = 0;
