@@ -17,7 +17,7 @@ demo:
 
 # The gate: each crate is proved, each edit that must fail is refused, each test and each stored run passes.
 # Then farm with a real distccd, in an odd environment, objects on a real disk, faults of a real machine, runs with an allocation
-# refused, real clients of farmd, mutated requests for it, whole projects, and the manual pages and the installation; each is
+# refused, real clients of farmd, mutated requests for it, the options that it lets through and those that it doesn't, its cache, whole projects, and the manual pages and the installation; each is
 # skipped where what it needs isn't installed.
 test:
 	rt ci
@@ -28,6 +28,8 @@ test:
 	tests/allocations
 	tests/clients
 	tests/hostile
+	tests/options
+	tests/cache
 	tests/projects
 	tests/database
 	tests/manual
