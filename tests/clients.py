@@ -109,7 +109,19 @@ def own_objects(rounds):
         assert written.endswith(b"DOTO00000010THE OTHER'S OWN\n"), f"round {number}: the one that wrote: {written}"
 
 
-MODES = {"all": all_kinds, "four": four, "own": lambda: own_objects(int(os.environ.get("ROUNDS", "5")))}
+def served():
+    assert is_answered(exchange(GOOD)), "a program by a path from farmd's folder"
+    assert exchange(request(b"gcc", b"int a;\n", b"-B@x\n")) == b"", "a word that isn't let through"
+    assert is_answered(exchange(GOOD)), "a word that is let through, after another"
+    messages = exchange(request(b"gcc", b"int a = ;\n"))
+    assert b"SERR" in messages and b"input.i:1:9: error" in messages and b"farm-" not in messages, messages
+
+
+def one():
+    assert is_answered(exchange(GOOD)), "one client"
+
+
+MODES = {"all": all_kinds, "four": four, "one": one, "served": served, "own": lambda: own_objects(int(os.environ.get("ROUNDS", "5")))}
 try:
     MODES[sys.argv[2] if sys.argv[2:] else "all"]()
 except (AssertionError, OSError) as error:

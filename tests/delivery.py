@@ -153,7 +153,7 @@ def full_disk(folder):
     try:
         write(f"{small}/x.o", "oooo")
         status, text, _ = run_farm(folder, job("large", "small-disk/x.o"))
-        expect("a full disk", status == 107 and text.startswith("1 failed put\n"), (status, text))
+        expect("a full disk", status == 107 and "1 failed put\n" in text and "x.o: cannot be written: No space left" in text, (status, text))
         expect("a full disk leaves the output", content(f"{small}/x.o") == ("o", 4) and not leftovers(small))
         status, text, _ = run_farm(folder, job("small", "small-disk/x.o"))
         expect("a smaller object fits", status == 0 and content(f"{small}/x.o") == ("S", 1), text)
@@ -167,9 +167,65 @@ def other_outputs(folder):
     for name, status in [("/dev/null", 0), ("pipe", 107), ("place", 107), ("l" * 255, 0)]:
         seen, text, _ = run_farm(folder, job("small", name))
         expect(f"the output {name[:10]}", seen == status, (seen, text))
+        expect(f"the reason for {name[:10]}", (f"{name}: cannot be written: " in text) == (status != 0), text)
     expect("a device stays one", subprocess.run(["test", "-c", "/dev/null"]).returncode == 0)
     expect("a pipe stays one", subprocess.run(["test", "-p", f"{folder}/pipe"]).returncode == 0)
     expect("nothing is left", not leftovers(folder))
+
+
+# What stands at x.o before a put: a name, and a function of the folder that makes it.
+STANDING = [
+    ("nothing", lambda folder: None),
+    ("an empty file", lambda folder: place_file(folder, "x.o", b"", 0o600)),
+    ("a file", lambda folder: place_file(folder, "x.o", b"old", 0o600)),
+    ("a link to nothing", lambda folder: os.symlink("to.o", f"{folder}/x.o")),
+    ("a link to a link to nothing", lambda folder: (os.symlink("there/to.o", f"{folder}/x.o"), os.symlink("../to.o", f"{folder}/there/to.o"))),
+    ("a link to an empty file", lambda folder: (place_file(folder, "to.o", b"", 0o640), os.symlink(f"{folder}/to.o", f"{folder}/x.o"))),
+    ("a link to a file", lambda folder: (place_file(folder, "to.o", b"old", 0o600), os.symlink("to.o", f"{folder}/x.o"))),
+    ("a link to itself", lambda folder: os.symlink("x.o", f"{folder}/x.o")),
+    ("a link into no folder", lambda folder: os.symlink("no/such/to.o", f"{folder}/x.o")),
+]
+
+
+def place_file(folder, name, held, mode):
+    with open(f"{folder}/{name}", "wb") as file:
+        file.write(held)
+    os.chmod(f"{folder}/{name}", mode)
+
+
+def standing(folder, made):
+    """What stands at x.o and to.o: links by their text, files by their mode and whether they hold the new object."""
+    seen = {}
+    for name in ("x.o", "to.o", "there/to.o"):
+        path = f"{folder}/{name}"
+        if os.path.islink(path):
+            seen[name] = "a link"
+        elif os.path.exists(path):
+            with open(path, "rb") as file:
+                seen[name] = (oct(os.stat(path).st_mode & 0o7777), file.read() == made)
+    return seen
+
+
+def outputs_as_gcc(folder):
+    """A put leaves at each output what gcc leaves there."""
+    if not shutil.which("gcc"):
+        print("outputs as gcc's own: skipped, since gcc is missing")
+        return
+    for what, make in STANDING:
+        seen = []
+        for words in (["gcc", "-c", "x.c", "-o", "x.o"], [FARM, "cc", "gcc", "-c", "x.c", "-o", "x.o"]):
+            place = f"{folder}/standing"
+            os.makedirs(f"{place}/there")
+            write(f"{place}/x.c", "int x = 1;\n")
+            subprocess.run(["gcc", "-c", "x.c", "-o", "new.o"], cwd=place, check=True)
+            with open(f"{place}/new.o", "rb") as file:
+                made = file.read()
+            make(place)
+            run = subprocess.run(words, cwd=place, capture_output=True, env={**os.environ, "DISTCC_HOSTS": "localhost"})
+            seen.append((run.returncode == 0, standing(place, made)))
+            expect(f"{what}: nothing else is left", not leftovers(place), os.listdir(place))
+            shutil.rmtree(place)
+        expect(f"{what} at the output, as gcc has it", seen[0] == seen[1], (seen[0], seen[1], run.stderr))
 
 
 REMOVER = """#!/bin/sh
@@ -218,6 +274,7 @@ try:
     limited(work)
     full_disk(work)
     other_outputs(work)
+    outputs_as_gcc(work)
     own_objects(work, int(os.environ.get("ROUNDS", "5")))
 finally:
     shutil.rmtree(work, ignore_errors=True)

@@ -1,7 +1,7 @@
 -- What a program is given, and what a run of it that came to nothing may answer.
-use Rattle.std.specs.Prelude.{◌≡◌, ℕ, ◌<◌, ◌==◌, false, List, [], ◌∷◌, map, Option, None, Some, Result, Ok, Err, codes, if◌then◌else◌}
-use Rattle.std.specs.List.{list_any}
-use Rattle.std.specs.Option.{option_map}
+use Rattle.std.specs.Prelude.{◌≡◌, ℕ, ◌<◌, ◌==◌, Bool, false, not, ◌&&◌, ◌||◌, nat_eq, List, [], ◌∷◌, ◌++◌, map, Option, None, Some, Result, Ok, Err, codes, if◌then◌else◌}
+use Rattle.std.specs.List.{list_any, starts_with}
+use Rattle.std.specs.Option.{option_map, unwrap_or, is_some}
 use Rattle.std.specs.Str.{IsUtf8}
 use Rattle.std.specs.Process.{command_program, command_args, command_var, command_dir, clears_env}
 use Rattle.std.specs.declared.process.command.Command.{Command}
@@ -71,6 +71,22 @@ pub record IsCommandOf {A : Type 0} (words : List Word) (source object : List �
   pub variables : (name : List ℕ) → command_var command name ≡ None
   pub folder : command_dir command ≡ None
 
+-- a path that begins where this process is: it has a slash, and not at its front
+abbrev pub is_from_here : List ℕ → Bool
+is_from_here program = list_any (λ b. b == 47) program && not (starts_with nat_eq program (codes "/"))
+
+-- the name of a program for a child in another folder than this process's
+abbrev pub named_from : List ℕ → List ℕ → List ℕ
+named_from here program = if is_from_here program then here ++ codes "/" ++ program else program
+
+-- a program without arguments, in this folder and this process's environment
+pub record IsProgramIn {A : Type 0} (program here place : List ℕ) (command : Command A) : Type 0 where
+  pub program_given : command_program command ≡ named_from here program
+  pub arguments : command_args command ≡ []
+  pub environment : clears_env command ≡ false
+  pub variables : (name : List ℕ) → command_var command name ≡ None
+  pub folder : command_dir command ≡ Some place
+
 -- the first of the words that stands for the input
 abbrev pub first_input : List Word → Option Ext
 first_input [] = None
@@ -83,9 +99,33 @@ abbrev pub source_text : Ext → List ℕ
 source_text I = codes "input.i"
 source_text Ii = codes "input.ii"
 
+-- its name where it stands in the words, and else nothing
+abbrev pub source_of : List Word → List ℕ
+source_of words = unwrap_or (option_map source_text (first_input words)) []
+
+-- the name of the object in its folder
+abbrev pub object_text : List ℕ
+object_text = codes "output.o"
+
+-- a file stands for one of the words
+abbrev pub needs_folder : List Word → Bool
+needs_folder words = is_some (first_input words) || has_output words
+
+-- the program is named from this process's folder
+abbrev pub first_named_from : List ℕ → List (List ℕ) → List (List ℕ)
+first_named_from here [] = []
+first_named_from here (program ∷ arguments) = named_from here program ∷ arguments
+
+-- the words' program with their arguments, in this process's environment and in the folder in which the input and the object are
+pub record IsCommandIn {A : Type 0} (words : List Word) (here place : List ℕ) (command : Command A) : Type 0 where
+  pub words_given : command_program command ∷ command_args command ≡ first_named_from here (map (given_word (source_of words) object_text) words)
+  pub environment : clears_env command ≡ false
+  pub variables : (name : List ℕ) → command_var command name ≡ None
+  pub folder : command_dir command ≡ Some place
+
 -- the path of the file that stands for the input in this folder, if one does, and so of the file that stands for the object
 abbrev pub input_path : List ℕ → List Word → Option (List ℕ)
 input_path folder words = option_map (λ ext. file_in folder (source_text ext)) (first_input words)
 
 abbrev pub output_path : List ℕ → List Word → Option (List ℕ)
-output_path folder words = if has_output words then Some (file_in folder (codes "output.o")) else None
+output_path folder words = if has_output words then Some (file_in folder object_text) else None

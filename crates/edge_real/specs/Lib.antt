@@ -4,6 +4,8 @@ pub mod Counts
 pub mod Notices
 pub mod OwnNames
 pub mod RunFolders
+pub mod Serving
+pub mod Accepting
 pub mod Staging
 pub mod Views
 pub mod Kits

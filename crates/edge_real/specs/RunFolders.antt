@@ -8,8 +8,8 @@ use Rattle.edge_real.specs.declared.run_folder.RunFolder.{RunFolder}
 abbrev pub folder_name : List ℕ → List ℕ → List ℕ
 folder_name folder word = folder ++ codes "/farm-" ++ encode_lower word
 
--- A folder of a run is in this folder, under a name with a word of 16 bytes.
-pub record IsFolderIn (folder path : List ℕ) : Type 0 where
+-- It is in this folder, under a name with a word of 16 bytes.
+pub record IsNamedIn (folder path : List ℕ) : Type 0 where
   pub word : List ℕ
   pub size : length word ≡ 16
   pub named : path ≡ folder_name folder word

@@ -1,7 +1,7 @@
 -- What the devices of the system show: how they stand and their counts, but no content.
-use Rattle.std.specs.Prelude.{ℕ, Bool, List, [], string_bytes}
+use Rattle.std.specs.Prelude.{ℕ, Bool, List, [], Option, string_bytes}
 use Rattle.std.specs.FinMap.{empty}
-use Rattle.std.specs.Option.{is_some}
+use Rattle.std.specs.Option.{is_some, option_map}
 use Rattle.std.specs.Net.Addr.{ipv4_bits}
 use Rattle.std.specs.Net.Socket.{v4_ip}
 use Rattle.std.specs.declared.net.socket_addr.SocketAddr.{SocketAddr}
@@ -18,8 +18,11 @@ use Rattle.object_delivery.specs.FileViews.{FilesView}
 use Rattle.edge_real.specs.declared.tcp.TcpLink.{TcpLink}
 use Rattle.edge_real.specs.declared.tcp.TcpDialer.{TcpDialer}
 use Rattle.edge_real.specs.declared.door.TcpDoor.{TcpDoor}
+use Rattle.edge_real.specs.declared.door_link.DoorLink.{DoorLink}
 use Rattle.edge_real.specs.OwnNames.{NamesView, names_view}
 use Rattle.edge_real.specs.declared.child.ChildStation.{ChildStation}
+use Rattle.edge_real.specs.declared.child.Service.{Service}
+use Rattle.edge_real.specs.declared.child.WordPolicy.{WordPolicy}
 use Rattle.edge_real.specs.declared.clock.WallClock.{WallClock}
 use Rattle.edge_real.specs.declared.disk.DiskFiles.{DiskFiles}
 use Rattle.edge_real.specs.declared.stream.StdSource.{StdSource}
@@ -36,6 +39,10 @@ link_view link = record {
   faults = link.faults;
 }
 
+-- what a link of a door shows is what its connection shows
+abbrev pub door_link_view : {S : Type 0} → DoorLink S → LinkView
+door_link_view link = link_view link.link
+
 -- with so many faults
 abbrev pub counted_dialer : ℕ → DialerView
 counted_dialer faults = record { exchanges = untold []; faults = faults }
@@ -46,11 +53,11 @@ dialer_view dialer = counted_dialer dialer.faults
 abbrev pub counted_door : ℕ → DoorView
 counted_door faults = record { visits = untold []; peers = untold []; faults = faults }
 
-abbrev pub door_view : {L : Type 0} → TcpDoor L → DoorView
+abbrev pub door_view : {R L : Type 0} → TcpDoor R L → DoorView
 door_view door = counted_door door.faults
 
 -- the door has a listener
-abbrev pub is_listening : {L : Type 0} → TcpDoor L → Bool
+abbrev pub is_listening : {R L : Type 0} → TcpDoor R L → Bool
 is_listening door = is_some door.listener
 
 -- the peer's IPv4 address as a number, and 0 for another kind of address
@@ -67,6 +74,13 @@ station_view station = counted_station station.faults station.overruns
 -- the folder in which a station makes those of its runs
 abbrev pub folder_of : {R : Type 0} → ChildStation R → List ℕ
 folder_of station = string_bytes station.folder
+
+-- the policy of a station that serves others
+abbrev pub policy_in : Option Service → Option WordPolicy
+policy_in service = option_map (λ one. one.policy) service
+
+abbrev pub policy_of : {R : Type 0} → ChildStation R → Option WordPolicy
+policy_of station = policy_in station.service
 
 abbrev pub counted_files : ℕ → ℕ → FilesView
 counted_files faults overruns = record { files = untold empty; faults = faults; overruns = overruns }
@@ -101,6 +115,9 @@ sink_view sink = counted_sink sink.stopped sink.faults
 -- what a link reads and writes
 abbrev pub stream_of : {S : Type 0} → TcpLink S → S
 stream_of link = link.stream
+
+abbrev pub door_stream_of : {S : Type 0} → DoorLink S → S
+door_stream_of link = stream_of link.link
 
 -- what a source reads
 abbrev pub reader_of : {R : Type 0} → StdSource R → R

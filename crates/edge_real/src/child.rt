@@ -1,41 +1,63 @@
-ghost use Rattle.std.specs.Prelude.{◌≡◌, ◌≢◌, ℕ, ◌≤◌, List, ◌∷◌, ◌++◌, [], ⊤, false, length, map, Option, None, Err, IfSome, IfOk, IfErr, OnOk, MatchResult, All, string_bytes};
-ghost use Rattle.std.specs.Option.{unwrap_or};
-ghost use Rattle.std.specs.Process.{command_program, command_args, SameEnv, SameDir};
+ghost use Rattle.std.specs.Prelude.{◌≡◌, ◌≢◌, true, false, ◌≤◌, length, [], Option, None, Some, Err, IfOk, IfErr, OnOk, option_map, All, string_bytes};
 ghost use Rattle.edge_traits.specs.Stations.{IsWithin, has_output};
 ghost use Rattle.edge_real.specs.Counts.{run_faults, run_overruns};
-ghost use Rattle.edge_real.specs.Children.{IsRunFault, IsStreamFault, NamesNoStream, given_word, CanBeGiven, IsCommandOf, first_input, source_text, input_path, output_path, taken_of, left_by};
-ghost use Rattle.edge_real.specs.Reading.{IsReadWithin, IsReadOf, IsLoadFault};
+ghost use Rattle.edge_real.specs.Children.{IsRunFault, NamesNoStream, CanBeGiven, input_path, output_path, needs_folder};
 ghost use Rattle.edge_real.specs.RunFolders.{place_of, bytes_if};
-ghost use Rattle.edge_real.specs.Views.{station_view, counted_station, folder_of};
+ghost use Rattle.edge_real.specs.Serving.{are_let_through};
+ghost use Rattle.edge_real.specs.Views.{station_view, counted_station, folder_of, policy_of, policy_in};
 
+use crate::command::{
+    OBJECT_NAME, command_in, command_of, input_ext, needs_folder, path_of, source_name,
+};
 use crate::counting::raise;
-use crate::disk::load;
-use crate::notices::{tell_missing, tell_overrun, tell_unstarted};
-use crate::reading::{Reading, read_to_end};
+use crate::notices::{tell_overrun, tell_unserved};
 use crate::run_folder::RunFolder;
-use edge_traits::{Bounds, FetchFault, Station, StationFault, Stream, has_output};
-use farm_types::{Bytes, Ext, Ran, Word};
+use crate::running::{object_left, run_command};
+use edge_traits::{Bounds, Station, StationFault, has_output};
+use farm_types::{Bytes, Ran, Word};
+use served_words::first_unserved;
 use std::alloc::Global;
 use std::fs::File;
-use std::io::{Eprint, Read, Seek, Write};
-use std::os::unix::process::ExitStatusExt;
-use std::process::{Child, Command, OpenProcess, Processes, Stdio};
+use std::io::{Eprint, Write};
+use std::process::Processes;
 use std::random::RandomSource;
-use std::{rt, str};
+use std::rt;
+
+/// Which words a station runs that serves others.
+#[derive(Clone, Copy)]
+pub enum WordPolicy {
+    /// Those that are let through, as `served_words` has it: anybody may send them.
+    ServedWords,
+    /// All words: whoever sends them is trusted as this process is.
+    AllWords,
+}
+
+/// What a station has that serves others.
+#[derive(Drop)]
+struct Service {
+    policy: WordPolicy,
+    /// The folder of this process, from which its programs may be named.
+    here: String,
+}
 
 /// Runs programs as children of this process, and waits for their ends.
 ///
-/// The program is sought as the system seeks it, in `PATH` where its name has no slash. It has the environment and the folder of this process, and an
-/// empty standard input. The files that stand for `Input` and `Output`, and the one that takes its standard error, are in a folder that this run
-/// makes and no other can share: it is new, its owner alone may look into it, and its name has a random word. It is gone when the run ends, whatever
-/// it answers, with all that the program left there. No file stands for `Output` until the program makes one.
+/// The program is sought as the system seeks it, in `PATH` where its name has no slash. It has the environment of this process and an empty
+/// standard input. The files that stand for `Input` and `Output` are in a folder that this run makes and no other can share: it is new, its
+/// owner alone may look into it, and its name has a random word. It is gone when the run ends, whatever it answers, with all that the program
+/// left there. No file stands for `Output` until the program makes one. What the program says goes to files without a name.
 ///
-/// Why a run came to nothing stands as a line on the standard error of this process: the program or the file and the system's reason, or the
-/// stream that was too long. So does it where a program ended with status 0 and left no object, and where the folder couldn't be removed.
+/// A program runs in the folder of this process, and has its files by their paths. One of a station that serves others runs in the folder of its
+/// run, and has its files by their names there.
+///
+/// Why a run came to nothing stands as a line on the standard error of this process: the program or the file and the system's reason, the
+/// stream that was too long, or the word that isn't let through. So does it where a program ended with status 0 and left no object, and where
+/// the folder couldn't be removed.
 #[derive(Drop)]
 pub struct ChildStation<R> {
     rt: R,
     folder: String,
+    service: Option<Service>,
     faults: u64,
     overruns: u64,
 }
@@ -45,10 +67,28 @@ impl<R: Processes + rt::Files<File = File>> ChildStation<R> {
     pub fn new(rt: R, folder: String) -> ChildStation<R>
         ensures view { station_view result ≡ counted_station 0 0 }
         ensures folder { folder_of result ≡ string_bytes folder }
+        ensures policy { policy_of result ≡ None }
     {
         ChildStation {
             rt,
             folder,
+            service: None,
+            faults: 0,
+            overruns: 0,
+        }
+    }
+
+    /// A station that runs what others send, by this policy. `here` is the folder of this process: a program that is named by a path from there
+    /// is found, though its run is in another.
+    pub fn serving(rt: R, folder: String, here: String, policy: WordPolicy) -> ChildStation<R>
+        ensures view { station_view result ≡ counted_station 0 0 }
+        ensures folder { folder_of result ≡ string_bytes folder }
+        ensures policy { policy_of result ≡ Some policy }
+    {
+        ChildStation {
+            rt,
+            folder,
+            service: Some(Service { policy, here }),
             faults: 0,
             overruns: 0,
         }
@@ -71,11 +111,22 @@ impl<R: Processes + rt::Files<File = File> + RandomSource + Eprint> Station for 
         ensures fault { IfErr result (IsRunFault bounds.now) }
         ensures given { OnOk result (All CanBeGiven words.now) }
         ensures no_object { IfOk result (λ ran. has_output words.now ≡ false → ran.object ≡ []) }
+        ensures served { OnOk result (are_let_through (policy_of self.old) words.now ≡ true) }
+        ensures refused { are_let_through (policy_of self.old) words.now ≡ false → result ≡ Err StationFault.Failed }
+        ensures policy { policy_of self.new ≡ policy_of self.old }
         ensures folder { folder_of self.new ≡ folder_of self.old }
         ensures faults { (station_view self.new).faults ≡ run_faults result (station_view self.old).faults }
         ensures overruns { (station_view self.new).overruns ≡ run_overruns result (station_view self.old).overruns }
     {
-        let ran = run_child(&self.rt, self.folder.as_str(), alloc, words, input, bounds);
+        let ran = run_served(
+            &self.rt,
+            self.folder.as_str(),
+            &self.service,
+            alloc,
+            words,
+            input,
+            bounds,
+        );
         match ran {
             Ok(_) => {}
             Err(StationFault::TooMuch { stream, bytes }) => {
@@ -89,8 +140,111 @@ impl<R: Processes + rt::Files<File = File> + RandomSource + Eprint> Station for 
     }
 }
 
-#[tactic(auto, using(crate::proofs::ChildLemmas::unnamed))]
+/// Whether the words may run. The first that isn't let through is told.
+fn are_let_through<R: Eprint>(rt: &R, service: &Option<Service>, words: &[Word]) -> bool
+    ensures { result ≡ are_let_through (policy_in service.now) words.now }
+{
+    let Some(service) = service else {
+        return true;
+    };
+    match service.policy {
+        WordPolicy::AllWords => true,
+        WordPolicy::ServedWords => match first_unserved(words) {
+            None => true,
+            Some(place) => {
+                tell_unserved(rt, words, place);
+                false
+            }
+        },
+    }
+}
+
+/// Runs the words where they are let through.
+fn run_served<R: Processes + rt::Files<File = File> + RandomSource + Eprint>(
+    rt: &R,
+    folder: &str,
+    service: &Option<Service>,
+    alloc: Global,
+    words: &[Word],
+    input: &[u8],
+    bounds: &Bounds,
+) -> Result<Ran, StationFault>
+    ensures within { IfOk result (IsWithin bounds.now) }
+    ensures fault { IfErr result (IsRunFault bounds.now) }
+    ensures given { OnOk result (All CanBeGiven words.now) }
+    ensures no_object { IfOk result (λ ran. has_output words.now ≡ false → ran.object ≡ []) }
+    ensures served { OnOk result (are_let_through (policy_in service.now) words.now ≡ true) }
+    ensures refused { are_let_through (policy_in service.now) words.now ≡ false → result ≡ Err StationFault.Failed }
+{
+    if !are_let_through(rt, service, words) {
+        return Err(StationFault::Failed);
+    }
+    run_child(rt, folder, service, alloc, words, input, bounds)
+}
+
+/// Runs words that are let through.
 fn run_child<R: Processes + rt::Files<File = File> + RandomSource + Eprint>(
+    rt: &R,
+    folder: &str,
+    service: &Option<Service>,
+    alloc: Global,
+    words: &[Word],
+    input: &[u8],
+    bounds: &Bounds,
+) -> Result<Ran, StationFault>
+    requires served { are_let_through (policy_in service.now) words.now ≡ true }
+    ensures within { IfOk result (IsWithin bounds.now) }
+    ensures fault { IfErr result (IsRunFault bounds.now) }
+    ensures given { OnOk result (All CanBeGiven words.now) }
+    ensures no_object { IfOk result (λ ran. has_output words.now ≡ false → ran.object ≡ []) }
+{
+    match service {
+        Some(service) => {
+            let here = service.here.as_str();
+            run_for_others(rt, folder, here, alloc, words, input, bounds)
+        }
+        None => {
+            if needs_folder(words) {
+                return run_with_files(rt, folder, alloc, words, input, bounds);
+            }
+            run_alone(rt, folder, alloc, words, bounds)
+        }
+    }
+}
+
+/// Runs words for others, in the folder of the run.
+#[tactic(auto, using(crate::proofs::ChildLemmas::unnamed, crate::proofs::ChildLemmas::of_object))]
+fn run_for_others<R: Processes + rt::Files<File = File> + RandomSource + Eprint>(
+    rt: &R,
+    folder: &str,
+    here: &str,
+    alloc: Global,
+    words: &[Word],
+    input: &[u8],
+    bounds: &Bounds,
+) -> Result<Ran, StationFault>
+    ensures within { IfOk result (IsWithin bounds.now) }
+    ensures fault { IfErr result (IsRunFault bounds.now) }
+    ensures given { OnOk result (All CanBeGiven words.now) }
+    ensures no_object { IfOk result (λ ran. has_output words.now ≡ false → ran.object ≡ []) }
+{
+    let folder = RunFolder::create(rt, alloc, folder)?;
+    let _source = input_file(&folder, words, input)?;
+    let path = output_path(&folder, words)?;
+    let command = command_in(alloc, words, folder.path(), here)?;
+    let ended = run_command(rt, alloc, folder.path(), command, bounds)?;
+    let object = object_left(rt, alloc, words, &path, ended.status, bounds.object)?;
+    Ok(Ran {
+        status: ended.status,
+        out: ended.out,
+        err: ended.err,
+        object,
+    })
+}
+
+/// Runs words in the folder of this process, with the files that stand for some of them in the folder of the run.
+#[tactic(auto, using(crate::proofs::ChildLemmas::unnamed, crate::proofs::ChildLemmas::of_object))]
+fn run_with_files<R: Processes + rt::Files<File = File> + RandomSource + Eprint>(
     rt: &R,
     folder: &str,
     alloc: Global,
@@ -105,27 +259,40 @@ fn run_child<R: Processes + rt::Files<File = File> + RandomSource + Eprint>(
 {
     let folder = RunFolder::create(rt, alloc, folder)?;
     let source = input_file(&folder, words, input)?;
-    let object = output_path(&folder, words)?;
-    let mut messages = messages_file(&folder)?;
-    let command = command_of(alloc, words, path_of(&source), path_of(&object))?;
-    let child = start(rt, command, &messages)?;
-    let (status, out) = run_to_end(child, alloc, bounds.out)?;
-    let err = read_again(&mut messages, alloc, bounds.err)?;
-    let object = match &object {
-        Some(path) => {
-            let loaded = load(rt, alloc, path.as_str(), bounds.object);
-            if status == 0 && matches!(loaded, Err(FetchFault::Absent)) {
-                tell_missing(rt, words);
-            }
-            left_by(alloc, loaded, Stream::Object)?
-        }
-        None => Bytes::new(alloc),
-    };
+    let path = output_path(&folder, words)?;
+    let command = command_of(alloc, words, path_of(&source), path_of(&path))?;
+    let ended = run_command(rt, alloc, folder.path(), command, bounds)?;
+    let object = object_left(rt, alloc, words, &path, ended.status, bounds.object)?;
     Ok(Ran {
-        status,
-        out,
-        err,
+        status: ended.status,
+        out: ended.out,
+        err: ended.err,
         object,
+    })
+}
+
+/// Runs words in the folder of this process for which no file stands, so that the run needs no folder of its own.
+#[tactic(auto, using(crate::proofs::ChildLemmas::unnamed))]
+fn run_alone<R: Processes + rt::Files<File = File> + RandomSource + Eprint>(
+    rt: &R,
+    folder: &str,
+    alloc: Global,
+    words: &[Word],
+    bounds: &Bounds,
+) -> Result<Ran, StationFault>
+    requires alone { needs_folder words.now ≡ false }
+    ensures within { IfOk result (IsWithin bounds.now) }
+    ensures fault { IfErr result (IsRunFault bounds.now) }
+    ensures given { OnOk result (All CanBeGiven words.now) }
+    ensures no_object { IfOk result (λ ran. ran.object ≡ []) }
+{
+    let command = command_of(alloc, words, "", "")?;
+    let ended = run_command(rt, alloc, folder, command, bounds)?;
+    Ok(Ran {
+        status: ended.status,
+        out: ended.out,
+        err: ended.err,
+        object: Bytes::new(alloc),
     })
 }
 
@@ -169,258 +336,5 @@ fn output_path<R: rt::Files + Eprint>(
     if !has_output(words) {
         return Ok(None);
     }
-    Ok(Some(folder.name_of("output.o")?))
-}
-
-/// A file in the folder for the program's standard error.
-fn messages_file<R: rt::Files<File = File> + Eprint>(
-    folder: &RunFolder<'_, R>,
-) -> Result<File, StationFault>
-    ensures fault { IfErr result NamesNoStream }
-{
-    let path = folder.name_of("messages")?;
-    folder.create_file(path.as_str())
-}
-
-#[tactic(auto, using(crate::proofs::WordLemmas::inputs))]
-fn input_ext(words: &[Word]) -> Option<Ext>
-    ensures { result ≡ first_input words.now }
-{
-    for word in words {
-        if let Word::Input(ext) = word {
-            return Some(*ext);
-        }
-    }
-    None
-}
-
-/// The name of the input in its folder.
-fn source_name(ext: Ext) -> &'static str
-    ensures { result.now ≡ source_text ext }
-{
-    match ext {
-        Ext::I => "input.i",
-        Ext::Ii => "input.ii",
-    }
-}
-
-/// The path, and nothing where there is none.
-fn path_of(path: &Option<String>) -> &str
-    ensures { result.now ≡ unwrap_or (bytes_if path.now) [] }
-{
-    match path {
-        Some(path) => path.as_str(),
-        None => "",
-    }
-}
-
-fn command_of(
-    alloc: Global,
-    words: &[Word],
-    source: &str,
-    object: &str,
-) -> Result<Command, StationFault>
-    ensures command { IfOk result (IsCommandOf words.now source.now object.now) }
-    ensures given { OnOk result (All CanBeGiven words.now) }
-    ensures empty { words.now ≡ [] → result ≡ Err StationFault.Failed }
-    ensures fault { IfErr result NamesNoStream }
-{
-    let Some((program, arguments)) = words.split_first() else {
-        return Err(StationFault::Failed);
-    };
-    let mut command = Command::new(alloc, text_of(program, source, object)?)?;
-    give_all(&mut command, arguments, source, object)?;
-    Ok(command)
-}
-
-/// Gives a command these words more, and changes nothing else of it.
-fn give_all(
-    command: &mut Command,
-    words: &[Word],
-    source: &str,
-    object: &str,
-) -> Result<(), StationFault>
-    ensures program { OnOk result (command_program command.new ≡ command_program command.old) }
-    ensures arguments { OnOk result (command_args command.new ≡ command_args command.old ++ map (given_word source.now object.now) words.now) }
-    ensures environment { OnOk result (SameEnv command.old command.new) }
-    ensures folder { OnOk result (SameDir command.old command.new) }
-    ensures given { OnOk result (All CanBeGiven words.now) }
-    ensures fault { IfErr result NamesNoStream }
-{
-    for word in words {
-        give(command, word, source, object)?;
-    }
-    Ok(())
-}
-
-/// Gives a command this word more, and changes nothing else of it.
-fn give(command: &mut Command, word: &Word, source: &str, object: &str) -> Result<(), StationFault>
-    ensures program { OnOk result (command_program command.new ≡ command_program command.old) }
-    ensures arguments { OnOk result (command_args command.new ≡ command_args command.old ++ given_word source.now object.now word.now ∷ []) }
-    ensures environment { OnOk result (SameEnv command.old command.new) }
-    ensures folder { OnOk result (SameDir command.old command.new) }
-    ensures given { OnOk result (CanBeGiven word.now) }
-    ensures refused { ¬ (CanBeGiven word.now) → result ≡ Err StationFault.Failed }
-    ensures fault { IfErr result NamesNoStream }
-{
-    let text = text_of(word, source, object)?;
-    command.arg(text)?;
-    Ok(())
-}
-
-/// A word as the program is given it. One that isn't UTF-8 or holds a zero byte can't be given.
-fn text_of<'a>(word: &'a Word, source: &'a str, object: &'a str) -> Result<&'a str, StationFault>
-    ensures text { IfOk result (λ text. text.now ≡ given_word source.now object.now word.now) }
-    ensures cases { MatchResult result (λ text. CanBeGiven word.now) (λ fault. (fault ≡ StationFault.Failed) × ¬ (CanBeGiven word.now)) }
-{
-    match word {
-        Word::Input(_) => Ok(source),
-        Word::Output => Ok(object),
-        Word::Text(bytes) => {
-            if bytes.as_slice().contains(&0) {
-                return Err(StationFault::Failed);
-            }
-            match str::from_utf8(bytes.as_slice()) {
-                Ok(text) => Ok(text),
-                Err(_) => Err(StationFault::Failed),
-            }
-        }
-    }
-}
-
-/// Starts a program, with an empty standard input. Its standard error goes to this file, and its standard output to a pipe.
-fn start<R: Processes + Eprint>(
-    rt: &R,
-    command: Command,
-    messages: &File,
-) -> Result<Child<R::Started>, StationFault>
-    ensures fault { IfErr result NamesNoStream }
-    ensures memory { result ≢ Err StationFault.Memory }
-{
-    let Ok(errors) = messages.try_clone() else {
-        return Err(StationFault::Failed);
-    };
-    let mut command = command;
-    command
-        .stdin(Stdio::null())
-        .stdout(Stdio::piped())
-        .stderr(Stdio::from(errors));
-    match command.spawn(rt) {
-        Ok(child) => Ok(child),
-        Err(error) => {
-            tell_unstarted(rt, command.get_program(), &error);
-            Err(StationFault::Failed)
-        }
-    }
-}
-
-/// Runs a program to its end. Its standard output is read here, so it doesn't hold the program up.
-#[tactic(auto, using(crate::proofs::ChildLemmas::unnamed_in))]
-fn run_to_end<P: OpenProcess + Drop>(
-    mut child: Child<P>,
-    alloc: Global,
-    bound: u32,
-) -> Result<(u32, Bytes), StationFault>
-    ensures within { IfOk result (λ ended. length ended.1 ≤ bound) }
-    ensures fault { IfErr result (IsStreamFault Stream.Out bound) }
-{
-    let out = read_pipe(child.stdout.take(), alloc, bound);
-    let status = wait_for(&mut child)?;
-    Ok((status, out?))
-}
-
-/// The wait status of a program, once it has ended.
-fn wait_for<P: OpenProcess + Drop>(child: &mut Child<P>) -> Result<u32, StationFault>
-    ensures fault { IfErr result NamesNoStream }
-    ensures memory { result ≢ Err StationFault.Memory }
-{
-    match child.wait() {
-        Ok(status) => Ok(status.into_raw().cast_unsigned()),
-        Err(_) => Err(StationFault::Failed),
-    }
-}
-
-fn read_pipe<S: Read + Drop>(
-    pipe: Option<S>,
-    alloc: Global,
-    bound: u32,
-) -> Result<Bytes, StationFault>
-    ensures within { IfOk result (λ bytes. length bytes ≤ bound) }
-    ensures fault { IfErr result (IsStreamFault Stream.Out bound) }
-    ensures none { pipe ≡ None → result ≡ Err StationFault.Failed }
-    ensures read { IfOk result (λ bytes. IfSome pipe (λ stream. IfSome (S.remaining stream) (λ all. bytes ≡ all))) }
-{
-    let Some(mut pipe) = pipe else {
-        return Err(StationFault::Failed);
-    };
-    read_stream(&mut pipe, alloc, bound, Stream::Out)
-}
-
-/// What was written into a file that is open still.
-#[tactic(auto, using(crate::proofs::ChildLemmas::unnamed_in))]
-fn read_again(file: &mut File, alloc: Global, bound: u32) -> Result<Bytes, StationFault>
-    ensures within { IfOk result (λ bytes. length bytes ≤ bound) }
-    ensures fault { IfErr result (IsStreamFault Stream.Err bound) }
-{
-    to_its_start(file)?;
-    read_stream(file, alloc, bound, Stream::Err)
-}
-
-fn to_its_start(file: &mut File) -> Result<(), StationFault>
-    ensures fault { IfErr result NamesNoStream }
-    ensures memory { result ≢ Err StationFault.Memory }
-{
-    match file.rewind() {
-        Ok(()) => Ok(()),
-        Err(_) => Err(StationFault::Failed),
-    }
-}
-
-fn read_stream<S: Read>(
-    stream: &mut S,
-    alloc: Global,
-    bound: u32,
-    which: Stream,
-) -> Result<Bytes, StationFault>
-    ensures within { IfOk result (λ bytes. length bytes ≤ bound) }
-    ensures fault { IfErr result (IsStreamFault which bound) }
-    ensures read { IfOk result (λ bytes. IfSome (S.remaining stream.old) (λ all. bytes ≡ all)) }
-{
-    taken(read_to_end(stream, alloc, bound)?, which)
-}
-
-/// What is taken of a stream, by what its reading gave.
-fn taken(reading: Reading, which: Stream) -> Result<Bytes, StationFault>
-    ensures taken { result ≡ taken_of which reading }
-    ensures within { (bound : ℕ) → IsReadWithin bound reading → IfOk result (λ bytes. length bytes ≤ bound) }
-    ensures fault { (bound : ℕ) → IsReadWithin bound reading → IfErr result (IsStreamFault which bound) }
-    ensures read { (known : Option (List ℕ)) → IsReadOf known reading → IfOk result (λ bytes. IfSome known (λ all. bytes ≡ all)) }
-{
-    match reading {
-        Reading::Whole(bytes) => Ok(bytes),
-        Reading::Over(bytes) => Err(StationFault::TooMuch {
-            stream: which,
-            bytes,
-        }),
-        Reading::Failed => Err(StationFault::Failed),
-    }
-}
-
-/// What a program left in a file, by the load of it: one that isn't there holds nothing.
-fn left_by(
-    alloc: Global,
-    loaded: Result<Bytes, FetchFault>,
-    stream: Stream,
-) -> Result<Bytes, StationFault>
-    ensures left { result ≡ left_by stream loaded }
-    ensures within { (bound : ℕ) → IfOk loaded (λ bytes. length bytes ≤ bound) → IfOk result (λ bytes. length bytes ≤ bound) }
-    ensures fault { (bound : ℕ) → IfErr loaded (IsLoadFault bound) → IfErr result (IsStreamFault stream bound) }
-{
-    match loaded {
-        Ok(bytes) => Ok(bytes),
-        Err(FetchFault::Absent) => Ok(Bytes::new(alloc)),
-        Err(FetchFault::TooMuch { bytes }) => Err(StationFault::TooMuch { stream, bytes }),
-        Err(FetchFault::Failed) => Err(StationFault::Failed),
-        Err(FetchFault::Memory) => Err(StationFault::Memory),
-    }
+    Ok(Some(folder.name_of(OBJECT_NAME)?))
 }

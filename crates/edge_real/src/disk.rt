@@ -7,6 +7,7 @@ ghost use Rattle.edge_real.specs.Reading.{IsReadWithin, IsLoadFault, load_of};
 ghost use Rattle.edge_real.specs.Views.{files_view, counted_files, files_names};
 
 use crate::counting::raise;
+use crate::notices::{tell_unput, tell_unread};
 use crate::own_files::OwnNames;
 use crate::reading::{Reading, read_to_end};
 use crate::staging::{StagedFile, move_to, stage};
@@ -15,7 +16,7 @@ use farm_types::Bytes;
 use object_delivery::Files;
 use std::alloc::Global;
 use std::fs::File;
-use std::io::ErrorKind;
+use std::io::{Eprint, ErrorKind};
 use std::{fs, io, rt, str};
 
 /// The files of the system, for a keeper that writes one file at a time. A name that isn't UTF-8 counts as a fault.
@@ -50,7 +51,7 @@ impl<R: rt::Files<File = File>> DiskFiles<R> {
     }
 }
 
-impl<R: rt::Files<File = File>> Files for DiskFiles<R> {
+impl<R: rt::Files<File = File> + Eprint> Files for DiskFiles<R> {
     ghost shows = { files_view };
 
     fn create(&mut self, alloc: Global, name: &Bytes) -> Result<(), EdgeFault>
@@ -86,7 +87,8 @@ impl<R: rt::Files<File = File>> Files for DiskFiles<R> {
                 }
                 Ok(taken)
             }
-            Err(_) => {
+            Err(error) => {
+                tell_unput_bytes(&self.rt, name, &error);
                 raise(&mut self.faults);
                 Err(EdgeFault::Failed)
             }
@@ -102,7 +104,8 @@ impl<R: rt::Files<File = File>> Files for DiskFiles<R> {
     {
         match rename_file(&self.rt, &mut self.staged, from, to) {
             Ok(()) => Ok(()),
-            Err(_) => {
+            Err(error) => {
+                tell_unput_bytes(&self.rt, to, &error);
                 raise(&mut self.faults);
                 Err(EdgeFault::Failed)
             }
@@ -117,7 +120,8 @@ impl<R: rt::Files<File = File>> Files for DiskFiles<R> {
     {
         match remove_file(&self.rt, &mut self.staged, name) {
             Ok(()) => Ok(()),
-            Err(_) => {
+            Err(error) => {
+                tell_unput_bytes(&self.rt, name, &error);
                 raise(&mut self.faults);
                 Err(EdgeFault::Failed)
             }
@@ -139,6 +143,13 @@ impl<R: rt::Files<File = File>> Files for DiskFiles<R> {
             Err(FetchFault::Failed) => raise(&mut self.faults),
         }
         loaded
+    }
+}
+
+/// A put of this name came to nothing, for the system's reason. A name that isn't UTF-8 has no line.
+fn tell_unput_bytes<R: Eprint>(rt: &R, name: &Bytes, error: &io::Error) {
+    if let Ok(text) = text_of(name) {
+        tell_unput(rt, text.strip_suffix(".farm~").unwrap_or(text), error);
     }
 }
 
@@ -180,7 +191,7 @@ fn rename_file<R: rt::Files>(
     if !file.stands_for(from) {
         return Err(io::Error::from(ErrorKind::NotFound));
     }
-    move_to(rt, file.path(), text_of(to)?)?;
+    move_to(rt, file.path(), file.goal_for(text_of(to)?))?;
     *staged = None;
     Ok(())
 }
@@ -205,7 +216,7 @@ fn remove_file<R: rt::Files>(
     }
 }
 
-fn load_file<R: rt::Files>(
+fn load_file<R: rt::Files + Eprint>(
     rt: &R,
     alloc: Global,
     name: &Bytes,
@@ -222,7 +233,7 @@ fn load_file<R: rt::Files>(
 }
 
 /// The whole file, which has at most `bound` bytes.
-pub fn load<R: rt::Files>(
+pub fn load<R: rt::Files + Eprint>(
     rt: &R,
     alloc: Global,
     path: &str,
@@ -233,7 +244,12 @@ pub fn load<R: rt::Files>(
 {
     match File::open(rt, path) {
         Ok(mut file) => loaded(read_to_end(&mut file, alloc, bound)?),
-        Err(error) => Err(why_unopened(&error)),
+        Err(error) => {
+            if error.kind() != ErrorKind::NotFound {
+                tell_unread(rt, path, &error);
+            }
+            Err(why_unopened(&error))
+        }
     }
 }
 

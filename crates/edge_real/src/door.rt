@@ -1,59 +1,76 @@
-ghost use Rattle.std.specs.Prelude.{◌≡◌, ◌≢◌, ⊤, false, IsTrue, IsSome, IfOk, IfErr, OnOk, Err};
-ghost use Rattle.std.specs.IoError.{error_kind};
+ghost use Rattle.std.specs.Prelude.{◌≡◌, ◌≢◌, ⊤, false, IsTrue, IsSome, IfOk, Err};
 ghost use Rattle.std.specs.Net.Addr.{IsIpv4OfBits};
 ghost use Rattle.std.specs.Net.Socket.{v4_ip, v4_port};
 ghost use Rattle.edge_traits.specs.Links.{IsNew};
 ghost use Rattle.edge_real.specs.Counts.{call_faults};
-ghost use Rattle.edge_real.specs.Views.{link_view, door_view, counted_door, is_listening, peer_bits};
+ghost use Rattle.edge_real.specs.Views.{door_link_view, door_view, counted_door, is_listening, peer_bits};
 
+use crate::accepting::accept_one;
 use crate::counting::raise;
-use crate::tcp::TcpLink;
+use crate::door_link::{DoorLink, moment};
+use crate::notices::{tell_closed, tell_door_end, tell_unshared};
 use edge_traits::{Door, EdgeFault};
-use farm_types::{Bytes, HostName};
 use std::alloc::Global;
-use std::io;
-use std::io::{ErrorKind, Read, Write};
+use std::io::{Eprint, Error, Read, Write};
 use std::net::{Ipv4Addr, Net, OpenListener, OpenStream, SocketAddr, SocketAddrV4, TcpListener};
+use std::rt::Clock;
 
 /// Takes connections in over TCP. Without a listener, each `accept` counts as a fault.
+///
+/// One line on the standard error of this process tells of each connection when it is left: when, the peer, the compiler, what became of it, the
+/// length of the source and of the object, and how long it took. Where the system takes no connection any more, a line says so, with the reason.
 #[derive(Drop)]
-pub struct TcpDoor<L> {
+pub struct TcpDoor<R, L> {
+    rt: R,
     listener: Option<L>,
+    refusal: Option<Error>,
     faults: u64,
 }
 
-impl<L: OpenListener> TcpDoor<L> {
+impl<R: Eprint, L: OpenListener> TcpDoor<R, L> {
     /// A door on this IPv4 address and port. Port 0 is one that the system picks.
-    pub fn open<R: Net<Listener = L>>(rt: &R, address: u32, port: u16) -> TcpDoor<L>
+    pub fn open(rt: R, address: u32, port: u16) -> TcpDoor<R, L>
+    where
+        R: Net<Listener = L>,
         ensures { door_view result ≡ counted_door 0 }
     {
+        let opened = TcpListener::bind(&rt, place_of(address, port));
+        let (listener, refusal) = match opened {
+            Ok(listener) => (Some(listener), None),
+            Err(error) => (None, Some(error)),
+        };
         TcpDoor {
-            listener: TcpListener::bind(rt, place_of(address, port)).ok(),
+            rt,
+            listener,
+            refusal,
             faults: 0,
         }
     }
 
     /// A door without a listener.
-    pub fn closed() -> TcpDoor<L>
+    pub fn closed(rt: R) -> TcpDoor<R, L>
         ensures view { door_view result ≡ counted_door 0 }
         ensures listener { is_listening result ≡ false }
     {
         TcpDoor {
+            rt,
             listener: None,
+            refusal: None,
             faults: 0,
         }
     }
 
-    /// Another door on the same listener. It has none where this one has none, or where the system refuses another.
-    pub fn share(&self) -> TcpDoor<L>
+    /// Another door on the same listener. It has none where this one has none, or where the system refuses another, which is told.
+    pub fn share(&self) -> TcpDoor<R, L>
+    where
+        R: Copy,
         ensures view { door_view result ≡ counted_door 0 }
         ensures listener { IsTrue (is_listening result) → IsTrue (is_listening self.now) }
     {
         TcpDoor {
-            listener: match &self.listener {
-                Some(listener) => listener.try_clone().ok(),
-                None => None,
-            },
+            rt: self.rt,
+            listener: another(&self.rt, &self.listener),
+            refusal: None,
             faults: 0,
         }
     }
@@ -65,6 +82,13 @@ impl<L: OpenListener> TcpDoor<L> {
         self.listener.is_some()
     }
 
+    /// Tells on the standard error why there is no listener, where the system said why.
+    pub fn tell_refusal(&self) {
+        if let Some(error) = &self.refusal {
+            tell_closed(&self.rt, error);
+        }
+    }
+
     /// The port of the listener, where the system tells it.
     pub fn port(&self) -> Option<u16>
         ensures { IsSome result → IsTrue (is_listening self.now) }
@@ -72,37 +96,13 @@ impl<L: OpenListener> TcpDoor<L> {
         let place = self.listener.as_ref()?.local_addr().ok()?;
         Some(place.port())
     }
-
-    /// One connection, with the peer's address. An accept that a signal interrupted, or whose peer has gone by then, is made again.
-    fn accept_one(&self) -> io::Result<(L::Stream, SocketAddr)>
-        ensures listener { OnOk result (IsTrue (is_listening self.now)) }
-        ensures retried { IfErr result (λ error. (error_kind error ≢ ErrorKind.Interrupted) × (error_kind error ≢ ErrorKind.ConnectionAborted)) }
-    {
-        let Some(listener) = &self.listener else {
-            return Err(io::Error::from(ErrorKind::NotConnected));
-        };
-        for _ in 0..u64::MAX {
-            match listener.accept() {
-                Ok(accepted) => return Ok(accepted),
-                Err(error) => {
-                    if !matches!(
-                        error.kind(),
-                        ErrorKind::Interrupted | ErrorKind::ConnectionAborted
-                    ) {
-                        return Err(error);
-                    }
-                }
-            }
-        }
-        Err(io::Error::from(ErrorKind::Other))
-    }
 }
 
-impl<L: OpenListener> Door for TcpDoor<L>
+impl<R: Eprint + Clock, L: OpenListener> Door for TcpDoor<R, L>
 where
     L::Stream: Read + Write + OpenStream,
 {
-    type Link = TcpLink<L::Stream>;
+    type Link = DoorLink<L::Stream>;
 
     ghost shows = { door_view };
 
@@ -110,32 +110,48 @@ where
 
     ghost came_stays = { λ d a b came f. came };
 
-    fn accept(&mut self, alloc: Global) -> Result<(TcpLink<L::Stream>, u32), EdgeFault>
-        ensures new { IfOk result (λ accepted. IsNew (link_view accepted.0)) }
+    fn accept(&mut self, alloc: Global) -> Result<(DoorLink<L::Stream>, u32), EdgeFault>
+        ensures new { IfOk result (λ accepted. IsNew (door_link_view accepted.0)) }
         ensures listener { is_listening self.new ≡ is_listening self.old }
         ensures closed { is_listening self.old ≡ false → result ≡ Err EdgeFault.Failed }
         ensures memory { result ≢ Err EdgeFault.Memory }
         ensures faults { (door_view self.new).faults ≡ call_faults result (door_view self.old).faults }
     {
-        match self.accept_one() {
+        let Some(listener) = &self.listener else {
+            raise(&mut self.faults);
+            return Err(EdgeFault::Failed);
+        };
+        match accept_one(&self.rt, listener) {
             Ok((stream, peer)) => {
-                let nobody = HostName {
-                    text: Bytes::new(alloc),
-                };
-                Ok((TcpLink::new(stream, nobody, 0), ipv4_of(peer)))
+                let link = DoorLink::new(alloc, stream, peer, moment(&self.rt));
+                Ok((link, ipv4_of(peer)))
             }
-            Err(_) => {
+            Err(error) => {
+                tell_door_end(&self.rt, &error);
                 raise(&mut self.faults);
                 Err(EdgeFault::Failed)
             }
         }
     }
 
-    fn leave(&mut self, link: TcpLink<L::Stream>)
+    fn leave(&mut self, link: DoorLink<L::Stream>)
         ensures listener { is_listening self.new ≡ is_listening self.old }
         ensures faults { (door_view self.new).faults ≡ (door_view self.old).faults }
     {
-        link.linger();
+        link.end(&self.rt);
+    }
+}
+
+/// Another handle of the listener, where there is one. That the system refuses it is told.
+fn another<R: Eprint, L: OpenListener>(rt: &R, listener: &Option<L>) -> Option<L>
+    ensures { IsSome result → IsSome listener.now }
+{
+    match listener.as_ref()?.try_clone() {
+        Ok(other) => Some(other),
+        Err(error) => {
+            tell_unshared(rt, &error);
+            None
+        }
     }
 }
 

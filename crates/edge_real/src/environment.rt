@@ -47,6 +47,22 @@ pub fn own_folder<R: Env + AllocGlobal>(rt: &R) -> Result<String, AllocError> {
     folder_of(rt.alloc(), env::var(rt, "TMPDIR"))
 }
 
+/// The folder of this process, which is empty where the system doesn't tell it or where it isn't UTF-8.
+pub fn current_folder<R: Env + AllocGlobal>(rt: &R) -> Result<String, AllocError> {
+    match env::current_dir(rt) {
+        Ok(folder) => match folder.to_str() {
+            Some(text) => String::from_str(rt.alloc(), text),
+            None => Ok(String::new(rt.alloc())),
+        },
+        Err(error) => {
+            if error.kind() == ErrorKind::OutOfMemory {
+                return Err(AllocError);
+            }
+            Ok(String::new(rt.alloc()))
+        }
+    }
+}
+
 fn folder_of(alloc: Global, found: Result<String, VarError>) -> Result<String, AllocError>
     ensures { IfOk result (IsFolderOf found) }
 {

@@ -6,6 +6,7 @@ use edge_traits::Kit;
 use object_delivery::FileKeeper;
 use std::alloc::{AllocError, Global};
 use std::fs::File;
+use std::io::Eprint;
 use std::net::Net;
 use std::process::Processes;
 use std::random::RandomSource;
@@ -15,12 +16,9 @@ use std::rt;
 pub type SystemKit<R> = Kit<TcpDialer<R>, ChildStation<R>, FileKeeper<DiskFiles<R>>, WallClock<R>>;
 
 /// A worker's devices. What is of its own is in `folder`, and `process` is the number of this process.
-pub fn system_kit<R: Net + Processes + RandomSource + rt::Files<File = File> + rt::Clock + Copy>(
-    rt: R,
-    alloc: Global,
-    folder: &str,
-    process: u32,
-) -> Result<SystemKit<R>, AllocError>
+pub fn system_kit<
+    R: Net + Processes + RandomSource + rt::Files<File = File> + rt::Clock + Eprint + Copy,
+>(rt: R, alloc: Global, folder: &str, process: u32) -> Result<SystemKit<R>, AllocError>
     ensures { IfOk result (IsSystemKit rt folder.now process) }
 {
     let staging = String::from_str(alloc, folder)?;
@@ -33,7 +31,9 @@ pub fn system_kit<R: Net + Processes + RandomSource + rt::Files<File = File> + r
 }
 
 /// So many kits.
-pub fn system_kits<R: Net + Processes + RandomSource + rt::Files<File = File> + rt::Clock + Copy>(
+pub fn system_kits<
+    R: Net + Processes + RandomSource + rt::Files<File = File> + rt::Clock + Eprint + Copy,
+>(
     rt: R,
     alloc: Global,
     folder: &str,

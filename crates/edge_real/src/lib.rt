@@ -2,27 +2,34 @@
 //! Each counts the calls that came to nothing, and tells no content.
 #![tactic(auto)]
 
+mod accepting;
 mod child;
 mod clock;
+mod command;
 mod counting;
 mod disk;
 mod door;
+mod door_link;
 mod environment;
+mod exchange;
+mod goals;
 mod kits;
 mod notices;
 mod own_files;
 mod reading;
 mod retrying;
 mod run_folder;
+mod running;
 mod staging;
 mod stream;
 mod tcp;
 
-pub use child::ChildStation;
+pub use child::{ChildStation, WordPolicy};
 pub use clock::WallClock;
 pub use disk::DiskFiles;
 pub use door::TcpDoor;
-pub use environment::{command_words, own_folder, variable};
+pub use door_link::DoorLink;
+pub use environment::{command_words, current_folder, own_folder, variable};
 pub use kits::{SystemKit, system_kits};
 pub use stream::{StdSink, StdSource};
 pub use tcp::{TcpDialer, TcpLink};

@@ -2,7 +2,7 @@
 ghost use Rattle.std.specs.Prelude.{◌≡◌, ◌≢◌, true, IfOk, IfErr, Err, string_bytes};
 ghost use Rattle.std.specs.Fs.{asks_read, asks_write, asks_create_new};
 ghost use Rattle.edge_real.specs.Children.{NamesNoStream};
-ghost use Rattle.edge_real.specs.RunFolders.{folder_name, IsFolderIn, place_of, file_in};
+ghost use Rattle.edge_real.specs.RunFolders.{folder_name, IsNamedIn, place_of, file_in};
 
 use crate::notices::{tell_unmade, tell_unremoved};
 use edge_traits::StationFault;
@@ -24,28 +24,30 @@ pub struct RunFolder<'a, R: rt::Files + Eprint> {
 }
 
 impl<'a, R: rt::Files + RandomSource + Eprint> RunFolder<'a, R> {
-    /// A new empty folder in this one. A name that is there already is passed over.
+    /// A new empty folder in this one.
     pub fn create(rt: &'a R, alloc: Global, folder: &str) -> Result<RunFolder<'a, R>, StationFault>
-        ensures name { IfOk result (λ made. IsFolderIn folder.now (place_of made)) }
+        ensures name { IfOk result (λ made. IsNamedIn folder.now (place_of made)) }
         ensures fault { IfErr result NamesNoStream }
     {
-        for _ in 0..NAMES_TRIED {
-            let path = folder_name(alloc, folder, &random_word(rt, folder)?)?;
-            match rt.create_dir_with_mode(path.as_str(), FOLDER_OF_OWNER) {
-                Ok(()) => return Ok(RunFolder { rt, alloc, path }),
-                Err(error) => {
-                    if error.kind() != ErrorKind::AlreadyExists {
-                        tell_unmade(rt, path.as_str(), &error);
-                        return Err(StationFault::Failed);
-                    }
-                }
+        let path = random_name(rt, alloc, folder)?;
+        match rt.create_dir_with_mode(path.as_str(), FOLDER_OF_OWNER) {
+            Ok(()) => Ok(RunFolder { rt, alloc, path }),
+            Err(error) => {
+                tell_unmade(rt, path.as_str(), &error);
+                Err(StationFault::Failed)
             }
         }
-        Err(StationFault::Failed)
     }
 }
 
 impl<R: rt::Files + Eprint> RunFolder<'_, R> {
+    /// Where it is.
+    pub fn path(&self) -> &str
+        ensures { result.now ≡ place_of self.now }
+    {
+        self.path.as_str()
+    }
+
     /// Where a file of this name is in the folder.
     pub fn name_of(&self, name: &str) -> Result<String, AllocError>
         ensures { IfOk result (λ path. string_bytes path ≡ file_in (place_of self.now) name.now) }
@@ -56,30 +58,67 @@ impl<R: rt::Files + Eprint> RunFolder<'_, R> {
         Ok(path)
     }
 
+    /// Removes the files of the words, where they are. That is all that most programs leave, and it needs no descriptor.
+    fn remove_known(&self) {
+        for name in FILES_OF_WORDS {
+            if let Ok(path) = self.name_of(name) {
+                let _ = self.rt.remove_file(path.as_str());
+            }
+        }
+    }
+
     /// A new empty file at this path that its owner alone may read, opened for reading and writing.
     pub fn create_file(&self, path: &str) -> Result<R::File, StationFault>
         ensures fault { IfErr result NamesNoStream }
         ensures memory { result ≢ Err StationFault.Memory }
     {
-        match for_owner_alone().open(self.rt, path) {
-            Ok(file) => Ok(file),
-            Err(error) => {
-                tell_unmade(self.rt, path, &error);
-                Err(StationFault::Failed)
-            }
-        }
+        open_new(self.rt, path)
     }
 }
 
 impl<R: rt::Files + Eprint> Drop for RunFolder<'_, R> {
     fn drop(self) {
-        remove_whole(self.rt, self.alloc, self.path.as_str());
+        self.remove_known();
+        if self.rt.remove_dir(self.path.as_str()).is_err() {
+            remove_whole(self.rt, self.alloc, self.path.as_str());
+        }
         let RunFolder {
             rt: _,
             alloc: _,
             path,
         } = self;
         drop(path);
+    }
+}
+
+/// A new empty file in this folder, opened for reading and writing, that has lost its name there: nothing of it is left when it is closed.
+pub fn nameless_file<R: rt::Files + RandomSource + Eprint>(
+    rt: &R,
+    alloc: Global,
+    folder: &str,
+) -> Result<R::File, StationFault>
+    ensures fault { IfErr result NamesNoStream }
+{
+    let path = random_name(rt, alloc, folder)?;
+    let file = open_new(rt, path.as_str())?;
+    if let Err(error) = rt.remove_file(path.as_str()) {
+        tell_unremoved(rt, path.as_str(), &error);
+        return Err(StationFault::Failed);
+    }
+    Ok(file)
+}
+
+/// A new empty file at this path that its owner alone may read, opened for reading and writing.
+fn open_new<R: rt::Files + Eprint>(rt: &R, path: &str) -> Result<R::File, StationFault>
+    ensures fault { IfErr result NamesNoStream }
+    ensures memory { result ≢ Err StationFault.Memory }
+{
+    match for_owner_alone().open(rt, path) {
+        Ok(file) => Ok(file),
+        Err(error) => {
+            tell_unmade(rt, path, &error);
+            Err(StationFault::Failed)
+        }
     }
 }
 
@@ -99,6 +138,18 @@ fn remove_whole<R: rt::Files + Eprint>(rt: &R, alloc: Global, path: &str) {
     if let Err(error) = rt.remove_dir_all(alloc, path) {
         tell_unremoved(rt, path, &error);
     }
+}
+
+/// A name in this folder that nobody can foresee.
+fn random_name<R: RandomSource + Eprint>(
+    rt: &R,
+    alloc: Global,
+    folder: &str,
+) -> Result<String, StationFault>
+    ensures name { IfOk result (λ path. IsNamedIn folder.now (string_bytes path)) }
+    ensures fault { IfErr result NamesNoStream }
+{
+    Ok(folder_name(alloc, folder, &random_word(rt, folder)?)?)
 }
 
 /// A word that nobody can foresee, by the system's random bytes.
@@ -141,8 +192,8 @@ fn for_owner_alone() -> OpenOptions
     options
 }
 
-/// How many names are tried before a folder is given up.
-const NAMES_TRIED: u32 = 1000;
+/// The names of the files that stand for words.
+const FILES_OF_WORDS: [&str; 3] = ["input.i", "input.ii", "output.o"];
 
 /// How often the removal of a folder is tried that isn't empty when all in it was removed.
 const REMOVALS_TRIED: u32 = 10;

@@ -7,13 +7,15 @@ ghost use Rattle.edge_real.specs.OwnNames.{names_view, SameOwner};
 ghost use Rattle.edge_real.specs.Staging.{staged_as, staged_at};
 
 use crate::disk::text_of;
+use crate::goals::{Goal, goal_of};
+use crate::notices::tell_unput;
 use crate::own_files::OwnNames;
 use crate::retrying::write_once;
 use edge_traits::EdgeFault;
 use farm_types::Bytes;
 use std::alloc::{AllocError, Global};
-use std::fs::{File, FileType, OpenOptions};
-use std::io::ErrorKind;
+use std::fs::{File, FileType};
+use std::io::{Eprint, ErrorKind};
 use std::os::unix::fs::FileTypeExt;
 use std::{fs, io, rt};
 
@@ -22,6 +24,9 @@ use std::{fs, io, rt};
 pub struct StagedFile {
     name: Bytes,
     path: String,
+    /// The path that it was begun for, and the one that it goes to in its place.
+    target: String,
+    goal: String,
     file: File,
 }
 
@@ -38,6 +43,14 @@ impl StagedFile {
         ensures { result.now ≡ staged_at self.now }
     {
         self.path.as_str()
+    }
+
+    /// Where it goes, where it is to have this path: what a link there stands for, as when it was begun, or else the path.
+    pub fn goal_for<'a>(&'a self, path: &'a str) -> &'a str {
+        if path == self.target.as_str() {
+            return self.goal.as_str();
+        }
+        path
     }
 
     /// Adds the front of the piece, and answers how many bytes were taken.
@@ -90,7 +103,7 @@ fn look_at<R: rt::Files>(rt: &R, path: &str) -> io::Result<Standing>
 }
 
 /// A new empty file for what the name stands for.
-pub fn stage<R: rt::Files<File = File>>(
+pub fn stage<R: rt::Files<File = File> + Eprint>(
     rt: &R,
     names: &mut OwnNames,
     alloc: Global,
@@ -104,37 +117,54 @@ pub fn stage<R: rt::Files<File = File>>(
         return Err(EdgeFault::Failed);
     };
     let target = text.strip_suffix(".farm~").unwrap_or(text);
-    let beside = match look_at(rt, target) {
-        Ok(Standing::Free) => Some(target),
+    let goal = goal_of(rt, alloc, target)?;
+    let beside = match look_at(rt, goal.path.as_str()) {
+        Ok(Standing::Free) => Some(goal.path.as_str()),
         Ok(Standing::Device) => None,
-        Ok(Standing::Other) | Err(_) => return Err(EdgeFault::Failed),
+        Ok(Standing::Other) => {
+            let error = io::Error::other("it is no regular file and no device");
+            return Err(told(rt, target, &error));
+        }
+        Err(error) => return Err(told(rt, target, &error)),
     };
     // All other memory is had before the file is made, so that none is left behind for want of it.
     let name = name.copy()?;
-    let (path, file) = new_file(rt, names, alloc, beside)?;
-    Ok(StagedFile { name, path, file })
+    let target = String::from_str(alloc, target)?;
+    let (path, file) = new_file(rt, names, alloc, beside, &goal)?;
+    Ok(StagedFile {
+        name,
+        path,
+        target,
+        goal: goal.path,
+        file,
+    })
+}
+
+/// The fault of a put that came to nothing, which is told with the system's reason.
+fn told<R: Eprint>(rt: &R, target: &str, error: &io::Error) -> EdgeFault
+    ensures { result ≡ EdgeFault.Failed }
+{
+    tell_unput(rt, target, error);
+    EdgeFault::Failed
 }
 
 /// A new file beside this path, or else in the folder of the names. A name that is there already is passed over.
-fn new_file<R: rt::Files<File = File>>(
+fn new_file<R: rt::Files<File = File> + Eprint>(
     rt: &R,
     names: &mut OwnNames,
     alloc: Global,
     beside: Option<&str>,
+    goal: &Goal,
 ) -> Result<(String, File), EdgeFault>
     ensures { SameOwner (names_view names.old) (names_view names.new) }
 {
     for _ in 0..NAMES_TRIED {
         let path = next_name(names, alloc, beside)?;
-        match OpenOptions::new()
-            .write(true)
-            .create_new(true)
-            .open(rt, path.as_str())
-        {
+        match goal.open_new(rt, path.as_str()) {
             Ok(file) => return Ok((path, file)),
             Err(error) => {
                 if error.kind() != ErrorKind::AlreadyExists {
-                    return Err(EdgeFault::Failed);
+                    return Err(told(rt, goal.path.as_str(), &error));
                 }
             }
         }
@@ -166,6 +196,6 @@ pub fn move_to<R: rt::Files>(rt: &R, from: &str, to: &str) -> io::Result<()> {
             fs::copy(rt, from, to)?;
             fs::remove_file(rt, from)
         }
-        Standing::Other => Err(io::Error::from(ErrorKind::InvalidInput)),
+        Standing::Other => Err(io::Error::other("it is no regular file and no device")),
     }
 }

@@ -12,9 +12,8 @@ use edge_traits::{Dialer, EdgeFault, Link};
 use farm_types::HostName;
 use std::alloc::Global;
 use std::io::{Read, Write};
-use std::net::{Net, OpenStream, Shutdown, TcpStream};
+use std::net::{Net, OpenStream, TcpStream};
 use std::str;
-use std::time::Duration;
 
 /// A connection over TCP. It shuts neither of its sides before it is given back.
 #[derive(Drop)]
@@ -45,34 +44,14 @@ impl<S: OpenStream> TcpLink<S> {
     }
 }
 
-impl<S: Read + OpenStream + Drop> TcpLink<S> {
-    /// Ends the connection once the peer has had time to read what was sent.
-    ///
-    /// A socket that is closed over unread bytes is reset, and what its peer has not read by then is lost. So the sending side is shut, and
-    /// what the peer still sends is read until its end, or for as long as it sends something in each second and `LINGER_READS` reads are enough.
-    pub(crate) fn linger(self) {
-        let mut stream = self.stream;
-        let timeout = Some(Duration::from_secs(LINGER_SECS));
-        if stream.shutdown(Shutdown::Write).is_err() || stream.set_read_timeout(timeout).is_err() {
-            return;
-        }
-        let mut room = [0u8; LINGER_ROOM];
-        for _ in 0..LINGER_READS {
-            if !matches!(read_once(&mut stream, &mut room), Ok(1..)) {
-                return;
-            }
-        }
+impl<S> TcpLink<S> {
+    /// The connection itself.
+    pub(crate) fn into_stream(self) -> S
+        ensures { result ≡ stream_of self }
+    {
+        self.stream
     }
 }
-
-/// How long a door waits for a peer to send something more.
-const LINGER_SECS: u64 = 1;
-
-/// How often it reads at most.
-const LINGER_READS: u32 = 1024;
-
-/// How many bytes it reads at once.
-const LINGER_ROOM: usize = 16_384;
 
 impl<S: Read + Write> Link for TcpLink<S> {
     ghost shows = { link_view };

@@ -1,6 +1,6 @@
 //! Programs that are run as children.
 
-use edge_real::ChildStation;
+use edge_real::{ChildStation, WordPolicy};
 use edge_traits::{Bounds, Station, StationFault, Stream};
 use farm_types::{Bytes, Ext, Ran, Word};
 use std::alloc::{AllocError, Global};
@@ -83,7 +83,7 @@ fn a_child_gives_its_status_outputs_and_object(rt: HostRuntime) -> Result<(), Fa
         b"int a;\n",
     )?;
     assert_eq!(rt; ran.status, 768);
-    let out: &[u8] = b"700\n600\n/dev/null\ninput.ii\nmessages\noutput.o\n";
+    let out: &[u8] = b"700\n600\n/dev/null\ninput.ii\noutput.o\n";
     assert_eq!(rt; ran.out.as_slice(), out);
     assert_eq!(rt; ran.err.as_slice(), b"no\n".as_slice());
     assert_eq!(rt; ran.object.as_slice(), b"int a;\n".as_slice());
@@ -120,6 +120,49 @@ fn what_a_child_left_is_removed(rt: HostRuntime) -> Result<(), Fail> {
     assert_eq!(rt; ran.out.as_slice(), b"mine".as_slice());
     assert_eq!(rt; fs::read_to_string(&rt, "mine")?.as_str(), "mine");
     fs::remove_file(&rt, "mine")?;
+    expect_empty(&rt)
+}
+
+/// A station that serves others by this policy, from the root of the system's files.
+fn serving(rt: HostRuntime, policy: WordPolicy) -> Result<ChildStation<HostRuntime>, AllocError> {
+    let folder = String::from_str(rt.alloc(), ".")?;
+    let here = String::from_str(rt.alloc(), "/")?;
+    Ok(ChildStation::serving(rt, folder, here, policy))
+}
+
+#[test]
+fn a_child_for_others_runs_in_the_folder_of_its_run(rt: HostRuntime) -> Result<(), Fail> {
+    let mut station = serving(rt, WordPolicy::AllWords)?;
+    let script = b"echo $0 $1; ls -a; cat $0 > $1; echo su > output.su; echo no >&2";
+    let ran = run_script(rt.alloc(), &mut station, script, b"int a;\n")?;
+    let out: &[u8] = b"input.ii output.o\n.\n..\ninput.ii\n";
+    assert_eq!(rt; ran.out.as_slice(), out);
+    assert_eq!(rt; ran.err.as_slice(), b"no\n".as_slice());
+    assert_eq!(rt; ran.object.as_slice(), b"int a;\n".as_slice());
+    expect_empty(&rt)
+}
+
+#[test]
+fn a_program_is_named_from_the_folder_of_the_process(rt: HostRuntime) -> Result<(), Fail> {
+    let mut station = serving(rt, WordPolicy::AllWords)?;
+    for name in [b"bin/pwd".as_slice(), b"/bin/pwd", b"pwd"] {
+        let ran = run_name(rt.alloc(), &mut station, name)?;
+        assert!(rt; ran.status == 0 && ran.out.as_slice().starts_with(b"/"));
+    }
+    Ok(())
+}
+
+#[test]
+fn words_that_are_not_let_through_do_not_run(rt: HostRuntime) -> Result<(), Fail> {
+    let alloc = rt.alloc();
+    let mut station = serving(rt, WordPolicy::ServedWords)?;
+    let words = [text(alloc, b"/bin/true")?, text(alloc, b"-O2")?];
+    assert_eq!(rt; station.run(alloc, &words, b"", &BOUNDS)?.status, 0);
+    for word in [b"@words".as_slice(), b"-fplugin=x.so", b"--specs=x"] {
+        let words = [text(alloc, b"/bin/true")?, text(alloc, word)?];
+        let ended = station.run(alloc, &words, b"", &BOUNDS);
+        assert!(rt; ended.err() == Some(StationFault::Failed));
+    }
     expect_empty(&rt)
 }
 

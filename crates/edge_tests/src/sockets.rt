@@ -44,7 +44,7 @@ fn answer<D: Door>(alloc: Global, door: &mut D) -> (u8, u32) {
 #[test]
 fn a_dialer_and_a_door_carry_bytes_both_ways(rt: HostRuntime) -> Result<(), Fail> {
     let alloc = rt.alloc();
-    let mut door = TcpDoor::open(&rt, LOCALHOST, 0);
+    let mut door = TcpDoor::open(rt, LOCALHOST, 0);
     let port = door.port().ok_or("port")?;
     let mut dialer = TcpDialer::new(rt);
     let name = host(alloc, b"localhost")?;
@@ -84,7 +84,7 @@ fn count_given<L: Link>(link: &mut L) -> u64 {
 #[test]
 fn a_client_that_sends_too_much_gets_the_whole_reply(rt: HostRuntime) -> Result<(), Fail> {
     let alloc = rt.alloc();
-    let mut door = TcpDoor::open(&rt, LOCALHOST, 0);
+    let mut door = TcpDoor::open(rt, LOCALHOST, 0);
     let port = door.port().ok_or("port")?;
     let mut dialer = TcpDialer::new(rt);
     let name = host(alloc, b"127.0.0.1")?;
@@ -116,21 +116,35 @@ fn a_client_that_sends_too_much_gets_the_whole_reply(rt: HostRuntime) -> Result<
     Ok(())
 }
 
-// The client neither sends nor ends, so it is left once it has sent nothing for a second.
-#[test]
-fn a_silent_client_is_left_after_a_second(rt: HostRuntime) -> Result<(), Fail> {
+/// Leaves a client that neither sends nor ends, and answers how long that took. The client was sent these bytes.
+fn leave_silent(rt: HostRuntime, sent: &[u8]) -> Result<Duration, Fail> {
     let alloc = rt.alloc();
-    let mut door = TcpDoor::open(&rt, LOCALHOST, 0);
+    let mut door = TcpDoor::open(rt, LOCALHOST, 0);
     let port = door.port().ok_or("port")?;
     let mut dialer = TcpDialer::new(rt);
     let name = host(alloc, b"127.0.0.1")?;
     let silent = dialer.dial(alloc, &name, port)?;
-    let (link, _) = door.accept(alloc)?;
+    let (mut link, _) = door.accept(alloc)?;
+    if !sent.is_empty() {
+        link.send(sent)?;
+    }
     let before = Instant::now(&rt)?;
     door.leave(link);
     let waited = before.elapsed(&rt)?;
-    assert!(rt; Duration::from_millis(900) <= waited && waited < Duration::from_secs(20));
     dialer.hang_up(silent);
+    Ok(waited)
+}
+
+#[test]
+fn a_silent_client_is_left_after_a_second(rt: HostRuntime) -> Result<(), Fail> {
+    let waited = leave_silent(rt, b"a")?;
+    assert!(rt; Duration::from_millis(900) <= waited && waited < Duration::from_secs(20));
+    Ok(())
+}
+
+#[test]
+fn a_client_that_was_sent_nothing_is_left_at_once(rt: HostRuntime) -> Result<(), Fail> {
+    assert!(rt; leave_silent(rt, b"")? < Duration::from_millis(900));
     Ok(())
 }
 
@@ -147,7 +161,7 @@ fn a_host_that_is_not_there_is_a_fault(rt: HostRuntime) -> Result<(), Fail> {
 
 #[test]
 fn an_address_of_another_machine_gives_no_listener(rt: HostRuntime) {
-    let mut closed = TcpDoor::open(&rt, 0x0102_0304, 1);
+    let mut closed = TcpDoor::open(rt, 0x0102_0304, 1);
     assert!(rt; !closed.is_open() && !closed.share().is_open());
     assert_eq!(rt; closed.port(), None);
     assert!(rt; matches!(closed.accept(rt.alloc()), Err(EdgeFault::Failed)));
@@ -155,7 +169,7 @@ fn an_address_of_another_machine_gives_no_listener(rt: HostRuntime) {
 
 #[test]
 fn a_shared_door_is_at_the_same_port(rt: HostRuntime) {
-    let door = TcpDoor::open(&rt, LOCALHOST, 0);
+    let door = TcpDoor::open(rt, LOCALHOST, 0);
     let shared = door.share();
     assert!(rt; door.is_open() && shared.is_open());
     assert_eq!(rt; shared.port(), door.port());

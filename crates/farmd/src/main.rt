@@ -3,9 +3,12 @@
 
 ghost use Rattle.std.specs.Prelude.{◌≡◌, ◌≤◌, length, IfOk, IfSome};
 
-use daemon_program::{DoorPlace, door_place, farmd};
+use daemon_program::{DoorPlace, door_place, farmd, trusts_options};
+use daemon_words::{Command, Options, parse_words};
 use daemon_worker::DoorKit;
-use edge_real::{ChildStation, StdSink, TcpDoor, command_words, own_folder};
+use edge_real::{
+    ChildStation, StdSink, TcpDoor, WordPolicy, command_words, current_folder, own_folder,
+};
 use log::warn;
 use std::alloc::AllocError;
 use std::net::TcpListener;
@@ -13,7 +16,9 @@ use std::process::ExitCode;
 use std::thread::Threads;
 
 /// The doors and stations of the system.
-type SystemDoor = DoorKit<TcpDoor<TcpListener>, ChildStation<HostRuntime>>;
+type SystemDoor = DoorKit<ListeningDoor, ChildStation<HostRuntime>>;
+
+type ListeningDoor = TcpDoor<HostRuntime, TcpListener>;
 
 /// The status where memory is wanting.
 const NO_MEMORY: u8 = 105;
@@ -28,46 +33,84 @@ fn words_of(rt: &HostRuntime) -> Result<Vec<String>, AllocError> {
     Ok(words)
 }
 
-// A door and a station for it, whose own files are in the system's folder for such files.
-fn kit_of(rt: &HostRuntime, door: TcpDoor<TcpListener>) -> Result<SystemDoor, AllocError> {
+// What the words say, where they are to serve.
+fn options_of(words: &[String]) -> Option<Options> {
+    match parse_words(words) {
+        Ok(Command::Serve(options)) => Some(options),
+        Ok(Command::Help | Command::Version) | Err(_) => None,
+    }
+}
+
+// Which words of a request the stations run.
+fn policy_of(words: &[String]) -> WordPolicy {
+    if trusts_options(words) {
+        WordPolicy::AllWords
+    } else {
+        WordPolicy::ServedWords
+    }
+}
+
+// Whether any machine that reaches this one may be served: no rule says who is, and the address isn't of this machine alone.
+fn lets_all_in(options: &Option<Options>) -> bool {
+    match options {
+        Some(options) => options.rules == 0 && options.listen() >> 24 != LOOPBACK,
+        None => false,
+    }
+}
+
+/// The first number of the addresses by which a machine reaches itself.
+const LOOPBACK: u32 = 127;
+
+// A door and a station for it, which runs what others send. The folders of its runs are in the system's folder for such files.
+fn kit_of(
+    rt: &HostRuntime,
+    door: ListeningDoor,
+    policy: WordPolicy,
+) -> Result<SystemDoor, AllocError> {
     Ok(DoorKit {
         door,
-        station: ChildStation::new(*rt, own_folder(rt)?),
+        station: ChildStation::serving(*rt, own_folder(rt)?, current_folder(rt)?, policy),
     })
 }
 
 // So many doors on one listener.
 fn open_doors(
     rt: &HostRuntime,
-    first: TcpDoor<TcpListener>,
+    first: ListeningDoor,
     count: u32,
+    policy: WordPolicy,
 ) -> Result<Vec<SystemDoor>, AllocError>
     requires { 1 ≤ count }
     ensures { IfOk result (λ doors. length doors.items ≡ count) }
 {
     let mut doors = Vec::new(rt.alloc());
     for _ in 1..count {
-        doors.push(kit_of(rt, first.share())?)?;
+        doors.push(kit_of(rt, first.share(), policy)?)?;
     }
-    doors.push(kit_of(rt, first)?)?;
+    doors.push(kit_of(rt, first, policy)?)?;
     Ok(doors)
 }
 
 // The doors at a place. Where `farmd` isn't to serve, there is one that is closed.
-fn doors_at(rt: &HostRuntime, place: Option<DoorPlace>) -> Result<Vec<SystemDoor>, AllocError>
+fn doors_at(
+    rt: &HostRuntime,
+    place: Option<DoorPlace>,
+    policy: WordPolicy,
+) -> Result<Vec<SystemDoor>, AllocError>
     requires { IfSome place (λ place. place.doors ≤ 16) }
     ensures some { IfOk result (λ doors. 1 ≤ length doors.items) }
     ensures few { IfOk result (λ doors. length doors.items ≤ 16) }
 {
     match place {
         Some(place) if 0 < place.doors => {
-            let first = TcpDoor::open(rt, place.addr, place.port);
+            let first = TcpDoor::open(*rt, place.addr, place.port);
             if !first.is_open() {
                 warn!(rt; "cannot listen");
+                first.tell_refusal();
             }
-            open_doors(rt, first, place.doors)
+            open_doors(rt, first, place.doors, policy)
         }
-        _ => open_doors(rt, TcpDoor::closed(), 1),
+        _ => open_doors(rt, TcpDoor::closed(*rt), 1, policy),
     }
 }
 
@@ -75,7 +118,11 @@ fn doors_at(rt: &HostRuntime, place: Option<DoorPlace>) -> Result<Vec<SystemDoor
 fn run<T: Threads + Sync>(threads: &T, rt: &HostRuntime) -> Result<u8, AllocError> {
     let words = words_of(rt)?;
     let place = door_place(words.as_slice());
-    let mut doors = doors_at(rt, place)?;
+    let options = options_of(words.as_slice());
+    if lets_all_in(&options) {
+        warn!(rt; "every peer is let in, since no rule says who is");
+    }
+    let mut doors = doors_at(rt, place, policy_of(words.as_slice()))?;
     let mut out = StdSink::new(rt.stdout());
     let status = farmd(threads, rt.alloc(), words.as_slice(), &mut doors, &mut out);
     Ok(status)

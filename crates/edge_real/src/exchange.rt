@@ -1,0 +1,185 @@
+// What is seen of an exchange while its bytes pass: the compiler, the status, and how long the source and the object are.
+use crate::notices::Shown;
+use std::fmt::{self, Display, Formatter};
+use std::str;
+
+/// What was seen of the tokens of one side. It is no reader of the protocol: what isn't a token is passed over.
+#[derive(Drop)]
+pub struct Tokens {
+    head: [u8; HEAD],
+    filled: usize,
+    /// How much of the body of the last token is to come.
+    body: u64,
+    compiler: [u8; NAME],
+    named: usize,
+    is_first: bool,
+    status: Option<u32>,
+    source: u64,
+    object: u64,
+}
+
+/// How many bytes the head of a token has: its name and its number.
+const HEAD: usize = 12;
+
+/// How many bytes of the compiler's name are kept.
+const NAME: usize = 60;
+
+impl Tokens {
+    /// Before the first byte.
+    pub fn new() -> Tokens {
+        Tokens {
+            head: [0; HEAD],
+            filled: 0,
+            body: 0,
+            compiler: [0; NAME],
+            named: 0,
+            is_first: false,
+            status: None,
+            source: 0,
+            object: 0,
+        }
+    }
+
+    /// Sees these bytes pass.
+    pub fn see(&mut self, piece: &[u8]) {
+        let mut rest = piece;
+        for _ in 0..piece.len() {
+            if rest.is_empty() {
+                return;
+            }
+            rest = self.see_front(rest);
+        }
+    }
+
+    /// Sees the front of a piece that has bytes, and answers what is left.
+    fn see_front<'a>(&mut self, piece: &'a [u8]) -> &'a [u8] {
+        if self.body > 0 {
+            return self.see_body(piece);
+        }
+        let Some((byte, rest)) = piece.split_first() else {
+            return piece;
+        };
+        if let Some(place) = self.head.get_mut(self.filled) {
+            *place = *byte;
+        }
+        self.filled = self.filled.saturating_add(1);
+        if self.filled >= HEAD {
+            self.filled = 0;
+            self.see_head();
+        }
+        rest
+    }
+
+    fn see_body<'a>(&mut self, piece: &'a [u8]) -> &'a [u8] {
+        let length = usize::try_from(self.body).unwrap_or(usize::MAX);
+        let count = piece.len().min(length);
+        let (front, rest) = piece.split_at(count);
+        if self.is_first {
+            self.keep_name(front);
+        }
+        self.body = self.body.saturating_sub(count as u64);
+        if self.body == 0 {
+            self.is_first = false;
+        }
+        rest
+    }
+
+    fn keep_name(&mut self, front: &[u8]) {
+        for byte in front {
+            if let Some(place) = self.compiler.get_mut(self.named) {
+                *place = *byte;
+                self.named = self.named.saturating_add(1);
+            }
+        }
+    }
+
+    fn see_head(&mut self) {
+        let head = self.head;
+        let (name, digits) = head.split_at(4);
+        let Some(number) = number_of(digits) else {
+            return;
+        };
+        match name {
+            b"ARGV" => {
+                self.is_first = self.named == 0;
+                self.body = u64::from(number);
+            }
+            b"DOTI" => {
+                self.source = u64::from(number);
+                self.body = u64::from(number);
+            }
+            b"DOTO" => {
+                self.object = u64::from(number);
+                self.body = u64::from(number);
+            }
+            b"SERR" | b"SOUT" => self.body = u64::from(number),
+            b"STAT" => self.status = Some(number),
+            _ => {}
+        }
+    }
+}
+
+fn number_of(digits: &[u8]) -> Option<u32> {
+    u32::from_str_radix(str::from_utf8(digits).ok()?, 16).ok()
+}
+
+/// Both sides of an exchange.
+#[derive(Drop)]
+pub struct Exchange {
+    asked: Tokens,
+    answered: Tokens,
+    was_read: bool,
+    /// Whether the peer was sent a byte.
+    pub was_sent: bool,
+}
+
+impl Exchange {
+    /// Before the first byte.
+    pub fn new() -> Exchange {
+        Exchange {
+            asked: Tokens::new(),
+            answered: Tokens::new(),
+            was_read: false,
+            was_sent: false,
+        }
+    }
+
+    /// So many bytes of the front were sent.
+    pub fn sent(&mut self, piece: &[u8], count: usize) {
+        self.was_sent |= count > 0;
+        if let Some(front) = piece.get(..count) {
+            self.answered.see(front);
+        }
+    }
+
+    /// So many bytes came, at the front of the room.
+    pub fn given(&mut self, room: &[u8], count: usize) {
+        self.was_read = true;
+        if let Some(front) = room.get(..count) {
+            self.asked.see(front);
+        }
+    }
+}
+
+/// `COMPILER answered STATUS, source N, object N`, `COMPILER no reply, ..`, or `denied` where nothing was read.
+impl Display for Exchange {
+    fn fmt<W: fmt::Write>(&self, f: &mut Formatter<W>) -> fmt::Result {
+        if !self.was_read {
+            return f.write_str("denied");
+        }
+        let named = self.asked.compiler.get(..self.asked.named);
+        match named {
+            Some(name) if !name.is_empty() => write!(f, "{} ", Shown(name))?,
+            _ => f.write_str("- ")?,
+        }
+        match self.answered.status {
+            Some(status) => write!(f, "answered {status:08x}")?,
+            None => f.write_str("no reply")?,
+        }
+        write!(
+            f,
+            ", source {}, object {}",
+            self.asked.source, self.answered.object
+        )
+    }
+}
