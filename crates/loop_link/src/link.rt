@@ -51,7 +51,7 @@ impl<S: Station> LoopLink<S> {
     ghost use Rattle.std.specs.Prelude.{◌≡◌, true, take, OnOk, OnErr, IsErrOf};
     ghost use Rattle.edge_traits.specs.Stations.{NoneRose};
     ghost use Rattle.edge_traits.specs.Told.{SameRelation3};
-    ghost use Rattle.edge_traits.specs.declared.faults.EdgeFault.TheVariants.{Failed};
+    ghost use Rattle.edge_traits.specs.declared.faults.EdgeFault.TheVariants.{Failed, Memory};
     ghost use Rattle.loop_link.specs.Links.{loop_state, IsServed, LinkHolds};
 
     /// Has the service's reply ready.
@@ -62,6 +62,8 @@ impl<S: Station> LoopLink<S> {
         ensures failed { IsErrOf result Failed → ⊥ }
         ensures memory { OnErr result (NoneRose (S.shows self.old.held.station) (S.shows self.new.held.station)) }
         ensures ran { OnOk result (self.new.served ≡ true) }
+        ensures wants { OnErr result (self.new.wanted ≡ true) }
+        ensures spent { self.old.wanted ≡ true → IsErrOf result Memory × (self.new ≡ self.old) }
 
         // Nothing else changes.
         ensures table { self.new.held.table.rows ≡ self.old.held.table.rows }
@@ -104,7 +106,7 @@ impl<S: Station> Link for LoopLink<S> {
     ghost use Rattle.std.specs.Prelude.{◌≡◌, ◌<◌, ◌+◌, ◌-◌, ◌||◌, [], min, true, length, IfOk, OnOk, OnErr, IsErrOf, refl};
     ghost use Rattle.edge_traits.specs.Stations.{NoneRose};
     ghost use Rattle.std.proofs.Common.{◌∙◌};
-    ghost use Rattle.edge_traits.specs.declared.faults.EdgeFault.TheVariants.{Failed};
+    ghost use Rattle.edge_traits.specs.declared.faults.EdgeFault.TheVariants.{Failed, Memory};
     ghost use Rattle.loop_link.specs.Replies.{Gives};
     ghost use Rattle.loop_link.specs.Following.{gives_stays};
     ghost use Rattle.daemon_service.proofs.Runs.{same3_itself, same3_then};
@@ -151,6 +153,10 @@ impl<S: Station> Link for LoopLink<S> {
     fn recv(&mut self, room: &mut [u8]) -> Result<usize, EdgeFault>
         requires { 0 < length room.old }
         ensures failed { IsErrOf result Failed → ⊥ }
+
+        // After want of memory there is no other answer, and nothing is run again.
+        ensures wants { OnErr result ((loop_state self.new).wanted ≡ true) }
+        ensures spent { (loop_state self.old).wanted ≡ true → IsErrOf result Memory × (self.new ≡ self.old) }
 
         // Want of memory hides no fault of the station.
         ensures memory { OnErr result (NoneRose (S.shows self.old.held.station) (S.shows self.new.held.station)) }
