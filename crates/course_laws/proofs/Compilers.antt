@@ -19,9 +19,9 @@ use Rattle.farm_machine.specs.Acts.{Act, Did, Met}
 use Rattle.farm_machine.specs.Jobs.{Job, CanRequest, may_be_sent, compile_command, request_for}
 use Rattle.farm_machine.specs.Course.{IsRunOf, IsWholeWith, Course, outcome_of}
 use Rattle.farm_machine.specs.Table.{IsSource}
-use Rattle.farm_machine.specs.Honest.{Programs, Peers, Compiles, object_of, AllRan, IsHonest, IsFullyHonest}
+use Rattle.farm_machine.specs.Honest.{Programs, Peers, Compiles, object_of, AllRan, IsHonest}
 use Rattle.course_laws.specs.Laws.{IsAmong}
-use Rattle.course_laws.specs.Answers.{AllGiven, WholeAnswerLaw, PutAnswerLaw, HasOutcome, IsAnswered, AreHonestFor, EndAnswerLaw}
+use Rattle.course_laws.specs.Answers.{AllGiven, IsFullyHonestTo, FullyHonestLaw, WholeAnswerLaw, PutAnswerLaw, HasOutcome, IsAnswered, AreHonestFor, EndAnswerLaw}
 use Rattle.course_laws.proofs.Puts.{puts-last, known-end, KnownEnd, IsCompiledEnd}
 
 -- what a run of a compile answers: its object is left out where it failed
@@ -29,12 +29,15 @@ abbrev answer_of : Ran → Outcome
 answer_of r = record { status = r.status; err = r.err; out = r.out; object = object_of r }
 
 module _ (peers : Peers) (programs : Programs) where
+  pub fully-honest : FullyHonestLaw peers programs
+  fully-honest j honest source sent given o used = honest sent given (request_for j source) o used
+
   pub whole-answer : WholeAnswerLaw peers programs
   whole-answer j source x host o fits may whole honest =
       let spelled : SpellsRequest x.sent (request_for j source) = subst (λ (text : List ℕ). SpellsRequest text (request_for j source)) (sym whole.sent) (request_written (request_for j source) fits) in
       elim honest [
         | inl h ↦ h.0 x.sent x.given (request_for j source) o whole.used (may whole.dialed) spelled whole.spelled h.1
-        | inr h ↦ h x.sent x.given (request_for j source) o whole.used (may whole.dialed) spelled whole.spelled
+        | inr h ↦ h source x.sent x.given o whole.used (may whole.dialed) spelled whole.spelled
       ]
 
   given-among : (acts : List Act) (x : Exchange) → AllGiven peers acts → IsAmong (Did (exchanged x)) acts → x.dialed ≡ true → peers x.sent x.given
@@ -149,7 +152,7 @@ module _ (peers : Peers) (programs : Programs) where
     }
 
     by-host : (x : Exchange) (host : ℕ) → IsAmong (Did (exchanged x)) acts → CanRequest j k.compiled.source → IsWholeWith j x k.compiled.source host k.outcome
-        → (IsHonest peers programs × (k.outcome.status ≡ 0)) ⊎ IsFullyHonest peers programs → HasOutcome programs j acts status err out
+        → (IsHonest peers programs × (k.outcome.status ≡ 0)) ⊎ IsFullyHonestTo peers programs j → HasOutcome programs j acts status err out
     by-host x host among fits whole honest = record {
       source = k.compiled.source;
       source_is = k.compiled.source_is;

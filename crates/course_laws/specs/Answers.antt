@@ -1,6 +1,8 @@
 -- What a compiler may answer, and what jobs put over honest peers.
 use Rattle.std.specs.Prelude.{◌≡◌, ◌⊎◌, ℕ, true, IsTrue, List, [], ◌∷◌, ◌++◌}
 use Rattle.farm_types.specs.declared.ran.Outcome.{Outcome}
+use Rattle.wire_tokens.specs.Request.{SpellsRequest}
+use Rattle.wire_tokens.specs.Reply.{BeginsReply}
 use Rattle.edge_traits.specs.declared.entries.Exchange.{Exchange}
 use Rattle.edge_traits.specs.declared.entries.Put.{Put}
 use Rattle.edge_traits.specs.Deeds.{exchanged, put}
@@ -21,12 +23,22 @@ AllGiven peers [] = Unit {0}
 AllGiven peers (Did (exchanged x) ∷ acts) = (x.dialed ≡ true → peers x.sent x.given) × AllGiven peers acts
 AllGiven peers (act ∷ acts) = AllGiven peers acts
 
+-- Peers are fully honest to a job: where they were sent its own request, and begin what they give with an outcome of any status, it is one that a
+-- compiler may answer. Of other requests nothing is asked.
+abbrev pub IsFullyHonestTo : Peers → Programs → Job → Type 0
+IsFullyHonestTo peers programs j = (source sent given : List ℕ) (o : Outcome) (used : ℕ)
+    → peers sent given → SpellsRequest sent (request_for j source) → BeginsReply given used o → Compiles programs (request_for j source) o
+
+-- peers that are fully honest are so to every job
+abbrev pub FullyHonestLaw : Peers → Programs → Type 0
+FullyHonestLaw peers programs = (j : Job) → IsFullyHonest peers programs → IsFullyHonestTo peers programs j
+
 -- A whole exchange over honest peers has an outcome that a compiler may answer to the job's request, where its status
--- is 0, and over fully honest ones in any case.
+-- is 0, and over peers that are fully honest to the job in any case.
 abbrev pub WholeAnswerLaw : Peers → Programs → Type 0
 WholeAnswerLaw peers programs = (j : Job) (source : List ℕ) (x : Exchange) (host : ℕ) (o : Outcome)
     → CanRequest j source → (x.dialed ≡ true → peers x.sent x.given) → IsWholeWith j x source host o
-    → (IsHonest peers programs × (o.status ≡ 0)) ⊎ IsFullyHonest peers programs
+    → (IsHonest peers programs × (o.status ≡ 0)) ⊎ IsFullyHonestTo peers programs j
     → Compiles programs (request_for j source) o
 
 -- The put is of the object of an outcome of status 0 that a compiler may answer to the request of the job's own source.
@@ -62,16 +74,16 @@ IsAnswered programs j acts (Done status note err out (Remote host)) = HasOutcome
 IsAnswered programs j acts (Done status note err out Here) = HasOutcome programs j acts status err out
 IsAnswered programs j acts end = Unit {0}
 
--- peers are honest where a host's failure is compiled here once more, or fully honest
+-- peers are honest where a host's failure is compiled here once more, or fully honest to the job
 abbrev pub AreHonestFor : Peers → Programs → Job → Type 0
-AreHonestFor peers programs j = (IsHonest peers programs × (j.config.fallback ≡ true) × (j.config.retry ≡ true)) ⊎ IsFullyHonest peers programs
+AreHonestFor peers programs j = (IsHonest peers programs × (j.config.fallback ≡ true) × (j.config.retry ≡ true)) ⊎ IsFullyHonestTo peers programs j
 
 -- over such peers each job that was compiled ends with an outcome that a compiler may answer
 abbrev pub EndAnswerLaw : Peers → Programs → Type 0
 EndAnswerLaw peers programs = (j : Job) (acts : List Act) (end : End)
     → AreHonestFor peers programs j → AllGiven peers acts → AllRan programs acts → Course j acts end → IsAnswered programs j acts end
 
--- Where the exchanges are told and a host's failure is compiled here once more over honest peers, or over fully honest ones: a job that was
--- compiled ends with an outcome that a compiler may answer.
+-- Where the exchanges are told and a host's failure is compiled here once more over honest peers, or over peers fully honest to the job: a job that
+-- was compiled ends with an outcome that a compiler may answer.
 abbrev pub AnswersBy : Peers → Programs → KitView → Job → List Act → End → Type 0
 AnswersBy peers programs kit job acts end = IsTrue kit.dialer.exchanges.known → AreHonestFor peers programs job → IsAnswered programs job acts end

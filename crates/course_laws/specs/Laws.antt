@@ -4,13 +4,13 @@ use Rattle.farm_types.specs.declared.ran.Outcome.{Outcome}
 use Rattle.edge_traits.specs.declared.entries.Run.{Run}
 use Rattle.edge_traits.specs.declared.entries.Exchange.{Exchange}
 use Rattle.edge_traits.specs.declared.entries.Put.{Put}
-use Rattle.edge_traits.specs.Deeds.{ran, exchanged, put}
+use Rattle.edge_traits.specs.Deeds.{ran, exchanged, put, exchanges_in}
 use Rattle.farm_machine.specs.declared.reports.By.{By}
 use Rattle.farm_machine.specs.declared.reports.Why5.TheVariants.{Broke, Memory, NoHost}
 use Rattle.farm_machine.specs.declared.reports.End.{End}
 use Rattle.farm_machine.specs.declared.reports.End.TheVariants.{Done, Failed}
-use Rattle.farm_machine.specs.Acts.{Takes, Gives, FindsDown, Act, Did, Met, slots_of, took, IsOrderly}
-use Rattle.farm_machine.specs.Jobs.{Job, CanRequest, output_name, compile_command, host_count, is_local_host}
+use Rattle.farm_machine.specs.Acts.{Takes, Gives, FindsDown, Act, Did, Met, slots_of, deeds_of, took, IsOrderly}
+use Rattle.farm_machine.specs.Jobs.{Job, CanRequest, may_be_sent, output_name, compile_command, host_count, is_local_host}
 use Rattle.farm_machine.specs.Course.{IsRunOf, IsWholeWith, outcome_of, Course}
 use Rattle.farm_machine.specs.Table.{IsSource}
 use Rattle.farm_machine.specs.Numbered.{untimed}
@@ -69,3 +69,7 @@ is_own_end end = true
 -- With fallback on no job fails for a host.
 abbrev pub FallbackLaw : Type 0
 FallbackLaw = (j : Job) (acts : List Act) (end : End) → Course j acts end → j.config.fallback ≡ true → is_own_end end ≡ true
+
+-- a job that may not be sent has no exchange
+abbrev pub StaysHereLaw : Type 0
+StaysHereLaw = (j : Job) (acts : List Act) (end : End) → may_be_sent j ≡ false → Course j acts end → exchanges_in (deeds_of acts) ≡ []

@@ -1,8 +1,8 @@
 //! Laws of the course of one job.
 #![tactic(auto)]
 
-ghost use Rattle.course_laws.specs.Answers.{EndAnswerLaw, PutAnswerLaw, WholeAnswerLaw};
-ghost use Rattle.course_laws.specs.Laws.{DownLaw, FallbackLaw, LengthLaw, OrderLaw, PutLaw, UntimedLaw};
+ghost use Rattle.course_laws.specs.Answers.{EndAnswerLaw, FullyHonestLaw, PutAnswerLaw, WholeAnswerLaw};
+ghost use Rattle.course_laws.specs.Laws.{DownLaw, FallbackLaw, LengthLaw, OrderLaw, PutLaw, StaysHereLaw, UntimedLaw};
 ghost use Rattle.course_laws.specs.Returns.{OwnEndLaw, UnbrokenLaw};
 ghost use Rattle.farm_machine.specs.Numbered.{NumberedLaw};
 ghost use Rattle.farm_machine.specs.Table.{MemoryLaw, TableLaw};
@@ -42,6 +42,11 @@ pub fn put_law()
     ensures { PutLaw }
 {}
 
+/// A job that may not be sent has no exchange: its command is run here as it stands, or nothing is.
+pub fn stays_here_law()
+    ensures { StaysHereLaw }
+{}
+
 /// A course has at most three acts for each host that it may try, and five more.
 pub fn length_law()
     ensures { LengthLaw }
@@ -62,10 +67,11 @@ pub fn return_law()
 {}
 
 /// Over honest peers, what a host answers whole with status 0 is what a compiler of this station may answer to the
-/// job's request, and over fully honest ones with any status. So over honest peers each object that a job puts is one
+/// job's request, and over peers that are fully honest to the job with any status. So over honest peers each object that a job puts is one
 /// that a compiler may answer, whether a host or this machine compiled it. Where a host's failure is compiled here once more,
-/// or over fully honest peers, the status and messages of each job that was compiled are such an outcome's too.
+/// or over peers fully honest to the job, the status and messages of each job that was compiled are such an outcome's too.
 pub fn answer_law<D: Dialer, S: Station>(_dialer: &D, _station: &S)
+    ensures fully { FullyHonestLaw (D.may_give _dialer.now) (S.ran _station.now) }
     ensures whole { WholeAnswerLaw (D.may_give _dialer.now) (S.ran _station.now) }
     ensures put { PutAnswerLaw (D.may_give _dialer.now) (S.ran _station.now) }
     ensures end { EndAnswerLaw (D.may_give _dialer.now) (S.ran _station.now) }
