@@ -2,7 +2,7 @@
 use Rattle.edge_traits.specs.declared.faults.Bounds.{Bounds}
 use Rattle.edge_traits.specs.declared.faults.StationFault.{StationFault}
 use Rattle.edge_traits.specs.declared.faults.StationFault.TheVariants.{Failed, TooMuch, Memory}
-use Rattle.std.proofs.Common.{ℕ}
+use Rattle.std.proofs.Common.{ℕ, arith}
 use Rattle.edge_traits.specs.declared.faults.Stream.{Stream}
 use Rattle.edge_traits.specs.declared.faults.Stream.TheVariants.{Out, Err as ErrStream, Object}
 use Rattle.edge_real.specs.Children.{IsRunFault, IsStreamFault, NamesNoStream}
@@ -21,15 +21,15 @@ unnamed_in one bound Memory none = tt
 
 pub of_out : (bounds : Bounds) (fault : StationFault) → IsStreamFault Out bounds.out fault → IsRunFault bounds fault
 of_out bounds Failed is = tt
-of_out bounds (TooMuch stream bytes) is = grind
+of_out bounds (TooMuch stream bytes) is = grind arith
 of_out bounds Memory is = tt
 
 pub of_err : (bounds : Bounds) (fault : StationFault) → IsStreamFault ErrStream bounds.err fault → IsRunFault bounds fault
 of_err bounds Failed is = tt
-of_err bounds (TooMuch stream bytes) is = grind
+of_err bounds (TooMuch stream bytes) is = grind arith
 of_err bounds Memory is = tt
 
 pub of_object : (bounds : Bounds) (fault : StationFault) → IsStreamFault Object bounds.object fault → IsRunFault bounds fault
 of_object bounds Failed is = tt
-of_object bounds (TooMuch stream bytes) is = grind
+of_object bounds (TooMuch stream bytes) is = grind arith
 of_object bounds Memory is = tt

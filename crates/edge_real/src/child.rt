@@ -1,4 +1,4 @@
-ghost use Rattle.std.specs.Prelude.{◌≡◌, ◌≢◌, true, false, ◌≤◌, length, [], Option, None, Some, Err, IfOk, IfErr, OnOk, option_map, All, string_bytes};
+ghost use Rattle.std.specs.Prelude.{◌≡◌, ◌≢◌, ⊤, true, false, ◌≤◌, length, [], Option, None, Some, Err, IfOk, IfErr, OnOk, option_map, All, string_bytes};
 ghost use Rattle.edge_traits.specs.Stations.{IsWithin, has_output};
 ghost use Rattle.edge_real.specs.Counts.{run_faults, run_overruns};
 ghost use Rattle.edge_real.specs.Children.{IsRunFault, NamesNoStream, CanBeGiven, input_path, output_path, needs_folder};
