@@ -1,10 +1,12 @@
 //! The program `farmd`: the call `farmd` over the devices of the system.
 #![tactic(auto)]
 
-ghost use Rattle.std.specs.Prelude.{◌≡◌, ◌≤◌, length, IfOk, IfSome};
+ghost use Rattle.std.specs.Prelude.{◌≡◌, ◌≤◌, true, false, length, map, Some, IfOk, IfSome, string_bytes};
+ghost use Rattle.daemon_words.specs.Commands.{trusts};
+ghost use Rattle.edge_real.specs.Views.{policy_of as station_policy};
 
-use daemon_program::{DoorPlace, door_place, farmd, trusts_options};
-use daemon_words::{Command, Options, parse_words};
+use daemon_program::{DoorPlace, door_place, farmd};
+use daemon_words::{Command, Options, parse_words, trusts_options};
 use daemon_worker::DoorKit;
 use edge_real::{
     ChildStation, StdSink, TcpDoor, WordPolicy, command_words, current_folder, own_folder,
@@ -42,7 +44,10 @@ fn options_of(words: &[String]) -> Option<Options> {
 }
 
 // Which words of a request the stations run.
-fn policy_of(words: &[String]) -> WordPolicy {
+fn policy_of(words: &[String]) -> WordPolicy
+    ensures trusted { trusts (map string_bytes words.now) ≡ true → result ≡ WordPolicy.AllWords }
+    ensures tested { trusts (map string_bytes words.now) ≡ false → result ≡ WordPolicy.ServedWords }
+{
     if trusts_options(words) {
         WordPolicy::AllWords
     } else {
@@ -66,7 +71,9 @@ fn kit_of(
     rt: &HostRuntime,
     door: ListeningDoor,
     policy: WordPolicy,
-) -> Result<SystemDoor, AllocError> {
+) -> Result<SystemDoor, AllocError>
+    ensures { IfOk result (λ kit. station_policy kit.station ≡ Some policy) }
+{
     Ok(DoorKit {
         door,
         station: ChildStation::serving(*rt, own_folder(rt)?, current_folder(rt)?, policy),
