@@ -52,10 +52,10 @@ module _ {S : Type 0} (goes : S → List Word → List ℕ → Bounds → Result
 
   answered_ended : (text : List ℕ) (status : ℕ) (old new : LinkView) (answer : Served) (ran : Ran) (ended : Result Ran RunStop) → Replied text status old new answer → ended ≡ Ok ran → ran.status ≡ status → IsEnded ended answer
   answered_ended text status old new (Answered said) ran ended done is same = (ran, is, same ∙ sym done.0)
-  answered_ended text status old new (Refused at fault) ran ended done is same = tt
-  answered_ended text status old new (Cut have) ran ended done is same = tt
-  answered_ended text status old new LinkFault ran ended done is same = tt
-  answered_ended text status old new Stopped ran ended done is same = tt
+  answered_ended text status old new (Refused at fault) ran ended done is same = (ran, is)
+  answered_ended text status old new (Cut have) ran ended done is same = (ran, is)
+  answered_ended text status old new LinkFault ran ended done is same = (ran, is)
+  answered_ended text status old new Stopped ran ended done is same = (ran, is)
   answered_ended text status old new StationFault ran ended done is same = tt
   answered_ended text status old new Memory ran ended done is same = tt
 
@@ -68,14 +68,10 @@ module _ {S : Type 0} (goes : S → List Word → List ℕ → Bounds → Result
   -- an answer of which no outcome was made
   pub unmade_calls : (q : Request) (given : List ℕ) (used : ℕ) (served : Served) → BeginsRequest given used q → (ran : List Word → List ℕ → Ran → Type 0) (old now : StationView) → Made table ran old now q (Err served) → Asks goes table q before after (Err served) → Calls goes table before after served
   unmade_calls q given used (Answered status) begins ran old now made asks = absurd made.is
-  unmade_calls q given used (Refused at fault) begins ran old now made (unasked same is) = uncalled same tt
-  unmade_calls q given used (Refused at fault) begins ran old now made (asked program ended remote named went is) = called q program ended begins.spelled.fits remote named went tt
-  unmade_calls q given used (Cut have) begins ran old now made (unasked same is) = uncalled same tt
-  unmade_calls q given used (Cut have) begins ran old now made (asked program ended remote named went is) = called q program ended begins.spelled.fits remote named went tt
-  unmade_calls q given used LinkFault begins ran old now made (unasked same is) = uncalled same tt
-  unmade_calls q given used LinkFault begins ran old now made (asked program ended remote named went is) = called q program ended begins.spelled.fits remote named went tt
-  unmade_calls q given used Stopped begins ran old now made (unasked same is) = uncalled same tt
-  unmade_calls q given used Stopped begins ran old now made (asked program ended remote named went is) = called q program ended begins.spelled.fits remote named went tt
+  unmade_calls q given used (Refused at fault) begins ran old now made asks = absurd made.is
+  unmade_calls q given used (Cut have) begins ran old now made asks = absurd made.is
+  unmade_calls q given used LinkFault begins ran old now made asks = absurd made.is
+  unmade_calls q given used Stopped begins ran old now made asks = absurd made.is
   unmade_calls q given used StationFault begins ran old now made (unasked same is) = uncalled same tt
   unmade_calls q given used StationFault begins ran old now made (asked program ended remote named went is) = called q program ended begins.spelled.fits remote named went tt
   unmade_calls q given used Memory begins ran old now made (unasked same is) = uncalled same tt

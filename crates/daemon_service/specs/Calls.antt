@@ -13,6 +13,7 @@ use Rattle.arg_strip.specs.Words.{placed_words}
 use Rattle.daemon_service.specs.declared.compilers.Compiler.{Compiler}
 use Rattle.daemon_service.specs.declared.served.Served.{Served}
 use Rattle.daemon_service.specs.declared.served.Served.TheVariants.{Answered}
+use Rattle.daemon_service.specs.declared.served.Served.TheVariants as served
 use Rattle.daemon_service.specs.Replies.{program_of, first_word, with_program, outcome_of, compile_bounds}
 
 -- a status of a request that isn't compiled
@@ -24,10 +25,13 @@ abbrev pub IsUncompiled : Served → Type 0
 IsUncompiled (Answered status) = IsRefused status
 IsUncompiled other = Unit {0}
 
--- the answer is by a run that ended so
+-- The answer is by a run that ended so: with a status it is that of the run, and any other than a fault of the station or want of memory comes of a run
+-- that came to something.
 abbrev pub IsEnded : Result Ran StationFault → Served → Type 0
 IsEnded ended (Answered status) = (ran : Ran) × (ended ≡ Ok ran) × (ran.status ≡ status)
-IsEnded ended other = Unit {0}
+IsEnded ended served.StationFault = Unit {0}
+IsEnded ended served.Memory = Unit {0}
+IsEnded ended other = (ran : Ran) × (ended ≡ Ok ran)
 
 module _ {S : Type 0} (goes : S → List Word → List ℕ → Bounds → Result Ran StationFault → S → Type 0) where
   -- The words that compile a request were run once, by this program, or memory was wanting before.
