@@ -64,12 +64,13 @@ uninstall:
 	if cmp -s contrib/farmd.default $(defaults)/farmd; then rm -f $(defaults)/farmd; fi
 
 # What farm and distcc add to gcc -E and gcc -c, per job, by itself and within a job list; whole builds at 2, 4 and 8 jobs at once; the
-# transfer of an object of 32 MiB; and the resident size of farm and farmd.
+# transfer of an object of 32 MiB; the resident size of farm and farmd; and how long a worker takes between two children.
 bench:
 	bench/run
 	bench/builds
 	bench/transfer
 	bench/memory
+	bench/gaps
 
 # How many times as long writing and reading 32 MiB takes as a plain copy of as many bytes.
 bench-wire:
