@@ -50,7 +50,7 @@ all_back now start moved are =
     ap reverse are ∙ reverse-append start (reverse moved) ∙ ap (λ l. l ++ reverse start) (reverse-reverse moved)
 
 -- the first doors, and the others behind them
-first_of : {K : Type 0} (count : ℕ) (first others all : List K) → length first ≡ count → all ≡ first ++ others → take count all ≡ first
+pub first_of : {K : Type 0} (count : ℕ) (first others all : List K) → length first ≡ count → all ≡ first ++ others → take count all ≡ first
 first_of count first others all many are = ap (λ l. take count l) are ∙ ap (λ n. take n (first ++ others)) (sym many) ∙ take-append_seam first others
 
 others_of : {K : Type 0} (count : ℕ) (first others all : List K) → length first ≡ count → all ≡ first ++ others → drop count all ≡ others
@@ -58,7 +58,7 @@ others_of count first others all many are =
     let place : count ≡ length first + 0 = omega (arith, many) in
     ap (λ l. drop count l) are ∙ ap (λ n. drop n (first ++ others)) place ∙ drop-append-add first others 0
 
-whole : {K : Type 0} (count : ℕ) (all : List K) → length all ≡ count → take count all ≡ all
+pub whole : {K : Type 0} (count : ℕ) (all : List K) → length all ≡ count → take count all ≡ all
 whole count all many = ap (λ n. take n all) (sym many) ∙ take-length all
 
 module _ {A S : Type 0} (table : List Compiler) (rules : List Rule) (serve : ℕ) (door : A → DoorView) (station : S → StationView) (ran : S → List Word → List ℕ → Ran → Type 0) where

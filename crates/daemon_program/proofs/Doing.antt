@@ -18,6 +18,7 @@ use Rattle.daemon_words.proofs.Meaning.{once}
 use Rattle.object_cache.specs.declared.book.Stats.{Stats}
 use Rattle.object_cache.specs.Stations.{cached_shows}
 use Rattle.daemon_program.specs.Texts.{log_text, books_text}
+use Rattle.daemon_program.specs.Counts.{AreShort, DoorsCounted}
 use Rattle.daemon_program.specs.Endings.{Ends}
 use Rattle.daemon_program.specs.Daemons.{IsConfig, Serves, served, cached, Does, doors_used, log_status}
 
@@ -48,12 +49,14 @@ module _ {A S : Type 0} (door : A → DoorView) (station : S → StationView) (r
 
   pub cached_first : (options : Options) (olds news : List (DoorKit A S)) (old new : SinkView) (answer count : ℕ) (config : DaemonConfig) (log : List Entry) (bound : ℕ) (books : List Stats) → count ≡ doors_used options olds → IsConfig words options config
       → book_bound options ≡ Some bound → DoorsServed config.table.rows config.access.rules config.serve door (λ s. cached_shows (station s)) ran 1 (take count olds) (take count news) log
-      → drop count news ≡ drop count olds → length books ≡ count → Ends (log_text log ++ books_text 1 books) (log_status log) old new answer
+      → drop count news ≡ drop count olds → length books ≡ count
+      → (AreShort config.table.rows → DoorsCounted station (take count olds) (take count news) log books) → Ends (log_text log ++ books_text 1 books) (log_status log) old new answer
       → Serves door station ran words options olds news old new answer
-  cached_first options olds news old new answer count config log bound books is right some done others many ends =
+  cached_first options olds news old new answer count config log bound books is right some done others many counted ends =
       cached config log bound books right some
       (subst (λ n. DoorsServed config.table.rows config.access.rules config.serve door (λ s. cached_shows (station s)) ran 1 (take n olds) (take n news) log) is done)
-      (subst (λ n. drop n news ≡ drop n olds) is others) (many ∙ is) ends
+      (subst (λ n. drop n news ≡ drop n olds) is others) (many ∙ is)
+      (λ short. subst (λ n. DoorsCounted station (take n olds) (take n news) log books) is (counted short)) ends
 
   pub does_by : (olds news : List (DoorKit A S)) (old new : SinkView) (answer : ℕ) (found read : Result Command ℕ) → ReadWords words found → Does door station ran words olds news old new answer found
       → ReadWords words read → Does door station ran words olds news old new answer read

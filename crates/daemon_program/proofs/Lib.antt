@@ -1,4 +1,5 @@
 mod Telling
 mod Beside
+mod Counting
 mod Doing
 mod Completing

@@ -1,5 +1,6 @@
 pub mod Texts
 pub mod Books
+pub mod Counts
 pub mod Endings
 pub mod Daemons
 pub mod Complete

@@ -5,6 +5,7 @@ ghost use Rattle.object_cache.specs.Stations.{cached_shows};
 ghost use Rattle.object_cache.specs.Books.{new_book};
 ghost use Rattle.access_list.specs.Rules.{AreRight};
 ghost use Rattle.daemon_worker.specs.Logs.{DoorsServed};
+ghost use Rattle.daemon_program.specs.Counts.{AreShort, DoorsCounted};
 ghost use Rattle.daemon_program.specs.Books.{plain_kit, book_of, stats_of};
 
 use daemon_worker::{DaemonConfig, DaemonLog, DoorKit, serve_first};
@@ -93,6 +94,7 @@ where
     ensures served { IfOk result (λ answer. DoorsServed config.now.table.rows config.now.access.rules config.now.serve A.shows (λ s. cached_shows (S.shows s)) S.ran 1
         (take count doors.old.items) (take count doors.new.items) answer.0) }
     ensures books { IfOk result (λ answer. length answer.1.items ≡ count) }
+    ensures counted { IfOk result (λ answer. AreShort config.now.table.rows → DoorsCounted S.shows (take count doors.old.items) (take count doors.new.items) answer.0 answer.1.items) }
     ensures others { IfOk result (λ _. drop count doors.new.items ≡ drop count doors.old.items) }
     ensures untouched { IfErr result (λ _. doors.new.items ≡ doors.old.items) }
 {
