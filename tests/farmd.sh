@@ -10,13 +10,14 @@ build_farmd() {
   [ -x "$FARMD" ]
 }
 
-# Starts farmd on loopback with these further words, and sets PORT and FARMD_PROCESS. Its output goes to the file.
+# Starts farmd on loopback with these further words, and sets PORT and FARMD_PROCESS. Its output goes to the file. --trust-options comes first.
 start_farmd() {
-  local log=$1
+  local log=$1 trust=
   shift
+  [ "${1:-}" = --trust-options ] && trust=$1 && shift
   for PORT in $(seq 14632 14731); do
     (exec 3<>"/dev/tcp/127.0.0.1/$PORT") 2>/dev/null && continue
-    "$FARMD" --listen 127.0.0.1 --port "$PORT" "$@" >"$log" 2>"$log.err" &
+    "$FARMD" $trust --listen 127.0.0.1 --port "$PORT" "$@" >"$log" 2>"$log.err" &
     FARMD_PROCESS=$!
     for _ in $(seq 50); do
       grep -q "0100007F:$(printf '%04X' "$PORT") .* 0A" /proc/net/tcp && return

@@ -84,6 +84,16 @@ def hostile():
                     wrong += 1
                     for name in made:
                         os.remove(os.path.join(outside, name))
+    # what is let through and writes beside the object writes into the folder of the run
+    here = set(os.listdir("."))
+    for options in (["-fstack-usage"], ["-fcallgraph-info"], ["-O2", "-fopt-info-all=wrote"], ["-ftime-trace"], ["-O2", "-fsave-optimization-record"]):
+        for compiler in compilers:
+            exchange(request(compiler, options, sources[0]))
+            count += 1
+    made = sorted(set(os.listdir(".")) - here) + os.listdir(outside)
+    if made:
+        print(f"FAIL written outside the folder of a run: {made}")
+        wrong += 1
     # the doors serve on
     for compiler in compilers:
         reply = exchange(request(compiler, ["-O2"], sources[0]))

@@ -105,7 +105,7 @@ module _ {A S : Type 0} (door : A → DoorView) (station : S → StationView) (r
       let right = right_doors door station ran config.table.rows config.access.rules config.serve 1 (take (doors_used options olds) olds) (take (doors_used options olds) news) log done smooth.doors in
       let none = no_fault door station ran config.table.rows config.access.rules config.serve 1 (take (doors_used options olds) olds) (take (doors_used options olds) news) log right in
       all config log is none_kept right (either_status (log_status log) answer (ended_as (log_text log) (log_status log) old new answer (goes_on smooth) ends) (status_by _ _ none))
-  completed (cached config log bound books is kept done others many ends) smooth =
+  completed (cached config log bound books is kept done others many counted ends) smooth =
       let shown : S → StationView = λ s. cached_shows (station s) in
       let calm = smooth_beside door station ran (take (doors_used options olds) olds) (take (doors_used options olds) news) smooth.doors in
       let right = right_doors door shown ran config.table.rows config.access.rules config.serve 1 (take (doors_used options olds) olds) (take (doors_used options olds) news) log done calm in

@@ -1,6 +1,6 @@
 -- What the way of a station beside a book says of the book's counts.
-use Rattle.std.proofs.Common.{◌≡◌, ◌⊎◌, inl, inr, ℕ, zero, suc, ◌+◌, ◌*◌, ◌<◌, ◌≤◌, nat_eq, Bool, true, false, List, [], ◌∷◌, ◌++◌, length, map, reverse, take, drop, refl, sym, ◌∙◌, ap, subst, length-append, arith}
-use Rattle.std.specs.Prelude.{Option, Some, None, Result, Ok, Err, ◌||◌, cond, bytes_eq, All, if◌then◌else◌}
+use Rattle.std.proofs.Common.{◌≡◌, inl, inr, ℕ, suc, ◌+◌, ◌*◌, ◌<◌, ◌≤◌, nat_eq, Bool, true, false, List, [], ◌∷◌, ◌++◌, length, map, reverse, take, drop, refl, sym, ◌∙◌, ap, subst, length-append, arith}
+use Rattle.std.specs.Prelude.{Option, Some, Result, Ok, Err, ◌||◌, cond, bytes_eq, All, if◌then◌else◌}
 use Rattle.std.specs.List.{list_any, find}
 use Rattle.std.specs.Option.{option_map}
 use Rattle.std.specs.Bool.{MatchBool}
@@ -8,7 +8,6 @@ use Rattle.std.proofs.lemmas.Bool.{lt-ltb}
 use Rattle.std.proofs.lemmas.List.Elements.{All-head, All-tail}
 use Rattle.farm_types.specs.declared.placed.Word.{Word}
 use Rattle.farm_types.specs.declared.ran.Ran.{Ran}
-use Rattle.farm_types.specs.declared.request.Request.{Request}
 use Rattle.edge_traits.specs.declared.entries.Run.{Run}
 use Rattle.edge_traits.specs.declared.faults.Bounds.{Bounds}
 use Rattle.edge_traits.specs.declared.faults.StationFault.{StationFault as RunStop}
@@ -250,8 +249,7 @@ module _ {S : Type 0} (shows : S → StationView) where
     doors_counted bound number [] (new ∷ news) log fresh room paths = absurd paths
     doors_counted bound number (old ∷ olds) [] log fresh room paths = absurd paths
     doors_counted bound number (old ∷ olds) (new ∷ news) log fresh room paths =
-        let all : length log ≡ length paths.0 + length paths.1 = ap length paths.2 ∙ length-append paths.0 paths.1 in
-        (
+        let all : length log ≡ length paths.0 + length paths.1 = ap length paths.2 ∙ length-append paths.0 paths.1 in (
           paths.0,
           paths.1,
           paths.2,

@@ -1,11 +1,10 @@
 -- What the counts of a book say of its door's connections and of its station's runs.
-use Rattle.std.specs.Prelude.{◌≡◌, ℕ, suc, ◌+◌, ◌<◌, ◌≤◌, ◌==◌, ◌||◌, Bool, true, false, not, List, [], ◌∷◌, ◌++◌, length, if◌then◌else◌}
+use Rattle.std.specs.Prelude.{◌≡◌, ℕ, ◌+◌, ◌<◌, ◌≤◌, ◌==◌, ◌||◌, Bool, true, false, not, List, [], ◌∷◌, ◌++◌, length, if◌then◌else◌}
 use Rattle.std.specs.List.{list_any}
 use Rattle.edge_traits.specs.declared.entries.Run.{Run}
 use Rattle.edge_traits.specs.Stations.{StationView}
 use Rattle.edge_traits.specs.Told.{Grew}
 use Rattle.daemon_service.specs.declared.compilers.Compiler.{Compiler}
-use Rattle.daemon_service.specs.declared.served.Served.{Served}
 use Rattle.daemon_service.specs.declared.served.Served.TheVariants as served
 use Rattle.daemon_worker.specs.declared.log.DoorKit.{DoorKit}
 use Rattle.daemon_worker.specs.declared.log.Entry.{Entry}

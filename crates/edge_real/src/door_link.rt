@@ -8,7 +8,7 @@ ghost use Rattle.edge_real.specs.Views.{door_link_view, door_stream_of};
 use crate::exchange::Exchange;
 use crate::notices::{Visit, tell_visit};
 use crate::retrying::read_once;
-use crate::tcp::TcpLink;
+use crate::tcp::{IDLE_SECS, TcpLink};
 use edge_traits::{EdgeFault, Link};
 use farm_types::{Bytes, HostName};
 use std::alloc::Global;
@@ -23,17 +23,18 @@ pub struct DoorLink<S> {
     link: TcpLink<S>,
     peer: SocketAddr,
     begun: Duration,
+    has_begun: bool,
     exchange: Exchange,
 }
 
 impl<S: OpenStream> DoorLink<S> {
-    /// A link on which nothing has happened yet, at this moment of the monotonic clock. A read or a write that waits for `IDLE_SECS` fails.
+    /// A link on which nothing has happened yet, at this moment of the monotonic clock. The first read fails where it waits for `SILENT_SECS`,
+    /// each later one and each write where it waits for `IDLE_SECS`.
     pub(crate) fn new(alloc: Global, stream: S, peer: SocketAddr, begun: Duration) -> DoorLink<S>
         ensures { IsNew (door_link_view result) }
     {
-        let idle = Some(Duration::from_secs(IDLE_SECS));
-        let _ = stream.set_read_timeout(idle);
-        let _ = stream.set_write_timeout(idle);
+        let _ = stream.set_read_timeout(Some(Duration::from_secs(SILENT_SECS)));
+        let _ = stream.set_write_timeout(Some(Duration::from_secs(IDLE_SECS)));
         let nobody = HostName {
             text: Bytes::new(alloc),
         };
@@ -41,13 +42,15 @@ impl<S: OpenStream> DoorLink<S> {
             link: TcpLink::new(stream, nobody, 0),
             peer,
             begun,
+            has_begun: false,
             exchange: Exchange::new(),
         }
     }
 }
 
-/// How long nothing may move on a link: 10 minutes.
-const IDLE_SECS: u64 = 600;
+/// How long a peer may be silent before its first byte: clients begin their request as soon as they are let in, but one of distcc preprocesses its
+/// source behind the request's words.
+const SILENT_SECS: u64 = 5;
 
 impl<S: Read + OpenStream + Drop> DoorLink<S> {
     /// Ends the connection, and tells what passed. A peer that was sent nothing is left at once, with nothing more read.
@@ -96,7 +99,7 @@ const LINGER_MILLIS: u64 = 1000;
 /// How many bytes it reads at once.
 const LINGER_ROOM: usize = 16_384;
 
-impl<S: Read + Write> Link for DoorLink<S> {
+impl<S: Read + Write + OpenStream> Link for DoorLink<S> {
     ghost shows = { door_link_view };
 
     ghost follows = { λ a b. (door_link_view a).origin ≡ (door_link_view b).origin };
@@ -137,6 +140,10 @@ impl<S: Read + Write> Link for DoorLink<S> {
         ensures faults { (door_link_view self.new).faults ≡ call_faults result (door_link_view self.old).faults }
     {
         let given = self.link.recv(room)?;
+        if !self.has_begun {
+            self.has_begun = true;
+            self.link.wait_at_most(Duration::from_secs(IDLE_SECS));
+        }
         self.exchange.given(room, given);
         Ok(given)
     }

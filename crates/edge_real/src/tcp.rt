@@ -12,8 +12,9 @@ use edge_traits::{Dialer, EdgeFault, Link};
 use farm_types::HostName;
 use std::alloc::Global;
 use std::io::{Read, Write};
-use std::net::{Net, OpenStream, TcpStream};
+use std::net::{Net, OpenStream, TcpStream, ToSocketAddrs};
 use std::str;
+use std::time::Duration;
 
 /// A connection over TCP. It shuts neither of its sides before it is given back.
 #[derive(Drop)]
@@ -45,6 +46,14 @@ impl<S: OpenStream> TcpLink<S> {
 }
 
 impl<S> TcpLink<S> {
+    /// Has each read from here on fail that waits for so long, where the system takes it.
+    pub(crate) fn wait_at_most(&self, time: Duration)
+    where
+        S: OpenStream,
+    {
+        let _ = self.stream.set_read_timeout(Some(time));
+    }
+
     /// The connection itself.
     pub(crate) fn into_stream(self) -> S
         ensures { result ≡ stream_of self }
@@ -113,7 +122,14 @@ impl<S: Read + Write> Link for TcpLink<S> {
     }
 }
 
-/// Dials over TCP. A name is resolved by the system, and each of its addresses is tried in turn.
+/// How long an address of a host may take to answer a dial: 5 seconds.
+const DIAL_SECS: u64 = 5;
+
+/// How long nothing may move on a link: 10 minutes.
+pub const IDLE_SECS: u64 = 600;
+
+/// Dials over TCP. A name is resolved by the system, and each of its addresses is tried in turn, each for at most `DIAL_SECS`. On a link that it
+/// gives, a receive or a send that waits for `IDLE_SECS` is a fault.
 #[derive(Drop)]
 pub struct TcpDialer<R> {
     rt: R,
@@ -136,10 +152,23 @@ impl<R: Net> TcpDialer<R> {
         let Ok(text) = str::from_utf8(host.text.as_slice()) else {
             return Err(EdgeFault::Failed);
         };
-        match TcpStream::connect(&self.rt, (text, port)) {
-            Ok(stream) => Ok(stream),
-            Err(_) => Err(EdgeFault::Failed),
+        let Ok(places) = (text, port).to_socket_addrs(&self.rt) else {
+            return Err(EdgeFault::Failed);
+        };
+        for place in places {
+            let reached = TcpStream::connect_timeout(
+                &self.rt,
+                &place,
+                Duration::from_secs(DIAL_SECS),
+            );
+            if let Ok(stream) = reached {
+                let idle = Some(Duration::from_secs(IDLE_SECS));
+                let _ = stream.set_read_timeout(idle);
+                let _ = stream.set_write_timeout(idle);
+                return Ok(stream);
+            }
         }
+        Err(EdgeFault::Failed)
     }
 
     fn connect(&self, host: &HostName, port: u16) -> Result<TcpLink<R::Stream>, EdgeFault>

@@ -17,6 +17,6 @@ printing-preserved g c =
     let first = get_or c.printing.rest.now 0 no_stats in
     record {
       so_far = next_line (books_text 1 c.args.books.now) (books_text door c.printing.rest.now) (book_line door first) _ (g.O.Sink.shows c.args.out.now) (g.O.Sink.shows c.printing.out) c.printing.invariant.so_far
-        (first_book door first c.printing.rest.now _ (one_part no_stats c.printing.rest.now c.in-len1-up.len_at_least)) (g.O.Sink.shows c.print_book.new.out) c.in-Ok.ensures.all c.in-Ok.ensures.goes_on;
+          (first_book door first c.printing.rest.now _ (one_part no_stats c.printing.rest.now c.in-len1-up.len_at_least)) (g.O.Sink.shows c.print_book.new.out) c.in-Ok.ensures.all c.in-Ok.ensures.goes_on;
       many = grind (arith, common_steps, c.printing.invariant.many);
     }
