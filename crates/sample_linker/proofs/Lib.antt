@@ -1,0 +1,17 @@
+pub mod Splits
+pub mod Words
+pub mod Spelling
+pub mod SourceItems
+pub mod Numbers
+pub mod Placed
+pub mod Soundness
+pub mod TableLemmas
+pub mod Held
+pub mod Reading
+pub mod Promise
+pub mod Front
+pub mod Sets
+pub mod Steps
+pub mod Places
+pub mod Rounds
+pub mod Used

@@ -1,0 +1,14 @@
+pub mod Lines
+pub mod Files
+pub mod Links
+pub mod Orders
+pub mod Values
+pub mod Tables
+pub mod Indexes
+pub mod Reads
+pub mod Runs
+pub mod Right
+pub mod Sources
+pub mod Stops
+pub mod Waits
+pub mod Circles
