@@ -1,6 +1,8 @@
 -- What a load and then a put leave.
 use Rattle.std.proofs.Common.{◌≡◌, ℕ, List, [], ◌++◌, refl, ap, sym, ◌∙◌, subst, append_assoc, ⊎_elim, inl, inr, arith}
-use Rattle.std.specs.Prelude.{◌⊎◌, Option, IsTrue}
+use Rattle.std.specs.Prelude.{◌⊎◌, Option, IsTrue, Result, Ok, Err, IfOk, IfErr}
+use Rattle.stream_print.specs.Prints.{SinksView}
+use Rattle.sample_program.specs.Links.{PrintsRan}
 use Rattle.std.proofs.lemmas.List.{append-nil}
 use Rattle.farm_types.specs.declared.ran.Ran.{Ran}
 use Rattle.edge_traits.specs.declared.entries.Put.{Put}
@@ -17,14 +19,15 @@ use Rattle.sample_compiler.specs.Seeking.{asked_names}
 use Rattle.sample_compiler.specs.Loads.{unstaged, entries_at, names_for, FetchedFront, HasAbsent, LongNamed, OverrunsStand, OnlyFetched, SameRuns, WasTooLong}
 use Rattle.sample_program.specs.declared.running.RunStop.{RunStop}
 use Rattle.sample_program.specs.declared.running.RunStop.TheVariants.{File, Memory}
-use Rattle.sample_program.specs.Programs.{PutBy, PutStop, NoneFetched, files_with, puts_of, named, firsts_looked_up, fetches_of, OverrunsStandBy, DidRun, StopCause, StoppedRun}
+use Rattle.sample_program.specs.Programs.{named, firsts_looked_up, fetches_of, OverrunsStandBy, DidRun, StopCause, StoppedRun, Compiled, ran_so, files_failed, memory_wanted}
+use Rattle.sample_program.specs.Puts.{PutBy, PutStop, NoneFetched, files_with, puts_of}
 
 -- ---- lists that are told
 
-grew_nothing : {T : Type 0} (a : Told (List T)) → Grew a a []
+pub grew_nothing : {T : Type 0} (a : Told (List T)) → Grew a a []
 grew_nothing a = record { known = λ told. told; grew = λ told. sym (append-nil a.value) }
 
-grew_then : {T : Type 0} (a b c : Told (List T)) (more : List T) → Grew a b more → Grew b c [] → Grew a c more
+pub grew_then : {T : Type 0} (a b c : Told (List T)) (more : List T) → Grew a b more → Grew b c [] → Grew a c more
 grew_then a b c more one none = record {
   known = λ told. one.known (none.known told);
   grew = λ told. none.grew told ∙ append-nil b.value ∙ one.grew (none.known told);
@@ -52,7 +55,7 @@ stopped_first words view idle = record {
 -- ---- a load
 
 -- files were fetched, and then these put
-fetched_put : (puts : List Put) (old mid new : KeeperView) → OnlyFetched old mid → PutBy puts mid new → PutBy puts old new
+pub fetched_put : (puts : List Put) (old mid new : KeeperView) → OnlyFetched old mid → PutBy puts mid new → PutBy puts old new
 fetched_put puts old mid new only put = record {
   puts_more = record {
     known = λ told. only.puts.known (put.puts_more.known told);
@@ -66,7 +69,7 @@ fetched_put puts old mid new only put = record {
 }
 
 -- nothing was put where files were fetched alone
-only_fetched : (old mid : KeeperView) → OnlyFetched old mid → PutBy [] old mid
+pub only_fetched : (old mid : KeeperView) → OnlyFetched old mid → PutBy [] old mid
 only_fetched old mid only = fetched_put [] old mid mid only (put_none mid only.idle)
 
 -- what a load that went well leaves, said of the files before it
@@ -148,10 +151,10 @@ overruns_then : (words : List (List ℕ)) (old mid new : KeeperView) (puts : Lis
 overruns_then words old mid new puts loaded put none told =
     ⊎_elim (λ still. inl (none.overruns ∙ still)) (λ gone. inr gone) (loaded.overruns (put.files.known told))
 
-rose_then : (a b c : ℕ) → Still a b → Rose b c → Rose a c
+pub rose_then : (a b c : ℕ) → Still a b → Rose b c → Rose a c
 rose_then a b c calm rose = omega (arith, calm, rose)
 
-removal_then : (a b c : ℕ) → Still a b → IsRemoval b c → IsRemoval a c
+pub removal_then : (a b c : ℕ) → Still a b → IsRemoval b c → IsRemoval a c
 removal_then a b c calm removal = omega (arith, calm, removal)
 
 cause_then : (words : List (List ℕ)) (old mid new : KeeperView) (stop : RunStop) → Loaded words old mid → PutBy [] mid new → NoneFetched mid new → PutStop mid new stop → StopCause words old new stop
@@ -184,3 +187,12 @@ did_run words all old mid new files ran asked is loaded same leaves by put none 
       calm = calm ∙ loaded.calm;
       overruns = overruns_then words old mid new (puts_of asked ran) loaded put none;
     }
+
+-- ---- what is printed
+
+-- a run of the compiler, or its stop, was printed
+pub compiled_as : (words : List (List ℕ)) (old new : KeeperView) (sinks sinks_now : SinksView) (answer : ℕ) (result : Result Ran RunStop) → IfOk result (DidRun words old new) → IfErr result (StoppedRun words old new)
+    → PrintsRan result sinks sinks_now answer → Compiled words old new sinks sinks_now answer
+compiled_as words old new sinks sinks_now answer (Ok ran) did stop p = ran_so ran did p
+compiled_as words old new sinks sinks_now answer (Err File) did stop p = files_failed stop p
+compiled_as words old new sinks sinks_now answer (Err Memory) did stop p = memory_wanted stop p

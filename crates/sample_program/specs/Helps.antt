@@ -10,7 +10,9 @@ version =
 abbrev pub help : List ℕ
 help =
     codes "Usage: scc -c|-S|-E [OPTION]... FILE\n"
-    ++ codes "Compiles a source of the sample language.\n"
+    ++ codes "       scc --link OBJECT... -o IMAGE\n"
+    ++ codes "       scc --run IMAGE\n"
+    ++ codes "Compiles a source of the sample language, links objects, or runs an image.\n"
     ++ codes "\n"
     ++ codes "  -c, -S       write the object to a file\n"
     ++ codes "  -E           write the preprocessed text to standard output\n"
@@ -19,6 +21,9 @@ help =
     ++ codes "  -D NAME=V    let NAME stand for V; without =V, for 1\n"
     ++ codes "\n"
     ++ codes "The first of -c, -S and -E counts. Other words that begin with - are passed over.\n"
+    ++ codes "\n"
+    ++ codes "  --link       make one image of 1 to 512 objects\n"
+    ++ codes "  --run        print the number of main in an image\n"
 
 -- what a word asks for
 abbrev pub told_by : List ℕ → Option (List ℕ)

@@ -1,5 +1,5 @@
 -- What `scc` does.
-use Rattle.std.specs.Prelude.{ℕ, ◌≡◌, ◌⊎◌, List, [], ◌∷◌, codes, ◌==◌, if◌then◌else◌, Option, None, Some, IsTrue}
+use Rattle.std.specs.Prelude.{ℕ, ◌≡◌, ◌⊎◌, List, [], ◌∷◌, codes, ◌==◌, if◌then◌else◌, Option, None, Some, IsTrue, MatchBool, bytes_eq}
 use Rattle.std.specs.FinMap.{insert}
 use Rattle.farm_types.specs.declared.ran.Ran.{Ran}
 use Rattle.farm_types.specs.Exits.{exit_code_of}
@@ -24,47 +24,9 @@ use Rattle.sample_compiler.specs.declared.loading.LoadFault.TheVariants.{TooMuch
 use Rattle.sample_program.specs.declared.running.RunStop.{RunStop}
 use Rattle.sample_program.specs.declared.running.RunStop.TheVariants.{File, Memory}
 use Rattle.sample_program.specs.Helps.{told_text}
-
--- ---- the texts
-
-abbrev pub no_memory_text : List ℕ
-no_memory_text = codes "scc: no memory\n"
-
-abbrev pub file_fault_text : List ℕ
-file_fault_text = codes "scc: file fault\n"
-
--- ---- what is put
-
--- an object under its name
-abbrev pub object_put : Product → List ℕ → List Put
-object_put Text object = []
-object_put (Object output) object = record { path = output; bytes = object } ∷ []
-
--- the object of a run that ended well, where one was asked for
-abbrev pub puts_of : Option Task → Ran → List Put
-puts_of (Some task) ran = if ran.status == 0 then object_put task.product ran.object else []
-puts_of None ran = []
-
--- the files after these puts
-abbrev pub files_with : Files → List Put → Files
-files_with files [] = files
-files_with files (put ∷ puts) = files_with (insert files put.path put.bytes) puts
-
--- the keeper has these puts more, its files are those after them, and none is pending
-pub record PutBy (puts : List Put) (old new : KeeperView) : Type 0 where
-  pub puts_more : Grew old.puts new.puts puts
-  pub files : Became old.files new.files (files_with old.files.value puts)
-  pub idle : IsIdle new
-
--- no file was fetched, and no overrun rose
-pub record NoneFetched (old new : KeeperView) : Type 0 where
-  pub fetches : Grew old.fetches new.fetches []
-  pub overruns : Still old.overruns new.overruns
-
--- when a put that came to nothing may be told so
-abbrev pub PutStop : KeeperView → KeeperView → RunStop → Type 0
-PutStop old new File = Rose old.faults new.faults
-PutStop old new Memory = IsRemoval old.faults new.faults
+use Rattle.sample_program.specs.Forms.{link_form, run_form}
+use Rattle.sample_program.specs.Links.{DoesLink, DoesRun}
+use Rattle.sample_program.specs.Puts.{PutBy, PutStop, puts_of, no_memory_text, file_fault_text, printed_by, output}
 
 -- ---- a run
 
@@ -127,14 +89,6 @@ pub record StoppedRun (words : List (List ℕ)) (old new : KeeperView) (stop : R
 
 -- ---- the program
 
--- a text for the output
-abbrev pub output : List ℕ → Piece
-output text = record { sink = Out; bytes = text }
-
--- the messages, and then the output
-abbrev pub printed_by : Ran → List Piece
-printed_by ran = complaint ran.err ∷ output ran.out ∷ []
-
 -- The compiler ran, and what it left was printed; or the files failed; or memory was wanting before anything was put or printed.
 pub data Compiled (words : List (List ℕ)) (old new : KeeperView) (sinks sinks_now : SinksView) (answer : ℕ) : Type 0 where
   ran_so : (ran : Ran) → DidRun words old new ran → Ends no_memory_text (printed_by ran) (exit_code_of ran.status) sinks sinks_now answer → Compiled words old new sinks sinks_now answer
@@ -145,9 +99,19 @@ pub data Compiled (words : List (List ℕ)) (old new : KeeperView) (sinks sinks_
 abbrev pub Told : List ℕ → SinksView → SinksView → ℕ → Type 0
 Told text sinks sinks_now answer = Ends no_memory_text (output text ∷ []) 0 sinks sinks_now answer ⊎ WantOf no_memory_text [] sinks sinks_now answer
 
+-- what is done by the words, of which the first may name another form
+abbrev pub DoesWords : List (List ℕ) → KeeperView → KeeperView → SinksView → SinksView → ℕ → Type 0
+DoesWords [] old new sinks sinks_now answer = Compiled [] old new sinks sinks_now answer
+DoesWords (first ∷ words) old new sinks sinks_now answer =
+    MatchBool (bytes_eq first (codes "--link"))
+    (DoesLink (link_form words) old new sinks sinks_now answer)
+    (MatchBool (bytes_eq first (codes "--run"))
+    (DoesRun (run_form words) old new sinks sinks_now answer)
+    (Compiled (first ∷ words) old new sinks sinks_now answer))
+
 abbrev pub DoesBy : Option (List ℕ) → List (List ℕ) → KeeperView → KeeperView → SinksView → SinksView → ℕ → Type 0
 DoesBy (Some text) words old new sinks sinks_now answer = (new ≡ old) × Told text sinks sinks_now answer
-DoesBy None words old new sinks sinks_now answer = Compiled words old new sinks sinks_now answer
+DoesBy None words old new sinks sinks_now answer = DoesWords words old new sinks sinks_now answer
 
 -- what is done by these words
 abbrev pub Does : List (List ℕ) → KeeperView → KeeperView → SinksView → SinksView → ℕ → Type 0

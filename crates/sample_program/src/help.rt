@@ -8,7 +8,9 @@ pub const VERSION: &[u8] = b"scc 0.1\n";
 
 /// What `scc --help` prints.
 pub const HELP: &[u8] = b"Usage: scc -c|-S|-E [OPTION]... FILE
-Compiles a source of the sample language.
+       scc --link OBJECT... -o IMAGE
+       scc --run IMAGE
+Compiles a source of the sample language, links objects, or runs an image.
 
   -c, -S       write the object to a file
   -E           write the preprocessed text to standard output
@@ -17,6 +19,9 @@ Compiles a source of the sample language.
   -D NAME=V    let NAME stand for V; without =V, for 1
 
 The first of -c, -S and -E counts. Other words that begin with - are passed over.
+
+  --link       make one image of 1 to 512 objects
+  --run        print the number of main in an image
 ";
 
 // What a word asks for alone.

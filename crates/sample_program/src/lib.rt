@@ -1,7 +1,11 @@
 //! The program `scc`: what its `main` calls.
 #![tactic(auto)]
 
+mod fetching;
+mod forms;
 mod help;
+mod linking;
+mod messages;
 mod running;
 mod top;
 

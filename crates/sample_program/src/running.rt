@@ -5,7 +5,8 @@ ghost use Rattle.edge_traits.specs.Causes.{Still};
 ghost use Rattle.edge_traits.specs.Keepers.{IsIdle};
 ghost use Rattle.edge_traits.specs.FileMaps.{IsStaged};
 ghost use Rattle.sample_compiler.specs.Tasks.{HasPlainOutput};
-ghost use Rattle.sample_program.specs.Programs.{PutBy, PutStop, NoneFetched, puts_of, StoppedRun, DidRun};
+ghost use Rattle.sample_program.specs.Programs.{StoppedRun, DidRun};
+ghost use Rattle.sample_program.specs.Puts.{PutBy, PutStop, NoneFetched, puts_of};
 
 use edge_traits::{EdgeFault, Keeper};
 use farm_types::{Bytes, Ran, Words};
@@ -43,22 +44,22 @@ fn with_name(alloc: Global, words: &[String]) -> Result<Words, AllocError>
     Ok(made)
 }
 
-// Puts an object.
-fn put_file<K: Keeper>(
+/// Puts a file.
+pub fn put_file<K: Keeper>(
     alloc: Global,
     output: &Bytes,
-    object: &Bytes,
+    bytes: &Bytes,
     keeper: &mut K,
 ) -> Result<(), RunStop>
     requires idle { IsIdle (K.shows keeper.old) }
     requires name { ¬ (IsStaged output.now) }
-    ensures ok { OnOk result (PutBy (record { path = output.now; bytes = object.now } ∷ []) (K.shows keeper.old) (K.shows keeper.new)) }
+    ensures ok { OnOk result (PutBy (record { path = output.now; bytes = bytes.now } ∷ []) (K.shows keeper.old) (K.shows keeper.new)) }
     ensures err { OnErr result (PutBy [] (K.shows keeper.old) (K.shows keeper.new)) }
     ensures none { NoneFetched (K.shows keeper.old) (K.shows keeper.new) }
     ensures calm { OnOk result (Still (K.shows keeper.old).faults (K.shows keeper.new).faults) }
     ensures cause { IfErr result (PutStop (K.shows keeper.old) (K.shows keeper.new)) }
 {
-    match keeper.put(alloc, output, object.as_slice()) {
+    match keeper.put(alloc, output, bytes.as_slice()) {
         Ok(()) => Ok(()),
         Err(EdgeFault::Failed) => Err(RunStop::File),
         Err(EdgeFault::Memory) => Err(RunStop::Memory),

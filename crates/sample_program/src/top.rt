@@ -4,10 +4,16 @@ ghost use Rattle.std.specs.Prelude.{◌≡◌, false, map, string_bytes};
 ghost use Rattle.edge_traits.specs.Keepers.{IsIdle};
 ghost use Rattle.stream_print.specs.Prints.{sinks_view};
 ghost use Rattle.stream_print.specs.Ends.{Ends};
-ghost use Rattle.sample_program.specs.Programs.{Compiled, Does, Told, no_memory_text, printed_by};
+ghost use Rattle.sample_program.specs.Forms as forms;
+ghost use Rattle.sample_program.specs.Links.{DoesLink, DoesRun, PrintsRan, RefusedWords};
+ghost use Rattle.sample_program.specs.Programs.{Compiled, Does, DoesWords, Told};
+ghost use Rattle.sample_program.specs.Puts.{no_memory_text, printed_by};
 ghost use Rattle.farm_types.specs.Exits.{exit_code_of};
 
+use crate::forms::{link_form, run_form};
 use crate::help::told_text;
+use crate::linking::{link_files, run_image};
+use crate::messages::refuse_words;
 use crate::running::{RunStop, run};
 use edge_traits::{Keeper, Sink};
 use farm_types::{Bytes, Ran, exit_code};
@@ -65,6 +71,18 @@ fn tell<O: Sink, E: Sink>(alloc: Global, text: &[u8], out: &mut O, err: &mut E) 
     }
 }
 
+// Prints what was left, or why there was no run.
+fn print_ran<O: Sink, E: Sink>(ran: Result<Ran, RunStop>, out: &mut O, err: &mut E) -> u8
+    ensures { PrintsRan ran (sinks_view O.shows E.shows out.old err.old)
+        (sinks_view O.shows E.shows out.new err.new) result }
+{
+    match ran {
+        Ok(ran) => print_run(ran, out, err),
+        Err(RunStop::File) => complain(FILE_FAULT_TEXT, FILE_FAULT, NO_MEMORY_TEXT, out, err),
+        Err(RunStop::Memory) => no_memory(NO_MEMORY_TEXT, out, err),
+    }
+}
+
 // Compiles by the words, and prints what was left.
 fn compile_by<K: Keeper, O: Sink, E: Sink>(
     alloc: Global,
@@ -78,16 +96,90 @@ fn compile_by<K: Keeper, O: Sink, E: Sink>(
         (sinks_view O.shows E.shows out.old err.old)
         (sinks_view O.shows E.shows out.new err.new) result }
 {
-    match run(alloc, words, keeper) {
-        Ok(ran) => print_run(ran, out, err),
-        Err(RunStop::File) => complain(FILE_FAULT_TEXT, FILE_FAULT, NO_MEMORY_TEXT, out, err),
-        Err(RunStop::Memory) => no_memory(NO_MEMORY_TEXT, out, err),
+    let ran = run(alloc, words, keeper);
+    print_ran(ran, out, err)
+}
+
+// Prints that the words aren't right.
+fn refuse<O: Sink, E: Sink>(alloc: Global, out: &mut O, err: &mut E) -> u8
+    ensures { RefusedWords (sinks_view O.shows E.shows out.old err.old)
+        (sinks_view O.shows E.shows out.new err.new) result }
+{
+    let ran = refuse_words(alloc);
+    print_ran(ran, out, err)
+}
+
+// Links by the words behind `--link`.
+fn link_by<K: Keeper, O: Sink, E: Sink>(
+    alloc: Global,
+    words: &[String],
+    keeper: &mut K,
+    out: &mut O,
+    err: &mut E,
+) -> u8
+    requires idle { IsIdle (K.shows keeper.old) }
+    ensures { DoesLink (forms.link_form (map string_bytes words.now)) (K.shows keeper.old) (K.shows keeper.new)
+        (sinks_view O.shows E.shows out.old err.old)
+        (sinks_view O.shows E.shows out.new err.new) result }
+{
+    match link_form(words) {
+        Some(form) => {
+            let ran = link_files(alloc, form.files, form.image, keeper);
+            print_ran(ran, out, err)
+        }
+        None => refuse(alloc, out, err),
+    }
+}
+
+// Runs by the words behind `--run`.
+fn run_by<K: Keeper, O: Sink, E: Sink>(
+    alloc: Global,
+    words: &[String],
+    keeper: &mut K,
+    out: &mut O,
+    err: &mut E,
+) -> u8
+    requires idle { IsIdle (K.shows keeper.old) }
+    ensures { DoesRun (forms.run_form (map string_bytes words.now)) (K.shows keeper.old) (K.shows keeper.new)
+        (sinks_view O.shows E.shows out.old err.old)
+        (sinks_view O.shows E.shows out.new err.new) result }
+{
+    match run_form(words) {
+        Some(image) => {
+            let ran = run_image(alloc, image, keeper);
+            print_ran(ran, out, err)
+        }
+        None => refuse(alloc, out, err),
+    }
+}
+
+// Links or runs where the first word says so, and compiles by any other words.
+fn do_words<K: Keeper, O: Sink, E: Sink>(
+    alloc: Global,
+    words: &[String],
+    keeper: &mut K,
+    out: &mut O,
+    err: &mut E,
+) -> u8
+    requires idle { IsIdle (K.shows keeper.old) }
+    ensures { DoesWords (map string_bytes words.now) (K.shows keeper.old) (K.shows keeper.new)
+        (sinks_view O.shows E.shows out.old err.old)
+        (sinks_view O.shows E.shows out.new err.new) result }
+{
+    match words {
+        [first, rest @ ..] => match first.as_str() {
+            "--link" => link_by(alloc, rest, keeper, out, err),
+            "--run" => run_by(alloc, rest, keeper, out, err),
+            _ => compile_by(alloc, words, keeper, out, err),
+        },
+        [] => compile_by(alloc, words, keeper, out, err),
     }
 }
 
 /// The program `scc` (docs/sample-compiler.md). `words` are its arguments without its own name. It fetches the files that they
-/// look up, compiles, puts the object of a run that ended well, and prints the run's messages and then its output. No put is
-/// pending, and neither sink is stopped.
+/// look up, compiles, puts the object of a run that ended well, and prints the run's messages and then its output. Where the
+/// first word is `--link` or `--run` it links objects and runs images instead (docs/sample-linker.md). No put is pending, and
+/// neither sink is stopped.
 pub fn scc<K: Keeper, O: Sink, E: Sink>(
     alloc: Global,
     words: &[String],
@@ -104,6 +196,6 @@ pub fn scc<K: Keeper, O: Sink, E: Sink>(
 {
     match told_text(words) {
         Some(text) => tell(alloc, text, out, err),
-        None => compile_by(alloc, words, keeper, out, err),
+        None => do_words(alloc, words, keeper, out, err),
     }
 }

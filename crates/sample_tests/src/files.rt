@@ -8,7 +8,12 @@ use std::alloc::{AllocError, Global};
 /// Files by their names.
 pub type Listed = &'static [(&'static [u8], &'static [u8])];
 
-fn put(alloc: Global, files: &mut FileMap, name: &[u8], content: &[u8]) -> Result<(), AllocError> {
+pub fn put(
+    alloc: Global,
+    files: &mut FileMap,
+    name: &[u8],
+    content: &[u8],
+) -> Result<(), AllocError> {
     let name = Bytes::from_slice(alloc, name)?;
     let content = Bytes::from_slice(alloc, content)?;
     files.try_put(name, content)

@@ -1,8 +1,12 @@
-//! Tests of the sample language, its compiler, the compiler as a station, the program `scc`, and the generated workload.
+//! Tests of the sample language, its compiler, its linker, the compiler as a station, the program `scc`, and the generated workload.
 #![tactic(auto)]
 
 #[cfg(test)]
 mod files;
+#[cfg(test)]
+mod link_programs;
+#[cfg(test)]
+mod links;
 #[cfg(test)]
 mod loads;
 #[cfg(test)]

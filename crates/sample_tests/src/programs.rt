@@ -34,9 +34,9 @@ struct Row {
 }
 
 // Which writes of a sink fail, and which take nothing.
-type Writes = (&'static [u64], &'static [u64]);
+pub type Writes = (&'static [u64], &'static [u64]);
 
-const GOOD: Writes = (&[], &[]);
+pub const GOOD: Writes = (&[], &[]);
 
 const PLAIN: Row = Row {
     words: &["-c", "a.c", "-o", "a.o"],
@@ -145,7 +145,7 @@ const ROWS: &[Row] = &[
     },
 ];
 
-fn sink_of(alloc: Global, writes: Writes) -> Result<MemSink, AllocError>
+pub fn sink_of(alloc: Global, writes: Writes) -> Result<MemSink, AllocError>
     ensures { IfOk result (λ sink. (sink_shows (sink_state sink)).stopped ≡ false) }
 {
     let (fails, zeros) = writes;
@@ -157,7 +157,7 @@ fn sink_of(alloc: Global, writes: Writes) -> Result<MemSink, AllocError>
     Ok(MemSink::new(alloc, moves))
 }
 
-fn strings(alloc: Global, list: &[&str]) -> Result<Vec<String>, AllocError> {
+pub fn strings(alloc: Global, list: &[&str]) -> Result<Vec<String>, AllocError> {
     let mut words = Vec::new(alloc);
     for word in list {
         words.push(String::from_str(alloc, word)?)?;

@@ -1,11 +1,10 @@
-use Rattle.sample_program.specs.Programs.{ran_so, files_failed, memory_wanted}
+use Rattle.std.proofs.Common.{map, string_bytes, Global}
+use Rattle.stream_print.specs.Prints.{sinks_view}
+use Rattle.sample_program.proofs.RunLemmas.{compiled_as}
 use Rattle.sample_program.proofs.top.compile_by.Goals as goal
 
-pub returns-in-Ok : goal.returns-in-Ok
-returns-in-Ok g c = ran_so c.in-Ok.ran c.in-Ok.ensures.ran c.print_run.ensures
-
-pub returns-in-Err-File : goal.returns-in-Err-File
-returns-in-Err-File g c = files_failed (rw c.in-Err-File.field-0-is at c.in-Err-File.ensures.stop) c.complain.ensures
-
-pub returns-in-Err-Memory : goal.returns-in-Err-Memory
-returns-in-Err-Memory g c = memory_wanted (rw c.in-Err-Memory.field-0-is at c.in-Err-Memory.ensures.stop) c.no_memory.ensures
+pub returns : goal.returns
+returns g c =
+    compiled_as (map (string_bytes {Z = Global}) c.args.words.now) (g.K.Keeper.shows c.args.keeper.now) (g.K.Keeper.shows c.run.new.keeper)
+    (sinks_view g.O.Sink.shows g.E.Sink.shows c.args.out.now c.args.err.now) (sinks_view g.O.Sink.shows g.E.Sink.shows c.print_ran.new.out c.print_ran.new.err)
+    c.print_ran.result c.run.result c.run.ensures.ran c.run.ensures.stop c.print_ran.ensures

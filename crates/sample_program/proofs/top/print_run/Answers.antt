@@ -2,7 +2,7 @@ use Rattle.std.proofs.Common.{subst}
 use Rattle.farm_types.specs.Exits.{exit_code_of}
 use Rattle.stream_print.specs.Prints.{sinks_view}
 use Rattle.stream_print.specs.Ends.{Ends}
-use Rattle.sample_program.specs.Programs.{no_memory_text}
+use Rattle.sample_program.specs.Puts.{no_memory_text}
 use Rattle.sample_program.proofs.top.print_run.Goals as goal
 
 pub returns : goal.returns

@@ -1,7 +1,7 @@
 use Rattle.std.proofs.Common.{[], ◌∷◌, ap, ◌∙◌, subst, inl}
 use Rattle.stream_print.specs.Prints.{sinks_view}
 use Rattle.stream_print.specs.Ends.{Ends}
-use Rattle.sample_program.specs.Programs.{no_memory_text, output}
+use Rattle.sample_program.specs.Puts.{no_memory_text, output}
 use Rattle.sample_program.proofs.top.tell.Goals as goal
 
 pub returns-in-Ok : goal.returns-in-Ok

@@ -1,0 +1,62 @@
+//! What the words behind `--link` and `--run` ask for.
+
+ghost use Rattle.std.specs.Prelude.{ℕ, ◌≡◌, ◌≤◌, map, string_bytes, length, None, Some, MatchOption};
+ghost use Rattle.std.specs.List.{position_or_len};
+ghost use Rattle.sample_program.specs.Forms as forms;
+ghost use Rattle.sample_program.specs.Forms.{is_output};
+
+use arg_scan::is_reserved;
+
+/// The most files that are linked.
+const LINK_MAX: usize = 512;
+
+/// The word in front of the image's name.
+const OUTPUT: &str = "-o";
+
+/// What is linked, and the name of the image.
+#[derive(Clone, Copy, Debug)]
+pub struct LinkForm<'a> {
+    pub files: &'a [String],
+    pub image: &'a String,
+}
+
+// How many words stand before the first `-o`.
+fn len_before_output(words: &[String]) -> usize
+    ensures len { result ≡ position_or_len is_output (map string_bytes words.now) }
+    ensures within { result ≤ length words.now }
+{
+    for (index, word) in words.iter().enumerate() {
+        if word.as_str() == OUTPUT {
+            return index;
+        }
+    }
+    words.len()
+}
+
+/// What the words behind `--link` ask for: 1 to 512 files, `-o`, and a name that doesn't end in `.farm~`.
+pub fn link_form(words: &[String]) -> Option<LinkForm<'_>>
+    ensures { MatchOption result (forms.link_form (map string_bytes words.now) ≡ None)
+        (λ form. forms.link_form (map string_bytes words.now) ≡ Some (map string_bytes form.files.now, string_bytes form.image.now)) }
+{
+    let count = len_before_output(words);
+    match &words[count..] {
+        [_, image] if 0 < count && count <= LINK_MAX && !is_reserved(image.as_bytes()) => {
+            Some(LinkForm {
+                files: &words[..count],
+                image,
+            })
+        }
+        _ => None,
+    }
+}
+
+/// What the words behind `--run` ask for: an image.
+pub fn run_form(words: &[String]) -> Option<&String>
+    ensures { MatchOption result (forms.run_form (map string_bytes words.now) ≡ None)
+        (λ image. forms.run_form (map string_bytes words.now) ≡ Some (string_bytes image.now)) }
+{
+    match words {
+        [image] => Some(image),
+        _ => None,
+    }
+}
