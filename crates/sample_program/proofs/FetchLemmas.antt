@@ -1,6 +1,6 @@
 -- Files that are fetched one after another.
-use Rattle.std.proofs.Common.{◌≡◌, ℕ, zero, suc, ◌+◌, ◌-◌, ◌<◌, ◌≤◌, Bool, true, false, cond, List, [], ◌∷◌, ◌++◌, length, take, drop, get_or, Result, Ok, Err, refl, ap, sym, ◌∙◌, subst, append_assoc, ◌⊎◌, inl, inr, ⊎_elim, arith}
-use Rattle.std.specs.Prelude.{IsTrue}
+use Rattle.std.proofs.Common.{◌≡◌, ℕ, zero, suc, ◌+◌, ◌-◌, ◌<◌, ◌≤◌, Bool, true, false, cond, List, [], ◌∷◌, ◌++◌, length, take, drop, get_or, None, Result, Ok, Err, refl, ap, sym, ◌∙◌, subst, append_assoc, ◌⊎◌, inl, inr, ⊎_elim, map, string_bytes, Global, arith}
+use Rattle.std.specs.Prelude.{IsTrue, String}
 use Rattle.std.specs.List.{flat_map}
 use Rattle.std.proofs.lemmas.List.{append-nil, drop_more, drop_all, length-append}
 use Rattle.std.proofs.lemmas.List.Concat.{flat_map-cons}
@@ -156,3 +156,12 @@ missed_for_memory names i left contents old now le f = record {
   fetched = f.fetched;
   cause = f.calm.faults;
 }
+
+-- a name among those of words
+pub name_at : (words : List (String Global)) (i : ℕ) (word : String Global) (name : List ℕ) → i < length words → word ≡ get_or words i word → name ≡ string_bytes word
+    → (i < length (map (string_bytes {Z = Global}) words)) × (name ≡ get_or (map (string_bytes {Z = Global}) words) i name)
+name_at [] i word name lt is e = absurd (omega (arith, lt))
+name_at (first ∷ words) zero word name lt is e = (omega arith, e ∙ ap string_bytes is)
+name_at (first ∷ words) (suc i) word name lt is e =
+    let r = name_at words i word name (omega (arith, lt)) is e in
+    (omega (arith, r.0), r.1)

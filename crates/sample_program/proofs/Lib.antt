@@ -1,3 +1,4 @@
 pub mod RunLemmas
 pub mod FetchLemmas
 pub mod LinkLemmas
+pub mod FormLemmas

@@ -1,5 +1,10 @@
 -- What linking and running leave of a keeper.
-use Rattle.std.proofs.Common.{◌≡◌, ℕ, List, [], ◌∷◌, refl, sym, ◌∙◌, subst, arith}
+use Rattle.std.proofs.Common.{◌≡◌, ◌<◌, ◌≤◌, ℕ, Bool, true, false, List, [], ◌∷◌, length, get_or, map, string_bytes, Global, codes, refl, ap, sym, ◌∙◌, subst, inl, inr, arith}
+use Rattle.std.specs.Cmp.Lexicographic.{same_text}
+use Rattle.std.specs.Prelude.{Result, Ok, Err, IfOk, IfErr, MatchBool, String, bytes_eq}
+use Rattle.sample_program.specs.Programs.{Compiled, DoesWords}
+use Rattle.stream_print.specs.Prints.{SinksView}
+use Rattle.sample_compiler.specs.Samples.{bad_words}
 use Rattle.edge_traits.specs.Told.{Told, Grew}
 use Rattle.edge_traits.specs.Causes.{Rose, Still, IsRemoval}
 use Rattle.edge_traits.specs.Keepers.{KeeperView, NoneRose, IsIdle}
@@ -17,7 +22,7 @@ use Rattle.sample_linker.specs.declared.running.Value.{Value}
 use Rattle.sample_linker.specs.declared.running.Value.TheVariants as values
 use Rattle.sample_linker.specs.Values.{HasValue, IsValue}
 use Rattle.sample_program.specs.Fetches.{files_max, entries_with, Took, TookAll, FetchCause, Missed, MissedOne}
-use Rattle.sample_program.specs.Links.{IsLinkRan, IsValueRan, DidPut, StoppedPut, DidLink, DidRunImage, Stopped, MissedRan, MissedStop, linked_so, missed_so, run_so, unread_so, link_puts}
+use Rattle.sample_program.specs.Links.{IsLinkRan, IsValueRan, DidPut, StoppedPut, DidLink, DidRunImage, Stopped, MissedRan, MissedStop, PrintsRan, RefusedWords, linked_so, missed_so, run_so, unread_so, link_puts}
 use Rattle.sample_program.specs.Puts.{PutBy, PutStop, NoneFetched}
 use Rattle.sample_program.proofs.FetchLemmas.{no_entries}
 use Rattle.sample_program.proofs.RunLemmas.{grew_nothing, grew_then, fetched_put, only_fetched, put_none, rose_then, removal_then}
@@ -122,3 +127,52 @@ image_missed image old mid missed stop only one m = record {
   fetched = one.fetched;
   cause = missed_cause old mid missed stop one.cause m;
 }
+
+-- ---- words that aren't right
+
+pub refused_so : (sinks sinks_now : SinksView) (answer : ℕ) (result : Result Ran RunStop) → IfOk result (λ ran. ran ≡ bad_words) → IfErr result (λ stop. stop ≡ Memory)
+    → PrintsRan result sinks sinks_now answer → RefusedWords sinks sinks_now answer
+refused_so sinks sinks_now answer (Ok ran) is stop p = inl (subst (λ r. PrintsRan (Ok r) sinks sinks_now answer) is p)
+refused_so sinks sinks_now answer (Err stop) is s p = inr (subst (λ e. PrintsRan (Err e) sinks sinks_now answer) s p)
+
+-- ---- the results of calls
+
+pub put_came : (files objects : List (List ℕ)) (image : List ℕ) (answer : Linked) (old mid new : KeeperView) (result : Result Ran RunStop) → OnlyFetched old mid → TookAll files old mid objects
+    → IsLinked objects answer → IfOk result (DidPut files image answer mid new) → IfOk result (DidLink files image old new)
+put_came files objects image answer old mid new (Ok ran) only took link did = did_link files objects image answer old mid new ran only took link did
+put_came files objects image answer old mid new (Err stop) only took link did = tt
+
+pub missed_came : (files : List (List ℕ)) (image : List ℕ) (old mid : KeeperView) (stop : FetchStop) (result : Result Ran RunStop) → OnlyFetched old mid → MissedOne files old mid stop
+    → IfOk result (MissedRan stop) → IfOk result (DidLink files image old mid)
+missed_came files image old mid stop (Ok ran) only missed h = missed_link files image old mid stop ran only missed h
+missed_came files image old mid stop (Err e) only missed h = tt
+
+pub image_came : (image : List ℕ) (old mid : KeeperView) (stop : FetchStop) (result : Result Ran RunStop) → OnlyFetched old mid → Missed image files_max old mid stop
+    → IfOk result (MissedRan stop) → IfOk result (DidRunImage image old mid)
+image_came image old mid stop (Ok ran) only missed h = missed_image image old mid stop ran only missed h
+image_came image old mid stop (Err e) only missed h = tt
+
+-- ---- the first word
+
+pub does_empty : (words : List (String Global)) (old new : KeeperView) (sinks sinks_now : SinksView) (answer : ℕ) → length words < 1
+    → Compiled (map (string_bytes {Z = Global}) words) old new sinks sinks_now answer → DoesWords (map (string_bytes {Z = Global}) words) old new sinks sinks_now answer
+does_empty [] old new sinks sinks_now answer lt h = h
+does_empty (word ∷ words) old new sinks sinks_now answer lt h = absurd (omega (arith, lt))
+
+apart_by : (a b : List ℕ) (t : Bool) → bytes_eq a b ≡ t → (a ≡ b → ⊥) → t ≡ false
+apart_by a b true e h = absurd (h (same_text a b (sym e)))
+apart_by a b false e h = refl
+
+chosen : (A B C : Type 0) (a b : Bool) → a ≡ false → b ≡ false → C → MatchBool a A (MatchBool b B C)
+chosen A B C true b h k c = cc
+chosen A B C false true h k c = cc
+chosen A B C false false h k c = c
+
+pub does_other : (words : List (String Global)) (first : String Global) (old new : KeeperView) (sinks sinks_now : SinksView) (answer : ℕ) → 1 ≤ length words → first ≡ get_or words 0 first
+    → (string_bytes first ≡ codes "--link" → ⊥) → (string_bytes first ≡ codes "--run" → ⊥)
+    → Compiled (map (string_bytes {Z = Global}) words) old new sinks sinks_now answer → DoesWords (map (string_bytes {Z = Global}) words) old new sinks sinks_now answer
+does_other [] first old new sinks sinks_now answer le is link run h = absurd (omega (arith, le))
+does_other (word ∷ words) first old new sinks sinks_now answer le is link run h =
+    chosen _ _ _ (bytes_eq (string_bytes word) (codes "--link")) (bytes_eq (string_bytes word) (codes "--run"))
+    (apart_by (string_bytes word) (codes "--link") (bytes_eq (string_bytes word) (codes "--link")) refl (λ e. link (ap string_bytes is ∙ e)))
+    (apart_by (string_bytes word) (codes "--run") (bytes_eq (string_bytes word) (codes "--run")) refl (λ e. run (ap string_bytes is ∙ e))) h

@@ -1,6 +1,6 @@
 //! The public call of the program.
 
-ghost use Rattle.std.specs.Prelude.{◌≡◌, false, map, string_bytes};
+ghost use Rattle.std.specs.Prelude.{◌≡◌, false, map, string_bytes, Err};
 ghost use Rattle.edge_traits.specs.Keepers.{IsIdle};
 ghost use Rattle.stream_print.specs.Prints.{sinks_view};
 ghost use Rattle.stream_print.specs.Ends.{Ends};
@@ -71,6 +71,17 @@ fn tell<O: Sink, E: Sink>(alloc: Global, text: &[u8], out: &mut O, err: &mut E) 
     }
 }
 
+// Prints why there was no run.
+fn print_stop<O: Sink, E: Sink>(stop: RunStop, out: &mut O, err: &mut E) -> u8
+    ensures { PrintsRan (Err stop) (sinks_view O.shows E.shows out.old err.old)
+        (sinks_view O.shows E.shows out.new err.new) result }
+{
+    match stop {
+        RunStop::File => complain(FILE_FAULT_TEXT, FILE_FAULT, NO_MEMORY_TEXT, out, err),
+        RunStop::Memory => no_memory(NO_MEMORY_TEXT, out, err),
+    }
+}
+
 // Prints what was left, or why there was no run.
 fn print_ran<O: Sink, E: Sink>(ran: Result<Ran, RunStop>, out: &mut O, err: &mut E) -> u8
     ensures { PrintsRan ran (sinks_view O.shows E.shows out.old err.old)
@@ -78,8 +89,7 @@ fn print_ran<O: Sink, E: Sink>(ran: Result<Ran, RunStop>, out: &mut O, err: &mut
 {
     match ran {
         Ok(ran) => print_run(ran, out, err),
-        Err(RunStop::File) => complain(FILE_FAULT_TEXT, FILE_FAULT, NO_MEMORY_TEXT, out, err),
-        Err(RunStop::Memory) => no_memory(NO_MEMORY_TEXT, out, err),
+        Err(stop) => print_stop(stop, out, err),
     }
 }
 
