@@ -1,13 +1,12 @@
 -- Files that are fetched one after another.
-use Rattle.std.proofs.Common.{◌≡◌, ℕ, zero, suc, ◌+◌, ◌-◌, ◌<◌, ◌≤◌, Bool, true, false, cond, List, [], ◌∷◌, ◌++◌, length, take, drop, get_or, None, Result, Ok, Err, refl, ap, sym, ◌∙◌, subst, append_assoc, ◌⊎◌, inl, inr, ⊎_elim, map, string_bytes, Global, arith}
+use Rattle.std.proofs.Common.{◌≡◌, ℕ, zero, suc, ◌+◌, ◌-◌, ◌<◌, ◌≤◌, List, [], ◌∷◌, ◌++◌, length, drop, get_or, None, Result, Ok, refl, ap, sym, ◌∙◌, subst, append_assoc, inl, inr, ⊎_elim, map, string_bytes, Global, arith}
 use Rattle.std.specs.Prelude.{IsTrue, String}
 use Rattle.std.specs.List.{flat_map}
 use Rattle.std.proofs.lemmas.List.{append-nil, drop_more, drop_all, length-append}
 use Rattle.std.proofs.lemmas.List.Concat.{flat_map-cons}
 use Rattle.std.proofs.lemmas.Grind.{flat_map-append}
-use Rattle.edge_traits.specs.declared.entries.Fetch.{Fetch}
 use Rattle.edge_traits.specs.Told.{Told, Grew}
-use Rattle.edge_traits.specs.Causes.{Rose, Still}
+use Rattle.edge_traits.specs.Causes.{Rose}
 use Rattle.edge_traits.specs.Keepers.{KeeperView, NoneRose}
 use Rattle.file_map.specs.FileMaps.{Files}
 use Rattle.sample_compiler.specs.Loads.{OnlyFetched}

@@ -5,9 +5,9 @@ use Rattle.std.specs.Prelude.{Result, Ok, Err, IfOk, IfErr, MatchBool, String, b
 use Rattle.sample_program.specs.Programs.{Compiled, DoesWords}
 use Rattle.stream_print.specs.Prints.{SinksView}
 use Rattle.sample_compiler.specs.Samples.{bad_words}
-use Rattle.edge_traits.specs.Told.{Told, Grew}
-use Rattle.edge_traits.specs.Causes.{Rose, Still, IsRemoval}
-use Rattle.edge_traits.specs.Keepers.{KeeperView, NoneRose, IsIdle}
+use Rattle.edge_traits.specs.Told.{Grew}
+use Rattle.edge_traits.specs.Causes.{Still, IsRemoval}
+use Rattle.edge_traits.specs.Keepers.{KeeperView, IsIdle}
 use Rattle.farm_types.specs.declared.ran.Ran.{Ran}
 use Rattle.edge_traits.specs.declared.entries.Put.{Put}
 use Rattle.sample_compiler.specs.Loads.{OnlyFetched}

@@ -5,10 +5,9 @@ use Rattle.std.specs.Fmt.{decimal}
 use Rattle.farm_types.specs.declared.ran.Ran.{Ran}
 use Rattle.farm_types.specs.Exits.{exit_code_of}
 use Rattle.edge_traits.specs.declared.entries.Put.{Put}
-use Rattle.edge_traits.specs.declared.entries.Fetch.{Fetch}
 use Rattle.edge_traits.specs.Told.{Grew}
-use Rattle.edge_traits.specs.Causes.{Rose, Still, IsRemoval}
-use Rattle.edge_traits.specs.Keepers.{KeeperView, NoneRose}
+use Rattle.edge_traits.specs.Causes.{Still}
+use Rattle.edge_traits.specs.Keepers.{KeeperView}
 use Rattle.stream_print.specs.Prints.{SinksView}
 use Rattle.stream_print.specs.Ends.{Ends, WantOf}
 use Rattle.sample_compiler.specs.Samples.{printed, bad_words}

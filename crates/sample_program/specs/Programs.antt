@@ -1,21 +1,14 @@
 -- What `scc` does.
-use Rattle.std.specs.Prelude.{ℕ, ◌≡◌, ◌⊎◌, List, [], ◌∷◌, codes, ◌==◌, if◌then◌else◌, Option, None, Some, IsTrue, MatchBool, bytes_eq}
-use Rattle.std.specs.FinMap.{insert}
+use Rattle.std.specs.Prelude.{ℕ, ◌≡◌, ◌⊎◌, List, [], ◌∷◌, codes, Option, None, Some, IsTrue, MatchBool, bytes_eq}
 use Rattle.farm_types.specs.declared.ran.Ran.{Ran}
 use Rattle.farm_types.specs.Exits.{exit_code_of}
-use Rattle.edge_traits.specs.declared.entries.Put.{Put}
 use Rattle.edge_traits.specs.declared.entries.Fetch.{Fetch}
-use Rattle.edge_traits.specs.Told.{Grew, Became}
+use Rattle.edge_traits.specs.Told.{Grew}
 use Rattle.edge_traits.specs.Causes.{Rose, Still, IsRemoval}
 use Rattle.file_map.specs.FileMaps.{Files}
-use Rattle.edge_traits.specs.Keepers.{KeeperView, IsIdle}
-use Rattle.stream_print.specs.declared.pieces.SinkKind.TheVariants.{Out}
-use Rattle.stream_print.specs.declared.pieces.Piece.{Piece}
+use Rattle.edge_traits.specs.Keepers.{KeeperView}
 use Rattle.stream_print.specs.Prints.{SinksView}
 use Rattle.stream_print.specs.Ends.{Ends, WantOf, complaint}
-use Rattle.sample_compiler.specs.declared.task.Product.{Product}
-use Rattle.sample_compiler.specs.declared.task.Product.TheVariants.{Text, Object}
-use Rattle.sample_compiler.specs.declared.task.Task.{Task}
 use Rattle.sample_compiler.specs.Tasks.{task_of}
 use Rattle.sample_compiler.specs.Samples.{SampleOf}
 use Rattle.sample_compiler.specs.Loads.{unstaged, entries_at, names_for, FetchedFront, HasAbsent, LongNamed, WasTooLong}
@@ -26,7 +19,7 @@ use Rattle.sample_program.specs.declared.running.RunStop.TheVariants.{File, Memo
 use Rattle.sample_program.specs.Helps.{told_text}
 use Rattle.sample_program.specs.Forms.{link_form, run_form}
 use Rattle.sample_program.specs.Links.{DoesLink, DoesRun}
-use Rattle.sample_program.specs.Puts.{PutBy, PutStop, puts_of, no_memory_text, file_fault_text, printed_by, output}
+use Rattle.sample_program.specs.Puts.{PutBy, puts_of, no_memory_text, file_fault_text, printed_by, output}
 
 -- ---- a run
 

@@ -39,15 +39,17 @@ pub fn link_form(words: &[String]) -> Option<LinkForm<'_>>
         (λ form. forms.link_form (map string_bytes words.now) ≡ Some (map string_bytes form.files.now, string_bytes form.image.now)) }
 {
     let count = len_before_output(words);
-    match &words[count..] {
-        [_, image] if 0 < count && count <= LINK_MAX && !is_reserved(image.as_bytes()) => {
-            Some(LinkForm {
-                files: &words[..count],
-                image,
-            })
-        }
-        _ => None,
+    if words.len() - count != 2 {
+        return None;
     }
+    let image = &words[count + 1];
+    if count == 0 || LINK_MAX < count || is_reserved(image.as_bytes()) {
+        return None;
+    }
+    Some(LinkForm {
+        files: &words[..count],
+        image,
+    })
 }
 
 /// What the words behind `--run` ask for: an image.

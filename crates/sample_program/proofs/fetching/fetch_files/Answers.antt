@@ -1,8 +1,7 @@
-use Rattle.std.proofs.Common.{◌≡◌, ◌<◌, ◌≤◌, ◌-◌, ◌+◌, ◌++◌, ◌∷◌, [], ℕ, List, length, get_or, map, string_bytes, Global, ap, sym, subst, ◌∙◌, arith}
-use Rattle.std.proofs.lemmas.List.{length-map}
+use Rattle.std.proofs.Common.{◌<◌, ◌≤◌, ◌-◌, ◌+◌, ◌++◌, ◌∷◌, [], length, map, string_bytes, Global, sym, subst, ◌∙◌, arith}
 use Rattle.std.proofs.lemmas.Result.{err_from_is_err_and}
 use Rattle.sample_program.proofs.FetchLemmas.{FetchesTo, fetched_first, only_none, fetched_more, missed_then, missed_for_memory, name_at}
-use Rattle.sample_program.specs.Fetches.{files_max, MissedOne}
+use Rattle.sample_program.specs.Fetches.{files_max}
 use Rattle.sample_program.proofs.fetching.fetch_files.Goals as goal
 
 pub loop-name-init : goal.loop-name-init

@@ -1,4 +1,3 @@
-use Rattle.std.proofs.Common.{subst}
 use Rattle.stream_print.specs.Prints.{sinks_view}
 use Rattle.sample_program.proofs.LinkLemmas.{refused_so}
 use Rattle.sample_program.proofs.top.refuse.Goals as goal
