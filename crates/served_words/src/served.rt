@@ -5,7 +5,9 @@ ghost use Rattle.served_words.specs.Served.{is_option_served, is_operand_served,
 
 use crate::operand::Operand;
 use crate::pieces::are_pieces_known;
-use crate::spellings::{has_name_front, has_path_front, is_link_word, is_long_word, is_option_word, reaches_out};
+use crate::spellings::{
+    has_name_front, has_path_front, is_link_word, is_long_word, is_option_word, reaches_out,
+};
 use crate::words::{is_path, is_plain};
 use farm_types::Word;
 
@@ -46,7 +48,8 @@ fn is_word_served(operand: Option<Operand>, word: &Word) -> bool
     ensures { result ≡ is_word_served operand word.now }
 {
     match (operand, word) {
-        (None, Word::Text(bytes)) => operand_of(bytes.as_slice()).is_some() || is_option_served(bytes.as_slice()),
+        (None, Word::Text(bytes)) => operand_of(bytes.as_slice()).is_some()
+            || is_option_served(bytes.as_slice()),
         (None, Word::Input(_) | Word::Output) => true,
         (Some(operand), Word::Text(bytes)) => is_operand_served(operand, bytes.as_slice()),
         (Some(_), Word::Input(_) | Word::Output) => false,
