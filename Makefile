@@ -45,7 +45,7 @@ test-all: test
 build:
 	tests/prove $(PROGRAMS)
 
-# The programs, their manual pages, the completion for bash, and the unit of farmd for systemd, below PREFIX; what the unit is started with,
+# The programs, farmcc, their manual pages, the completion for bash, and the unit of farmd for systemd, below PREFIX; what the unit is started with,
 # in /etc/default/farmd, unless it is there already. DESTDIR stands before these where a package is made. What isn't built yet is proved
 # and built.
 install:
@@ -56,13 +56,14 @@ install:
 	  install -m 644 man/$$program.1 $(man)/$$program.1 && \
 	  install -m 644 contrib/completions/farm $(completions)/$$program || exit 1; \
 	done
+	install -m 755 contrib/farmcc $(bin)/farmcc
 	sed 's|/usr/local/bin/farmd|$(PREFIX)/bin/farmd|' contrib/farmd.service >$(units)/farmd.service
 	chmod 644 $(units)/farmd.service
 	[ -e $(defaults)/farmd ] || { install -d $(defaults) && install -m 644 contrib/farmd.default $(defaults)/farmd; }
 
 uninstall:
 	for program in $(PROGRAMS); do rm -f $(bin)/$$program $(man)/$$program.1 $(completions)/$$program; done
-	rm -f $(units)/farmd.service
+	rm -f $(units)/farmd.service $(bin)/farmcc
 	if cmp -s contrib/farmd.default $(defaults)/farmd; then rm -f $(defaults)/farmd; fi
 
 # What farm and distcc add to gcc -E and gcc -c, per job, by itself and within a job list; whole builds at 2, 4 and 8 jobs at once; the
