@@ -17,9 +17,8 @@ demo:
 
 # The gate: each crate is proved, each edit that must fail is refused, each test and each stored run passes.
 # Then farm with a real distccd, in an odd environment, objects on a real disk, faults of a real machine, runs with an allocation
-# refused, real clients of farmd, mutated requests for it, whole projects, sources that become a program, and the manual pages and the
-# installation; each is
-# skipped where what it needs isn't installed.
+# refused, real clients of farmd, mutated requests for it, the options that it lets through and those that it doesn't, its cache, whole
+# projects, sources that become a program, the manual pages and the installation; each is skipped where what it needs isn't installed.
 test:
 	rt ci
 	tests/interop
