@@ -92,7 +92,7 @@ no_owed (part.Word (role.Source ending)) word last source output h l = refl
 no_owed (part.Word role.Other) word last source output h l = refl
 
 -- where no label gives a reason, no operand is missing
-closed : (owner : Option Effect) (words : List (List ℕ)) (source output : Bool) → IsFree source output (labels_from owner words) → (is_nil (labels_from owner words) ≡ true → owner ≡ None) → final_owner owner words ≡ None
+pub closed : (owner : Option Effect) (words : List (List ℕ)) (source output : Bool) → IsFree source output (labels_from owner words) → (is_nil (labels_from owner words) ≡ true → owner ≡ None) → final_owner owner words ≡ None
 closed owner [] source output free h = h refl
 closed owner (word ∷ more) source output free h =
     closed (owed (tail_part owner word)) more _ _ free.1 (λ last. no_owed (tail_part owner word) word _ source output free.0 last)

@@ -48,7 +48,7 @@ calm_is (word ∷ more) h =
     let parts = calm_by (first_forced words (length words)) (slice_get (end_reasons words) 0) (length words) (plan_of words) h in
     record { some = λ e. cc; places = parts.0; whole = parts.1 }
 
-verdict_is : (words : List (List ℕ)) → IsCalm words → verdict_of words ≡ verdict.Remote (plan_of words)
+pub verdict_is : (words : List (List ℕ)) → IsCalm words → verdict_of words ≡ verdict.Remote (plan_of words)
 verdict_is [] calm = absurd (calm.some refl)
 verdict_is (word ∷ more) calm =
     let words = word ∷ more in
@@ -97,10 +97,10 @@ action_dropped (part.Word role.Response) word h = refl
 action_dropped (part.Word (role.Source ending)) word h = refl
 action_dropped (part.Word role.Other) word h = refl
 
-abbrev compile_part : Part → List ℕ → Bool
+abbrev pub compile_part : Part → List ℕ → Bool
 compile_part p word = asks_compile (action_of p word)
 
-abbrev assemble_part : Part → List ℕ → Bool
+abbrev pub assemble_part : Part → List ℕ → Bool
 assemble_part p word = asks_assemble (action_of p word)
 
 same_any : (test : Part → List ℕ → Bool) (words : List (List ℕ)) → FailsDropped test → any_label test (output_tail (output_of words)) ≡ false → IsCalm words → any_below (at_place test (stripped words)) (length (stripped words)) ≡ any_below (at_place test words) (length words)
@@ -122,7 +122,7 @@ same_assemble words calm = same_any assemble_part words (λ p word h. ap asks_as
 same_source : (words : List (List ℕ)) → IsCalm words → any_below (is_source (stripped words)) (length (stripped words)) ≡ any_below (is_source words) (length words)
 same_source words calm = same_any is_source_part words source_is_sent refl calm
 
-abbrev end_by : Bool → Bool → Bool → Option Why
+abbrev pub end_by : Bool → Bool → Bool → Option Why
 end_by compile assemble source = slice_get (when (not (compile || assemble)) why.NoAction ++ when (compile && assemble) why.BothActions ++ when (not source) why.NoInput) 0
 
 some_stripped : (words : List (List ℕ)) → stripped words ≡ [] → ⊥

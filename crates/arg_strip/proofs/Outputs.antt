@@ -95,7 +95,7 @@ role_by false false false o None word h = cc
 role_by false false false o (Some e) word h = cc
 
 -- an output option has an operand
-output_present : (word : List ℕ) → role_of word ≡ role.Flag effect.Output operand.Absent → ⊥
+pub output_present : (word : List ℕ) → role_of word ≡ role.Flag effect.Output operand.Absent → ⊥
 unfolding role_of
 output_present word h = role_by _ _ _ (found gcc_rows word) (ending_of (last_name word)) word h
 
