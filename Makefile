@@ -9,18 +9,28 @@ completions = $(DESTDIR)$(PREFIX)/share/bash-completion/completions
 units = $(DESTDIR)$(PREFIX)/lib/systemd/system
 defaults = $(DESTDIR)/etc/default
 
-.PHONY: bench bench-jobs bench-wire build demo install test test-all uninstall
+.PHONY: bench bench-jobs bench-wire build checks demo gate install test test-all uninstall
 
 # The farm whole: farm with two farmds on loopback, of which one is killed in the middle of a build.
 demo:
 	tests/demo
 
-# The gate: each crate is proved, each edit that must fail is refused, each test and each stored run passes.
-# Then farm with a real distccd, in an odd environment, objects on a real disk, faults of a real machine, runs with an allocation
-# refused, real clients of farmd, mutated requests for it, the options that it lets through and those that it doesn't, its cache, whole
-# projects, sources that become a program, the manual pages and the installation; each is skipped where what it needs isn't installed.
-test:
+# The checks need what the gate has built, also under `make -j`.
+.NOTPARALLEL:
+
+# Both: what the proofs say, and what the programs do on this machine.
+test: gate checks
+
+# Each crate is proved, each edit that must fail is refused, each test and each stored run passes.
+gate:
 	rt ci
+
+# The map of the crates and the list of what has to be believed. Then farm with a real distccd, in an odd environment, objects on a real disk, faults of a
+# real machine, runs with an allocation refused, real clients of farmd, mutated requests for it, the options that it lets through and those that it doesn't,
+# its cache, whole projects, sources that become a program, the manual pages and the installation; each is skipped where what it needs isn't installed.
+checks:
+	tests/layers
+	tests/believed
 	tests/interop
 	tests/environment
 	tests/delivery
