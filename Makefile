@@ -3,13 +3,14 @@
 
 PREFIX ?= /usr/local
 PROGRAMS = farm farmd scc farm_jobs
+ARCHIVE = kilavomeru-0.1-x86_64-linux
 bin = $(DESTDIR)$(PREFIX)/bin
 man = $(DESTDIR)$(PREFIX)/share/man/man1
 completions = $(DESTDIR)$(PREFIX)/share/bash-completion/completions
 units = $(DESTDIR)$(PREFIX)/lib/systemd/system
 defaults = $(DESTDIR)/etc/default
 
-.PHONY: bench bench-jobs bench-wire build checks demo gate install test test-all uninstall
+.PHONY: bench bench-jobs bench-wire build checks demo dist gate install test test-all uninstall
 
 # The farm whole: farm with two farmds on loopback, of which one is killed in the middle of a build.
 demo:
@@ -74,6 +75,18 @@ uninstall:
 	for program in $(PROGRAMS); do rm -f $(bin)/$$program $(man)/$$program.1 $(completions)/$$program; done
 	rm -f $(units)/farmd.service $(bin)/farmcc
 	if cmp -s contrib/farmd.default $(defaults)/farmd; then rm -f $(defaults)/farmd; fi
+
+# The archive dist/$(ARCHIVE).tar.gz: what `make install` puts in place, the licence and the SHA-256 sum of each file. It says how it was made; the same
+# commit and toolchain give the same bytes.
+dist:
+	rm -rf dist
+	$(MAKE) --no-print-directory --silent install DESTDIR=$(CURDIR)/dist/$(ARCHIVE) PREFIX=/usr/local
+	install -m 644 LICENSE dist/$(ARCHIVE)/LICENSE
+	cd dist/$(ARCHIVE) && find . -type f | LC_ALL=C sort | xargs sha256sum >../SHA256SUMS && mv ../SHA256SUMS .
+	tar -C dist --sort=name --owner=0 --group=0 --numeric-owner --mtime=@$$(git log -1 --format=%ct) -c $(ARCHIVE) | gzip -n >dist/$(ARCHIVE).tar.gz
+	@echo "dist/$(ARCHIVE).tar.gz: $$(sha256sum <dist/$(ARCHIVE).tar.gz | cut -d' ' -f1)"
+	@echo "Made of commit $$(git describe --always --dirty) by $$(rt version): each program is built of crates whose proofs were checked on this machine."
+	@echo "Below / it is put in place by: tar -C / --strip-components=1 -xf $(ARCHIVE).tar.gz"
 
 # What farm and distcc add to gcc -E and gcc -c, per job, by itself and within a job list; whole builds at 2, 4 and 8 jobs at once; the
 # transfer of an object of 32 MiB; the resident size of farm and farmd; and how long a worker takes between two children.
