@@ -86,7 +86,7 @@ dist:
 	tar -C dist --sort=name --owner=0 --group=0 --numeric-owner --mtime=@$$(git log -1 --format=%ct) -c $(ARCHIVE) | gzip -n >dist/$(ARCHIVE).tar.gz
 	@echo "dist/$(ARCHIVE).tar.gz: $$(sha256sum <dist/$(ARCHIVE).tar.gz | cut -d' ' -f1)"
 	@echo "Made of commit $$(git describe --always --dirty) by $$(rt version): each program is built of crates whose proofs were checked on this machine."
-	@echo "Below / it is put in place by: tar -C / --strip-components=1 -xf $(ARCHIVE).tar.gz"
+	@echo "It is put in place by: tar -C / --strip-components=1 -xf $(ARCHIVE).tar.gz $(ARCHIVE)/usr, and etc/default/farmd by hand."
 
 # What farm and distcc add to gcc -E and gcc -c, per job, by itself and within a job list; whole builds at 2, 4 and 8 jobs at once; the
 # transfer of an object of 32 MiB; the resident size of farm and farmd; and how long a worker takes between two children.
