@@ -20,14 +20,26 @@ abbrev pub out_messages : End → List ℕ
 out_messages (Done status note err out by) = out
 out_messages (Failed why) = []
 
--- the line of a job, by its number counted from 1
-abbrev pub line_text : List Host → Report → List ℕ
-line_text hosts report = decimal (report.number + 1) ++ codes " " ++ end_text hosts report.end ++ codes "\n"
+-- the line of a job at this place, which is counted from 1
+abbrev pub line_text_at : List Host → ℕ → End → List ℕ
+line_text_at hosts job end = decimal (job + 1) ++ codes " " ++ end_text hosts end ++ codes "\n"
 
--- a job's messages on the sink of errors, and then its messages and its line on that of the output
+-- the line of a job, by its report's number
+abbrev pub line_text : List Host → Report → List ℕ
+line_text hosts report = line_text_at hosts report.number report.end
+
+-- the line of a job that is skipped for another
+abbrev pub skipped_text : ℕ → ℕ → List ℕ
+skipped_text job by = decimal (job + 1) ++ codes " skipped by " ++ decimal (by + 1) ++ codes "\n"
+
+-- of a job at this place its messages on the sink of errors, and then its messages and its line on that of the output
+abbrev pub job_pieces_at : List Host → ℕ → End → List Piece
+job_pieces_at hosts job end =
+    record { sink = ErrSink; bytes = err_messages end } ∷ record { sink = Out; bytes = out_messages end ++ line_text_at hosts job end } ∷ []
+
+-- the same by its report's number
 abbrev pub job_pieces : List Host → Report → List Piece
-job_pieces hosts report =
-    record { sink = ErrSink; bytes = err_messages report.end } ∷ record { sink = Out; bytes = out_messages report.end ++ line_text hosts report } ∷ []
+job_pieces hosts report = job_pieces_at hosts report.number report.end
 
 -- why a command that was run alone failed; of one that was done there is no line
 abbrev pub failure_text : List Host → End → List ℕ
@@ -44,8 +56,12 @@ abbrev pub is_done_well : End → Bool
 is_done_well (Done status note err out by) = status == 0
 is_done_well (Failed why) = false
 
+-- the line of the total
+abbrev pub total_text_of : ℕ → ℕ → List ℕ
+total_text_of jobs good = codes "total " ++ decimal jobs ++ codes " ok " ++ decimal good ++ codes "\n"
+
 abbrev pub total_text : List Report → List ℕ
-total_text reports = codes "total " ++ decimal (length reports) ++ codes " ok " ++ decimal (count_by (λ report. is_done_well report.end) reports) ++ codes "\n"
+total_text reports = total_text_of (length reports) (count_by (λ report. is_done_well report.end) reports)
 
 abbrev pub total_piece : List Report → Piece
 total_piece reports = record { sink = Out; bytes = total_text reports }

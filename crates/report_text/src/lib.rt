@@ -5,5 +5,5 @@ mod ends;
 mod numbers;
 mod pieces;
 
-pub use numbers::status;
-pub use pieces::{Printed, command_lines, lines, total};
+pub use numbers::{number_of, status};
+pub use pieces::{Printed, command_lines, is_done, lines, lines_at, skipped, total, total_of};

@@ -1,11 +1,12 @@
 //! The exit status of a build.
 
-ghost use Rattle.std.specs.Prelude.{◌≡◌};
+ghost use Rattle.std.specs.Prelude.{◌≡◌, true};
 ghost use Rattle.report_text.specs.Numbers as specs;
+ghost use Rattle.report_text.specs.Pieces.{is_done_well};
 
 use crate::pieces::is_done;
 use edge_traits::Cause;
-use farm_machine::{End, ReportList, Why5};
+use farm_machine::{End, Report, ReportList, Why5};
 use farm_types::exit_code;
 
 fn cause_number(cause: Cause) -> u8
@@ -37,6 +38,14 @@ fn end_number(end: &End) -> u8
         End::Done { status, .. } => exit_code(*status),
         End::Failed(why) => why_number(*why),
     }
+}
+
+/// The number of one report: 0 where the job was done with status 0. It takes no memory.
+pub fn number_of(report: &Report) -> u8
+    ensures number { result ≡ specs.end_number report.now.end }
+    ensures good { is_done_well report.now.end ≡ true → result ≡ 0 }
+{
+    end_number(&report.end)
 }
 
 /// The exit status of a build with these reports: 0 where every job was done with status 0, else the number of the first that

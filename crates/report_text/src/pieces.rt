@@ -1,7 +1,7 @@
 //! The printed text of a build's reports.
 
 ghost use Rattle.std.specs.Prelude.{◌≡◌, ◌++◌, IfOk, OnOk};
-ghost use Rattle.report_text.specs.Pieces.{err_messages, failure_text, out_messages, line_text, is_done_well, total_text};
+ghost use Rattle.report_text.specs.Pieces.{err_messages, failure_text, out_messages, line_text, line_text_at, skipped_text, is_done_well, total_text, total_text_of};
 
 use crate::ends::{add_end, add_number};
 use farm_machine::{End, Report, ReportList};
@@ -39,19 +39,45 @@ fn out_of(alloc: Global, end: &End) -> Result<Bytes, AllocError>
     }
 }
 
+/// The printed text of one job, whose line is that of this place: its messages, and its line.
+pub fn lines_at(
+    alloc: Global,
+    hosts: &Hosts,
+    report: &Report,
+    job: u32,
+) -> Result<Printed, AllocError>
+    ensures err { IfOk result (λ printed. printed.err ≡ err_messages report.now.end) }
+    ensures out { IfOk result (λ printed.
+        printed.out ≡ out_messages report.now.end ++ line_text_at hosts.now.list job report.now.end) }
+{
+    let err = err_of(alloc, &report.end)?;
+    let mut out = out_of(alloc, &report.end)?;
+    add_number(alloc, &mut out, u64::from(job) + 1)?;
+    out.try_extend(b" ")?;
+    add_end(alloc, &mut out, hosts, &report.end)?;
+    out.try_extend(b"\n")?;
+    Ok(Printed { out, err })
+}
+
 /// The printed text of one job: its messages, and its line.
 pub fn lines(alloc: Global, hosts: &Hosts, report: &Report) -> Result<Printed, AllocError>
     ensures err { IfOk result (λ printed. printed.err ≡ err_messages report.now.end) }
     ensures out { IfOk result (λ printed.
         printed.out ≡ out_messages report.now.end ++ line_text hosts.now.list report.now) }
 {
-    let err = err_of(alloc, &report.end)?;
-    let mut out = out_of(alloc, &report.end)?;
-    add_number(alloc, &mut out, u64::from(report.number) + 1)?;
-    out.try_extend(b" ")?;
-    add_end(alloc, &mut out, hosts, &report.end)?;
-    out.try_extend(b"\n")?;
-    Ok(Printed { out, err })
+    lines_at(alloc, hosts, report, report.number)
+}
+
+/// The line of a job that is not run, since another that it needs is not good.
+pub fn skipped(alloc: Global, job: u32, by: u32) -> Result<Bytes, AllocError>
+    ensures { IfOk result (λ text. text ≡ skipped_text job by) }
+{
+    let mut text = Bytes::new(alloc);
+    add_number(alloc, &mut text, u64::from(job) + 1)?;
+    text.try_extend(b" skipped by ")?;
+    add_number(alloc, &mut text, u64::from(by) + 1)?;
+    text.try_extend(b"\n")?;
+    Ok(text)
 }
 
 // Adds the line of a command that was run alone and failed.
@@ -90,16 +116,30 @@ pub fn is_done(end: &End) -> bool
     }
 }
 
+// The line of the total.
+fn total_line(alloc: Global, jobs: u64, good: u64) -> Result<Bytes, AllocError>
+    ensures { IfOk result (λ text. text ≡ total_text_of jobs good) }
+{
+    let mut text = Bytes::from_slice(alloc, b"total ")?;
+    add_number(alloc, &mut text, jobs)?;
+    text.try_extend(b" ok ")?;
+    add_number(alloc, &mut text, good)?;
+    text.try_extend(b"\n")?;
+    Ok(text)
+}
+
+/// The line of the total of so many jobs, of which so many were done with status 0.
+pub fn total_of(alloc: Global, jobs: u32, good: u32) -> Result<Bytes, AllocError>
+    ensures { IfOk result (λ text. text ≡ total_text_of jobs good) }
+{
+    total_line(alloc, u64::from(jobs), u64::from(good))
+}
+
 /// The line of the total: how many jobs there were, and how many of them were done with status 0.
 pub fn total(alloc: Global, reports: &ReportList) -> Result<Bytes, AllocError>
     ensures { IfOk result (λ text. text ≡ total_text reports.now) }
 {
     let reports = reports.as_slice();
     let done = reports.iter().filter(|report| is_done(&report.end)).count();
-    let mut text = Bytes::from_slice(alloc, b"total ")?;
-    add_number(alloc, &mut text, reports.len() as u64)?;
-    text.try_extend(b" ok ")?;
-    add_number(alloc, &mut text, done as u64)?;
-    text.try_extend(b"\n")?;
-    Ok(text)
+    total_line(alloc, reports.len() as u64, done as u64)
 }
