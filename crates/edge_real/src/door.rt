@@ -19,6 +19,7 @@ use std::net::{Ipv4Addr, Net, OpenListener, OpenStream, SocketAddr, SocketAddrV4
 use std::os::fd::AsRawFd;
 use std::rt::Clock;
 use std::sync::{Arc, Mutex, Wait};
+use std::time::Duration;
 
 /// Takes connections in over TCP. Without a listener, each `accept` counts as a fault.
 ///
@@ -43,7 +44,13 @@ type SharedRoom<S> = Arc<Mutex<WaitingRoom<S>>, Global>;
 
 impl<R: Eprint + Net> TcpDoor<R, R::Listener, R::Stream> {
     /// A door on this IPv4 address and port. Port 0 is one that the system picks. Peers that the rules deny are handed out at once.
-    pub fn open(rt: R, alloc: Global, address: u32, port: u16, access: AccessList) -> TcpDoor<R, R::Listener, R::Stream>
+    pub fn open(
+        rt: R,
+        alloc: Global,
+        address: u32,
+        port: u16,
+        access: AccessList,
+    ) -> TcpDoor<R, R::Listener, R::Stream>
         ensures { door_view result ≡ counted_door 0 }
     {
         let (listener, room, refusal) = match listen(&rt, alloc, place_of(address, port), access) {
@@ -158,7 +165,7 @@ where
         ensures listener { is_listening self.new ≡ is_listening self.old }
         ensures faults { (door_view self.new).faults ≡ (door_view self.old).faults }
     {
-        link.end();
+        link.end(&self.rt);
     }
 }
 
@@ -194,11 +201,10 @@ fn next_ready<R: Eprint + Clock, L: OpenListener<Stream = S>, S: OpenStream + As
     listener: &L,
     room: &mut WaitingRoom<S>,
 ) -> io::Result<Pending<S>> {
-    room.set_called(true);
+    room.hear(Some(Duration::ZERO))?;
     for _ in 0..u64::MAX {
         room.look(alloc);
-        if room.takes_more() {
-            take_one_in(rt, listener, room)?;
+        if room.takes_more() && take_one_in(rt, listener, room)? {
             continue;
         }
         if let Some(pending) = room.take_ready() {
@@ -210,24 +216,23 @@ fn next_ready<R: Eprint + Clock, L: OpenListener<Stream = S>, S: OpenStream + As
     Err(Error::from(ErrorKind::Other))
 }
 
-/// Takes in the next connection of the listener, where it has one. That the system refuses it is told only where none is ready.
+/// Takes in the next connection of the listener, and answers whether it had one. Where one is ready, that the system refuses the next is no error.
 fn take_one_in<R: Eprint + Clock, L: OpenListener<Stream = S>, S: OpenStream + AsRawFd + Drop>(
     rt: &R,
     listener: &L,
     room: &mut WaitingRoom<S>,
-) -> io::Result<()> {
+) -> io::Result<bool> {
     match accept_one(rt, listener, room) {
         Ok((stream, peer)) => {
             room.take_in(rt, stream, peer, ipv4_of(peer));
-            Ok(())
+            Ok(true)
         }
-        Err(error) => {
-            room.set_called(false);
-            if error.kind() == ErrorKind::WouldBlock || room.has_ready() {
-                return Ok(());
-            }
-            Err(error)
+        Err(error) if error.kind() == ErrorKind::WouldBlock => {
+            room.forget_call();
+            Ok(false)
         }
+        Err(_) if room.has_ready() => Ok(false),
+        Err(error) => Err(error),
     }
 }
 

@@ -69,20 +69,20 @@ impl<R: Clock, S: OpenStream> DoorLink<R, S> {
 /// How long a request may take in all from when a door got its connection: 10 minutes.
 const REQUEST_SECS: u64 = 600;
 
-impl<R: Eprint + Clock + Drop, S: Read + OpenStream + Drop> DoorLink<R, S> {
+impl<R: Drop, S: Read + OpenStream + Drop> DoorLink<R, S> {
     /// Ends the connection, and tells what passed. A peer that was sent nothing is left at once, with nothing more read.
     ///
     /// A socket that is closed over unread bytes is reset, and what its peer has not read by then is lost. So where bytes were sent the sending
     /// side is shut, and what the peer still sends is read until its end, for at most `LINGER_MILLIS` in all.
-    pub(crate) fn end(self) {
+    pub(crate) fn end<Q: Eprint + Clock>(self, rt: &Q) {
         let visit = Visit {
             peer: &self.peer,
             exchange: &self.exchange,
             begun: &self.begun,
         };
-        tell_visit(&self.rt, &visit);
+        tell_visit(rt, &visit);
         if self.exchange.was_sent {
-            linger(&self.rt, self.link.into_stream());
+            linger(rt, self.link.into_stream());
         }
     }
 }

@@ -1,5 +1,5 @@
 // A connection that was accepted and that no door reads yet. Nothing is read from it: its bytes are only looked at.
-ghost use Rattle.std.specs.Prelude.{◌≡◌, ◌==◌, ◌||◌, false};
+ghost use Rattle.std.specs.Prelude.{◌≡◌, false};
 ghost use Rattle.wire_tokens.specs.Request.{IsShortRequest};
 
 use crate::exchange::Leaving;
@@ -115,7 +115,7 @@ impl<S> Pending<S> {
 /// Whether a door could answer these first bytes of a connection without more: they spell a request, or a fault stands in them. So it is said
 /// where memory is wanting to tell.
 fn is_settled(alloc: Global, text: &[u8]) -> bool
-    ensures { result ≡ false → IsShortRequest text.now }
+    ensures waits { result ≡ false → IsShortRequest text.now }
 {
     let mut reader = RequestReader::new(alloc);
     !matches!(reader.feed(text), Step::More)

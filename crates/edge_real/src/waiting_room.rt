@@ -1,5 +1,7 @@
 // The connections that were accepted and that no door reads yet, of all doors on one listener.
-ghost use Rattle.std.specs.Prelude.{◌≡◌, ◌↔◌, ◌×◌, IsTrue};
+ghost use Rattle.std.specs.Prelude.{◌≡◌, ℕ, Option, true, false};
+ghost use Rattle.access_list.specs.Rules.{AreRight, decision};
+ghost use Rattle.access_list.specs.declared.decision.Decision.TheVariants as decided;
 
 use crate::door_link::moment;
 use crate::exchange::{Exchange, Leaving};
@@ -70,9 +72,9 @@ impl<S: Drop> WaitingRoom<S> {
         self.is_called && !(self.free_place().is_none() && self.has_ready())
     }
 
-    /// Sets whether the listener may have a connection.
-    pub fn set_called(&mut self, is_called: bool) {
-        self.is_called = is_called;
+    /// The listener has no connection, until the system tells of one.
+    pub fn forget_call(&mut self) {
+        self.is_called = false;
     }
 
     /// Whether one is ready.
@@ -115,14 +117,23 @@ impl<S: Drop> WaitingRoom<S> {
     }
 
     /// Whether the rules deny this peer.
-    fn denies(&self, peer: u32) -> bool {
+    fn denies(&self, peer: u32) -> bool
+        ensures admitted { (rule : Option ℕ) → decision self.now.access.rules peer ≡ decided.Admitted rule → result ≡ false }
+        ensures denied { (rule : Option ℕ) → AreRight self.now.access.rules → decision self.now.access.rules peer ≡ decided.Denied rule → result ≡ true }
+    {
         self.access.is_right() && matches!(self.access.decide(peer), Decision::Denied { .. })
     }
 }
 
 impl<S: OpenStream + AsRawFd + Drop> WaitingRoom<S> {
     /// Takes in a connection of the peer with this IPv4 address. Where there is no place, the one that has waited longest is left.
-    pub fn take_in<R: Eprint + Clock>(&mut self, rt: &R, stream: S, peer: SocketAddr, address: u32) {
+    pub fn take_in<R: Eprint + Clock>(
+        &mut self,
+        rt: &R,
+        stream: S,
+        peer: SocketAddr,
+        address: u32,
+    ) {
         if self.free_place().is_none() {
             self.leave_oldest(rt);
         }
@@ -206,6 +217,11 @@ impl<S: Drop> WaitingRoom<S> {
             Some(at) => Some(self.time_left(at, moment(rt))),
             None => None,
         };
+        self.hear(time)
+    }
+
+    /// Waits for so long at most until something comes.
+    pub fn hear(&mut self, time: Option<Duration>) -> io::Result<()> {
         self.poll.poll(&mut self.events, time)?;
         for event in &self.events {
             let Token(at) = event.token();
