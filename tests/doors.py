@@ -1,8 +1,11 @@
-"""Clients of a farmd that holds doors for nobody: one in ten drips, one in ten is silent, one in ten is denied, and the others are answered.
+"""Clients of a farmd that holds doors for nobody: of ten one drips from its first byte, one drips behind some bytes, one is silent, one is denied,
+one does the like after its reply, and the others are answered.
 
-PORT, CONNECTIONS and how many at once are the arguments. The farmd denies 127.0.0.2 and lets in all else.
+PORT, CONNECTIONS and how many at once are the arguments, and the longest that an answer may take, in seconds: 2 where it isn't given. The farmd
+denies 127.0.0.2 and lets in all else.
 """
 import random
+import resource
 import socket
 import sys
 import threading
@@ -41,12 +44,12 @@ def read_all(link):
         text += piece
 
 
-def drip(link):
-    """Sends a byte now and then for as long as it can, and never reads."""
-    for _ in range(100):
+def drip(link, text=b"x" * 100):
+    """Sends a byte of the text now and then for as long as it can, and never reads."""
+    for at in range(len(text)):
         if stop.wait(0.3):
             return
-        link.send(b"x")
+        link.send(text[at:at + 1])
 
 
 def ask():
@@ -68,6 +71,18 @@ def after_reply(then):
         then(link)
 
 
+def before_request(then):
+    """Sends no whole request."""
+    with dial("127.0.0.1") as link:
+        then(link)
+
+
+def drip_behind(link):
+    """Sends a part of a request at once, and drips the next part."""
+    link.sendall(REQUEST[:40])
+    drip(link, REQUEST[40:-1])
+
+
 def denied(then):
     with dial("127.0.0.2") as link:
         then(link)
@@ -78,15 +93,22 @@ def wait(link):
 
 
 KINDS = {
-    "drips after its reply": lambda: after_reply(drip),
-    "is silent after its reply": lambda: after_reply(wait),
+    "drips from its first byte": lambda: before_request(lambda link: drip(link, REQUEST[:-1])),
+    "drips behind some bytes": lambda: before_request(drip_behind),
+    "is silent": lambda: before_request(wait),
     "is denied and drips": lambda: denied(drip),
     "is denied and silent": lambda: denied(wait),
+    "drips after its reply": lambda: after_reply(drip),
+    "is silent after its reply": lambda: after_reply(wait),
 }
+CHOICES = [
+    ["drips from its first byte"], ["drips behind some bytes"], ["is silent"],
+    ["is denied and drips", "is denied and silent"], ["drips after its reply", "is silent after its reply"],
+]
 
 
 def meet(number):
-    kind = {0: "drips after its reply", 1: "is silent after its reply", 2: random.choice(["is denied and drips", "is denied and silent"])}.get(number % 10)
+    kind = random.choice(CHOICES[number % 10]) if number % 10 < len(CHOICES) else None
     with lock:
         kinds[kind or "is answered"] = kinds.get(kind or "is answered", 0) + 1
     try:
@@ -106,13 +128,16 @@ def work():
             number = next(numbers, None)
         if number is None:
             return
-        if number % 10 < 3:
+        if number % 10 < len(CHOICES):
             # it stays for its time, and others come meanwhile
             threading.Thread(target=meet, args=(number,), daemon=True).start()
         else:
             meet(number)
 
 
+# each connection has a descriptor
+limit = resource.getrlimit(resource.RLIMIT_NOFILE)[1]
+resource.setrlimit(resource.RLIMIT_NOFILE, (limit, limit))
 begun = time.monotonic()
 threads = [threading.Thread(target=work) for _ in range(AT_ONCE)]
 for thread in threads:

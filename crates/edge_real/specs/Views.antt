@@ -8,6 +8,7 @@ use Rattle.std.specs.declared.net.socket_addr.SocketAddr.{SocketAddr}
 use Rattle.std.specs.declared.net.socket_addr.SocketAddr.TheVariants.{V4, V6}
 use Rattle.edge_traits.specs.Told.{untold}
 use Rattle.edge_traits.specs.Links.{LinkView}
+use Rattle.edge_traits.specs.Calls.{one_more}
 use Rattle.edge_traits.specs.Dialers.{DialerView}
 use Rattle.edge_traits.specs.Doors.{DoorView}
 use Rattle.edge_traits.specs.Stations.{StationView}
@@ -39,8 +40,19 @@ link_view link = record {
   faults = link.faults;
 }
 
+-- the same with one fault more
+abbrev pub with_fault : LinkView → LinkView
+with_fault view = record {
+  origin = view.origin;
+  sent = view.sent;
+  given = view.given;
+  ended = view.ended;
+  stopped = view.stopped;
+  faults = one_more view.faults;
+}
+
 -- what a link of a door shows is what its connection shows
-abbrev pub door_link_view : {S : Type 0} → DoorLink S → LinkView
+abbrev pub door_link_view : {R S : Type 0} → DoorLink R S → LinkView
 door_link_view link = link_view link.link
 
 -- with so many faults
@@ -53,11 +65,11 @@ dialer_view dialer = counted_dialer dialer.faults
 abbrev pub counted_door : ℕ → DoorView
 counted_door faults = record { visits = untold []; peers = untold []; faults = faults }
 
-abbrev pub door_view : {R L : Type 0} → TcpDoor R L → DoorView
+abbrev pub door_view : {R L S : Type 0} → TcpDoor R L S → DoorView
 door_view door = counted_door door.faults
 
 -- the door has a listener
-abbrev pub is_listening : {R L : Type 0} → TcpDoor R L → Bool
+abbrev pub is_listening : {R L S : Type 0} → TcpDoor R L S → Bool
 is_listening door = is_some door.listener
 
 -- the peer's IPv4 address as a number, and 0 for another kind of address
@@ -116,7 +128,7 @@ sink_view sink = counted_sink sink.stopped sink.faults
 abbrev pub stream_of : {S : Type 0} → TcpLink S → S
 stream_of link = link.stream
 
-abbrev pub door_stream_of : {S : Type 0} → DoorLink S → S
+abbrev pub door_stream_of : {R S : Type 0} → DoorLink R S → S
 door_stream_of link = stream_of link.link
 
 -- what a source reads

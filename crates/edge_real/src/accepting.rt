@@ -4,6 +4,7 @@ ghost use Rattle.std.specs.IoError.{error_kind};
 ghost use Rattle.edge_real.specs.Accepting.{trouble_by};
 
 use crate::notices::tell_accept;
+use crate::waiting_room::WaitingRoom;
 use std::io::{self, Eprint, Error, ErrorKind};
 use std::net::{OpenListener, SocketAddr};
 use std::rt::Clock;
@@ -22,10 +23,12 @@ enum Trouble {
 }
 
 /// One connection, with the peer's address. An accept that a signal interrupted, or whose connection had failed by then, is made again. So is
-/// one that wants descriptors or memory of the system, after a pause, at most `WANTS_TRIED` times. What came in between is told once.
+/// one that wants descriptors or memory of the system, at most `WANTS_TRIED` times: where one waits in the room whose request isn't whole, after
+/// that one is left, and otherwise after a pause; and not where one is ready. What came in between is told once.
 pub fn accept_one<R: Eprint + Clock, L: OpenListener>(
     rt: &R,
     listener: &L,
+    room: &mut WaitingRoom<L::Stream>,
 ) -> io::Result<(L::Stream, SocketAddr)>
     ensures retried { IfErr result (λ error. (error_kind error ≢ ErrorKind.Interrupted) × (error_kind error ≢ ErrorKind.ConnectionAborted)) }
 {
@@ -38,9 +41,11 @@ pub fn accept_one<R: Eprint + Clock, L: OpenListener>(
         };
         match trouble_of(&error) {
             Trouble::Passed => {}
-            Trouble::Want if wants < WANTS_TRIED => {
+            Trouble::Want if wants < WANTS_TRIED && !room.has_ready() => {
                 wants += 1;
-                thread::sleep(rt, Duration::from_millis(WANT_PAUSE_MILLIS));
+                if !room.leave_oldest(rt) {
+                    thread::sleep(rt, Duration::from_millis(WANT_PAUSE_MILLIS));
+                }
             }
             Trouble::Want | Trouble::Lasting => return Err(error),
         }

@@ -7,69 +7,96 @@ ghost use Rattle.edge_real.specs.Views.{door_link_view, door_view, counted_door,
 
 use crate::accepting::accept_one;
 use crate::counting::raise;
-use crate::door_link::{DoorLink, moment};
+use crate::door_link::DoorLink;
 use crate::notices::{tell_closed, tell_door_end, tell_unshared};
+use crate::pending::Pending;
+use crate::waiting_room::WaitingRoom;
+use access_list::AccessList;
 use edge_traits::{Door, EdgeFault};
 use std::alloc::Global;
-use std::io::{Eprint, Error, Read, Write};
+use std::io::{self, Eprint, Error, ErrorKind, Read, Write};
 use std::net::{Ipv4Addr, Net, OpenListener, OpenStream, SocketAddr, SocketAddrV4, TcpListener};
+use std::os::fd::AsRawFd;
 use std::rt::Clock;
+use std::sync::{Arc, Mutex, Wait};
+use std::time::Duration;
 
 /// Takes connections in over TCP. Without a listener, each `accept` counts as a fault.
+///
+/// A connection waits in a room that the doors on one listener share, until its request is whole, its peer has ended or failed, its bytes are no
+/// request, or 16,384 bytes of it wait. One idle door waits for all of them, and takes the first that is ready; then the next idle door waits. So
+/// a peer that is slow or silent holds no door. Room is for 512; where it is full or descriptors are wanting the one is left that has waited
+/// longest, and each is left after 10 minutes. A peer that is denied doesn't wait.
 ///
 /// One line on the standard error of this process tells of each connection when it is left: when, the peer, the compiler, what became of it, the
 /// length of the source and of the object, and how long it took. Where the system takes no connection any more, a line says so, with the reason.
 #[derive(Drop)]
-pub struct TcpDoor<R, L> {
+pub struct TcpDoor<R, L, S> {
     rt: R,
     listener: Option<L>,
+    room: Option<SharedRoom<S>>,
     refusal: Option<Error>,
     faults: u64,
 }
 
-impl<R: Eprint, L: OpenListener> TcpDoor<R, L> {
-    /// A door on this IPv4 address and port. Port 0 is one that the system picks.
-    pub fn open(rt: R, address: u32, port: u16) -> TcpDoor<R, L>
-    where
-        R: Net<Listener = L>,
+/// The room of all doors on one listener.
+type SharedRoom<S> = Arc<Mutex<WaitingRoom<S>>, Global>;
+
+impl<R: Eprint + Net> TcpDoor<R, R::Listener, R::Stream> {
+    /// A door on this IPv4 address and port. Port 0 is one that the system picks. Peers that the rules deny are handed out at once.
+    pub fn open(
+        rt: R,
+        alloc: Global,
+        address: u32,
+        port: u16,
+        access: AccessList,
+    ) -> TcpDoor<R, R::Listener, R::Stream>
         ensures { door_view result ≡ counted_door 0 }
     {
-        let opened = TcpListener::bind(&rt, place_of(address, port));
-        let (listener, refusal) = match opened {
-            Ok(listener) => (Some(listener), None),
-            Err(error) => (None, Some(error)),
+        let (listener, room, refusal) = match listen(&rt, alloc, place_of(address, port), access) {
+            Ok((listener, room)) => (Some(listener), Some(room), None),
+            Err(error) => (None, None, Some(error)),
         };
         TcpDoor {
             rt,
             listener,
+            room,
             refusal,
             faults: 0,
         }
     }
+}
 
+impl<R: Eprint, L: OpenListener, S> TcpDoor<R, L, S> {
     /// A door without a listener.
-    pub fn closed(rt: R) -> TcpDoor<R, L>
+    pub fn closed(rt: R) -> TcpDoor<R, L, S>
         ensures view { door_view result ≡ counted_door 0 }
         ensures listener { is_listening result ≡ false }
     {
         TcpDoor {
             rt,
             listener: None,
+            room: None,
             refusal: None,
             faults: 0,
         }
     }
 
     /// Another door on the same listener. It has none where this one has none, or where the system refuses another, which is told.
-    pub fn share(&self) -> TcpDoor<R, L>
+    pub fn share(&self) -> TcpDoor<R, L, S>
     where
         R: Copy,
         ensures view { door_view result ≡ counted_door 0 }
         ensures listener { IsTrue (is_listening result) → IsTrue (is_listening self.now) }
     {
+        let room = match &self.room {
+            Some(room) => Arc::try_clone(room).ok(),
+            None => None,
+        };
         TcpDoor {
             rt: self.rt,
             listener: another(&self.rt, &self.listener),
+            room,
             refusal: None,
             faults: 0,
         }
@@ -98,11 +125,11 @@ impl<R: Eprint, L: OpenListener> TcpDoor<R, L> {
     }
 }
 
-impl<R: Eprint + Clock, L: OpenListener> Door for TcpDoor<R, L>
+impl<R: Eprint + Clock + Wait + Copy, L: OpenListener<Stream = S>, S> Door for TcpDoor<R, L, S>
 where
-    L::Stream: Read + Write + OpenStream,
+    S: Read + Write + OpenStream + AsRawFd + Drop,
 {
-    type Link = DoorLink<L::Stream>;
+    type Link = DoorLink<R, S>;
 
     ghost shows = { door_view };
 
@@ -110,21 +137,21 @@ where
 
     ghost came_stays = { λ d a b came f. came };
 
-    fn accept(&mut self, alloc: Global) -> Result<(DoorLink<L::Stream>, u32), EdgeFault>
+    fn accept(&mut self, alloc: Global) -> Result<(DoorLink<R, S>, u32), EdgeFault>
         ensures new { IfOk result (λ accepted. IsNew (door_link_view accepted.0)) }
         ensures listener { is_listening self.new ≡ is_listening self.old }
         ensures closed { is_listening self.old ≡ false → result ≡ Err EdgeFault.Failed }
         ensures memory { result ≢ Err EdgeFault.Memory }
         ensures faults { (door_view self.new).faults ≡ call_faults result (door_view self.old).faults }
     {
-        let Some(listener) = &self.listener else {
+        let (Some(listener), Some(room)) = (&self.listener, &self.room) else {
             raise(&mut self.faults);
             return Err(EdgeFault::Failed);
         };
-        match accept_one(&self.rt, listener) {
-            Ok((stream, peer)) => {
-                let link = DoorLink::new(alloc, stream, peer, moment(&self.rt));
-                Ok((link, ipv4_of(peer)))
+        match lead(&self.rt, alloc, listener, room) {
+            Ok(pending) => {
+                let address = ipv4_of(pending.peer);
+                Ok((DoorLink::new(self.rt, alloc, pending), address))
             }
             Err(error) => {
                 tell_door_end(&self.rt, &error);
@@ -134,11 +161,78 @@ where
         }
     }
 
-    fn leave(&mut self, link: DoorLink<L::Stream>)
+    fn leave(&mut self, link: DoorLink<R, S>)
         ensures listener { is_listening self.new ≡ is_listening self.old }
         ensures faults { (door_view self.new).faults ≡ (door_view self.old).faults }
     {
         link.end(&self.rt);
+    }
+}
+
+/// A listener that doesn't wait, and an empty room for its connections.
+fn listen<R: Net>(
+    rt: &R,
+    alloc: Global,
+    place: SocketAddrV4,
+    access: AccessList,
+) -> io::Result<(R::Listener, SharedRoom<R::Stream>)> {
+    let listener = TcpListener::bind(rt, place)?;
+    listener.set_nonblocking(true)?;
+    let room = WaitingRoom::new(rt, alloc, access)?;
+    room.watch(&listener)?;
+    Ok((listener, Arc::new(alloc, Mutex::new(room))?))
+}
+
+/// Waits for the room, and then in it for a connection that is ready.
+fn lead<R: Eprint + Clock + Wait, L: OpenListener<Stream = S>, S: OpenStream + AsRawFd + Drop>(
+    rt: &R,
+    alloc: Global,
+    listener: &L,
+    room: &SharedRoom<S>,
+) -> io::Result<Pending<S>> {
+    let mut guard = room.lock(rt);
+    next_ready(rt, alloc, listener, &mut *guard)
+}
+
+/// The connection that has waited longest of those that are ready. What the listener has is taken in first.
+fn next_ready<R: Eprint + Clock, L: OpenListener<Stream = S>, S: OpenStream + AsRawFd + Drop>(
+    rt: &R,
+    alloc: Global,
+    listener: &L,
+    room: &mut WaitingRoom<S>,
+) -> io::Result<Pending<S>> {
+    room.hear(Some(Duration::ZERO))?;
+    for _ in 0..u64::MAX {
+        room.look(alloc);
+        if room.takes_more() && take_one_in(rt, listener, room)? {
+            continue;
+        }
+        if let Some(pending) = room.take_ready() {
+            return Ok(pending);
+        }
+        room.leave_late(rt);
+        room.wait(rt)?;
+    }
+    Err(Error::from(ErrorKind::Other))
+}
+
+/// Takes in the next connection of the listener, and answers whether it had one. Where one is ready, that the system refuses the next is no error.
+fn take_one_in<R: Eprint + Clock, L: OpenListener<Stream = S>, S: OpenStream + AsRawFd + Drop>(
+    rt: &R,
+    listener: &L,
+    room: &mut WaitingRoom<S>,
+) -> io::Result<bool> {
+    match accept_one(rt, listener, room) {
+        Ok((stream, peer)) => {
+            room.take_in(rt, stream, peer, ipv4_of(peer));
+            Ok(true)
+        }
+        Err(error) if error.kind() == ErrorKind::WouldBlock => {
+            room.forget_call();
+            Ok(false)
+        }
+        Err(_) if room.has_ready() => Ok(false),
+        Err(error) => Err(error),
     }
 }
 

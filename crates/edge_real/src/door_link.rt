@@ -7,6 +7,7 @@ ghost use Rattle.edge_real.specs.Views.{door_link_view, door_stream_of};
 
 use crate::exchange::Exchange;
 use crate::notices::{Visit, tell_visit};
+use crate::pending::Pending;
 use crate::retrying::read_once;
 use crate::tcp::{IDLE_SECS, TcpLink};
 use edge_traits::{EdgeFault, Link};
@@ -19,45 +20,61 @@ use std::time::Duration;
 
 /// A connection that a door took in. It knows its peer, when it began, and what passed.
 #[derive(Drop)]
-pub struct DoorLink<S> {
+pub struct DoorLink<R, S> {
+    rt: R,
     link: TcpLink<S>,
     peer: SocketAddr,
     begun: Duration,
-    has_begun: bool,
+    /// The moment of the monotonic clock when the door got it.
+    handed: Duration,
     exchange: Exchange,
 }
 
-impl<S: OpenStream> DoorLink<S> {
-    /// A link on which nothing has happened yet, at this moment of the monotonic clock. The first read fails where it waits for `SILENT_SECS`,
-    /// each later one and each write where it waits for `IDLE_SECS`.
-    pub(crate) fn new(alloc: Global, stream: S, peer: SocketAddr, begun: Duration) -> DoorLink<S>
+impl<R: Clock, S: OpenStream> DoorLink<R, S> {
+    /// A link on which nothing has happened yet. A read or a write that waits for `IDLE_SECS` fails, and each read from `REQUEST_SECS` on.
+    pub(crate) fn new(rt: R, alloc: Global, pending: Pending<S>) -> DoorLink<R, S>
         ensures { IsNew (door_link_view result) }
     {
-        let _ = stream.set_read_timeout(Some(Duration::from_secs(SILENT_SECS)));
+        let handed = moment(&rt);
+        let leaving = pending.leaving();
+        let Pending {
+            stream,
+            peer,
+            begun,
+            ..
+        } = pending;
         let _ = stream.set_write_timeout(Some(Duration::from_secs(IDLE_SECS)));
         let nobody = HostName {
             text: Bytes::new(alloc),
         };
         DoorLink {
+            rt,
             link: TcpLink::new(stream, nobody, 0),
             peer,
             begun,
-            has_begun: false,
-            exchange: Exchange::new(),
+            handed,
+            exchange: Exchange::new(leaving),
         }
+    }
+
+    /// How long the next read may wait: `IDLE_SECS`, and no longer than the request's time lasts.
+    fn time_left(&self) -> Duration {
+        let passed = moment(&self.rt).saturating_sub(self.handed);
+        Duration::from_secs(REQUEST_SECS)
+            .saturating_sub(passed)
+            .min(Duration::from_secs(IDLE_SECS))
     }
 }
 
-/// How long a peer may be silent before its first byte: clients begin their request as soon as they are let in, but one of distcc preprocesses its
-/// source behind the request's words.
-const SILENT_SECS: u64 = 5;
+/// How long a request may take in all from when a door got its connection: 10 minutes.
+const REQUEST_SECS: u64 = 600;
 
-impl<S: Read + OpenStream + Drop> DoorLink<S> {
+impl<R: Drop, S: Read + OpenStream + Drop> DoorLink<R, S> {
     /// Ends the connection, and tells what passed. A peer that was sent nothing is left at once, with nothing more read.
     ///
     /// A socket that is closed over unread bytes is reset, and what its peer has not read by then is lost. So where bytes were sent the sending
     /// side is shut, and what the peer still sends is read until its end, for at most `LINGER_MILLIS` in all.
-    pub(crate) fn end<R: Eprint + Clock>(self, rt: &R) {
+    pub(crate) fn end<Q: Eprint + Clock>(self, rt: &Q) {
         let visit = Visit {
             peer: &self.peer,
             exchange: &self.exchange,
@@ -99,7 +116,7 @@ const LINGER_MILLIS: u64 = 1000;
 /// How many bytes it reads at once.
 const LINGER_ROOM: usize = 16_384;
 
-impl<S: Read + Write + OpenStream> Link for DoorLink<S> {
+impl<R: Clock, S: Read + Write + OpenStream> Link for DoorLink<R, S> {
     ghost shows = { door_link_view };
 
     ghost follows = { λ a b. (door_link_view a).origin ≡ (door_link_view b).origin };
@@ -139,11 +156,13 @@ impl<S: Read + Write + OpenStream> Link for DoorLink<S> {
         ensures memory { result ≢ Err EdgeFault.Memory }
         ensures faults { (door_link_view self.new).faults ≡ call_faults result (door_link_view self.old).faults }
     {
-        let given = self.link.recv(room)?;
-        if !self.has_begun {
-            self.has_begun = true;
-            self.link.wait_at_most(Duration::from_secs(IDLE_SECS));
+        let left = self.time_left();
+        if left.is_zero() {
+            self.link.fail();
+            return Err(EdgeFault::Failed);
         }
+        self.link.wait_at_most(left);
+        let given = self.link.recv(room)?;
         self.exchange.given(room, given);
         Ok(given)
     }

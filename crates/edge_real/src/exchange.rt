@@ -123,25 +123,48 @@ fn number_of(digits: &[u8]) -> Option<u32> {
     u32::from_str_radix(str::from_utf8(digits).ok()?, 16).ok()
 }
 
+/// Why a connection was left.
+#[derive(Clone, Copy, PartialEq, Eq)]
+pub enum Leaving {
+    /// Its door is done with it.
+    Served,
+    /// The rules deny its peer.
+    Denied,
+    /// Its request wasn't whole in time.
+    Late,
+    /// Its place was wanted for another before its request was whole.
+    Displaced,
+}
+
 /// Both sides of an exchange.
 #[derive(Drop)]
 pub struct Exchange {
     asked: Tokens,
     answered: Tokens,
-    was_read: bool,
+    leaving: Leaving,
+    /// Whether a byte of the peer's was seen.
+    was_given: bool,
     /// Whether the peer was sent a byte.
     pub was_sent: bool,
 }
 
 impl Exchange {
     /// Before the first byte.
-    pub fn new() -> Exchange {
+    pub fn new(leaving: Leaving) -> Exchange {
         Exchange {
             asked: Tokens::new(),
             answered: Tokens::new(),
-            was_read: false,
+            leaving,
+            was_given: false,
             was_sent: false,
         }
+    }
+
+    /// That of a connection which no door read. Its peer may have sent bytes.
+    pub fn unread(leaving: Leaving, was_given: bool) -> Exchange {
+        let mut exchange = Exchange::new(leaving);
+        exchange.was_given = was_given;
+        exchange
     }
 
     /// So many bytes of the front were sent.
@@ -154,19 +177,15 @@ impl Exchange {
 
     /// So many bytes came, at the front of the room.
     pub fn given(&mut self, room: &[u8], count: usize) {
-        self.was_read = true;
+        self.was_given |= count > 0;
         if let Some(front) = room.get(..count) {
             self.asked.see(front);
         }
     }
 }
 
-/// `COMPILER answered STATUS, source N, object N`, `COMPILER no reply, ..`, or `denied` where nothing was read.
-impl Display for Exchange {
-    fn fmt<W: fmt::Write>(&self, f: &mut Formatter<W>) -> fmt::Result {
-        if !self.was_read {
-            return f.write_str("denied");
-        }
+impl Exchange {
+    fn fmt_served<W: fmt::Write>(&self, f: &mut Formatter<W>) -> fmt::Result {
         let named = self.asked.compiler.get(..self.asked.named);
         match named {
             Some(name) if !name.is_empty() => write!(f, "{} ", Shown(name))?,
@@ -181,5 +200,26 @@ impl Display for Exchange {
             ", source {}, object {}",
             self.asked.source, self.answered.object
         )
+    }
+}
+
+/// `COMPILER answered STATUS, source N, object N`, or `COMPILER no reply, ..`, of a connection that a door read. Of another `denied`, `sent nothing`
+/// or `sent no whole request`, and `, left for another` behind that where its place was wanted.
+impl Display for Exchange {
+    fn fmt<W: fmt::Write>(&self, f: &mut Formatter<W>) -> fmt::Result {
+        if self.leaving == Leaving::Denied {
+            return f.write_str("denied");
+        }
+        if !self.was_given {
+            f.write_str("sent nothing")?;
+        } else if self.leaving == Leaving::Served {
+            self.fmt_served(f)?;
+        } else {
+            f.write_str("sent no whole request")?;
+        }
+        if self.leaving == Leaving::Displaced {
+            f.write_str(", left for another")?;
+        }
+        Ok(())
     }
 }

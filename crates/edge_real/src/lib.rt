@@ -16,6 +16,7 @@ mod goals;
 mod kits;
 mod notices;
 mod own_files;
+mod pending;
 mod reading;
 mod retrying;
 mod run_folder;
@@ -23,6 +24,7 @@ mod running;
 mod staging;
 mod stream;
 mod tcp;
+mod waiting_room;
 
 pub use child::{ChildStation, WordPolicy};
 pub use clock::WallClock;

@@ -4,7 +4,7 @@ ghost use Rattle.std.specs.Io.KnownBytes.{ReadConsumes, WriteAppends};
 ghost use Rattle.std.proofs.Common.{◌∙◌, sym};
 ghost use Rattle.edge_traits.specs.Links.{IsFresh, moved_none};
 ghost use Rattle.edge_real.specs.Counts.{call_faults};
-ghost use Rattle.edge_real.specs.Views.{link_view, stream_of, dialer_view, counted_dialer};
+ghost use Rattle.edge_real.specs.Views.{link_view, with_fault, stream_of, dialer_view, counted_dialer};
 
 use crate::counting::raise;
 use crate::retrying::{read_once, write_once};
@@ -52,6 +52,14 @@ impl<S> TcpLink<S> {
         S: OpenStream,
     {
         let _ = self.stream.set_read_timeout(Some(time));
+    }
+
+    /// Counts a fault that the connection itself didn't tell.
+    pub(crate) fn fail(&mut self)
+        ensures view { link_view self.new ≡ with_fault (link_view self.old) }
+        ensures stream { stream_of self.new ≡ stream_of self.old }
+    {
+        raise(&mut self.faults);
     }
 
     /// The connection itself.

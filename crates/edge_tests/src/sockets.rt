@@ -1,5 +1,6 @@
 //! Sockets, each against a peer in another thread.
 
+use access_list::{AccessList, RuleVec, parse_rule};
 use edge_real::{TcpDialer, TcpDoor};
 use edge_traits::{Dialer, Door, EdgeFault, Link};
 use farm_types::{Bytes, HostName};
@@ -14,6 +15,13 @@ fn host(alloc: Global, name: &[u8]) -> Result<HostName, AllocError> {
     Ok(HostName {
         text: Bytes::from_slice(alloc, name)?,
     })
+}
+
+/// Rules that let everybody in.
+fn everybody(alloc: Global) -> AccessList {
+    AccessList {
+        rules: RuleVec::new(alloc),
+    }
 }
 
 /// Sends one byte, and answers the one that comes back and whether the link ended behind it.
@@ -44,7 +52,7 @@ fn answer<D: Door>(alloc: Global, door: &mut D) -> (u8, u32) {
 #[test]
 fn a_dialer_and_a_door_carry_bytes_both_ways(rt: HostRuntime) -> Result<(), Fail> {
     let alloc = rt.alloc();
-    let mut door = TcpDoor::open(rt, LOCALHOST, 0);
+    let mut door = TcpDoor::open(rt, alloc, LOCALHOST, 0, everybody(alloc));
     let port = door.port().ok_or("port")?;
     let mut dialer = TcpDialer::new(rt);
     let name = host(alloc, b"localhost")?;
@@ -84,7 +92,7 @@ fn count_given<L: Link>(link: &mut L) -> u64 {
 #[test]
 fn a_client_that_sends_too_much_gets_the_whole_reply(rt: HostRuntime) -> Result<(), Fail> {
     let alloc = rt.alloc();
-    let mut door = TcpDoor::open(rt, LOCALHOST, 0);
+    let mut door = TcpDoor::open(rt, alloc, LOCALHOST, 0, everybody(alloc));
     let port = door.port().ok_or("port")?;
     let mut dialer = TcpDialer::new(rt);
     let name = host(alloc, b"127.0.0.1")?;
@@ -116,14 +124,15 @@ fn a_client_that_sends_too_much_gets_the_whole_reply(rt: HostRuntime) -> Result<
     Ok(())
 }
 
-/// Leaves a client that neither sends nor ends, and answers how long that took. The client was sent these bytes.
+/// Leaves a client that sends nothing behind its first byte and doesn't end, and answers how long that took. The client was sent these bytes.
 fn leave_silent(rt: HostRuntime, sent: &[u8]) -> Result<Duration, Fail> {
     let alloc = rt.alloc();
-    let mut door = TcpDoor::open(rt, LOCALHOST, 0);
+    let mut door = TcpDoor::open(rt, alloc, LOCALHOST, 0, everybody(alloc));
     let port = door.port().ok_or("port")?;
     let mut dialer = TcpDialer::new(rt);
     let name = host(alloc, b"127.0.0.1")?;
-    let silent = dialer.dial(alloc, &name, port)?;
+    let mut silent = dialer.dial(alloc, &name, port)?;
+    silent.send(b"x")?;
     let (mut link, _) = door.accept(alloc)?;
     if !sent.is_empty() {
         link.send(sent)?;
@@ -149,6 +158,53 @@ fn a_client_that_was_sent_nothing_is_left_at_once(rt: HostRuntime) -> Result<(),
 }
 
 #[test]
+fn a_silent_client_and_one_that_began_hold_no_door(rt: HostRuntime) -> Result<(), Fail> {
+    let alloc = rt.alloc();
+    let first = TcpDoor::open(rt, alloc, LOCALHOST, 0, everybody(alloc));
+    let mut door = first.share();
+    let port = door.port().ok_or("port")?;
+    let mut dialer = TcpDialer::new(rt);
+    let name = host(alloc, b"127.0.0.1")?;
+    let silent = dialer.dial(alloc, &name, port)?;
+    let mut slow = dialer.dial(alloc, &name, port)?;
+    slow.send(b"DIST00000001ARGC")?;
+    let mut ready = dialer.dial(alloc, &name, port)?;
+    ready.send(b"GET")?;
+    let (mut link, _) = door.accept(alloc)?;
+    let mut room = [0u8; 20];
+    assert_eq!(rt; link.recv(&mut room)?, 3);
+    door.leave(link);
+    slow.send(b"x")?;
+    let (mut link, _) = door.accept(alloc)?;
+    assert_eq!(rt; link.recv(&mut room)?, 17);
+    door.leave(link);
+    dialer.hang_up(silent);
+    let (mut link, _) = door.accept(alloc)?;
+    assert_eq!(rt; link.recv(&mut room)?, 0);
+    door.leave(link);
+    dialer.hang_up(slow);
+    dialer.hang_up(ready);
+    Ok(())
+}
+
+#[test]
+fn a_denied_client_that_is_silent_is_handed_out(rt: HostRuntime) -> Result<(), Fail> {
+    let alloc = rt.alloc();
+    let mut access = everybody(alloc);
+    let rule = parse_rule(false, b"127.0.0.1").map_err(|_| "rule")?;
+    access.rules.try_push(rule)?;
+    let mut door = TcpDoor::open(rt, alloc, LOCALHOST, 0, access);
+    let port = door.port().ok_or("port")?;
+    let mut dialer = TcpDialer::new(rt);
+    let silent = dialer.dial(alloc, &host(alloc, b"127.0.0.1")?, port)?;
+    let (link, peer) = door.accept(alloc)?;
+    assert_eq!(rt; peer, LOCALHOST);
+    door.leave(link);
+    dialer.hang_up(silent);
+    Ok(())
+}
+
+#[test]
 fn a_host_that_is_not_there_is_a_fault(rt: HostRuntime) -> Result<(), Fail> {
     let alloc = rt.alloc();
     let mut dialer = TcpDialer::new(rt);
@@ -161,7 +217,8 @@ fn a_host_that_is_not_there_is_a_fault(rt: HostRuntime) -> Result<(), Fail> {
 
 #[test]
 fn an_address_of_another_machine_gives_no_listener(rt: HostRuntime) {
-    let mut closed = TcpDoor::open(rt, 0x0102_0304, 1);
+    let alloc = rt.alloc();
+    let mut closed = TcpDoor::open(rt, alloc, 0x0102_0304, 1, everybody(alloc));
     assert!(rt; !closed.is_open() && !closed.share().is_open());
     assert_eq!(rt; closed.port(), None);
     assert!(rt; matches!(closed.accept(rt.alloc()), Err(EdgeFault::Failed)));
@@ -169,7 +226,8 @@ fn an_address_of_another_machine_gives_no_listener(rt: HostRuntime) {
 
 #[test]
 fn a_shared_door_is_at_the_same_port(rt: HostRuntime) {
-    let door = TcpDoor::open(rt, LOCALHOST, 0);
+    let alloc = rt.alloc();
+    let door = TcpDoor::open(rt, alloc, LOCALHOST, 0, everybody(alloc));
     let shared = door.share();
     assert!(rt; door.is_open() && shared.is_open());
     assert_eq!(rt; shared.port(), door.port());

@@ -5,22 +5,22 @@ ghost use Rattle.std.specs.Prelude.{◌≡◌, ◌≤◌, true, false, length, m
 ghost use Rattle.daemon_words.specs.Commands.{trusts};
 ghost use Rattle.edge_real.specs.Views.{policy_of as station_policy};
 
+use access_list::AccessList;
 use daemon_program::{DoorPlace, door_place, farmd};
-use daemon_words::{Command, Options, parse_words, trusts_options};
+use daemon_words::{Command, Options, parse_words, rules_of, settings_of, trusts_options};
 use daemon_worker::DoorKit;
 use edge_real::{
     ChildStation, StdSink, TcpDoor, WordPolicy, command_words, current_folder, own_folder,
 };
 use log::warn;
 use std::alloc::AllocError;
-use std::net::TcpListener;
+use std::net::{TcpListener, TcpStream};
 use std::process::ExitCode;
-use std::thread::Threads;
 
 /// The doors and stations of the system.
 type SystemDoor = DoorKit<ListeningDoor, ChildStation<HostRuntime>>;
 
-type ListeningDoor = TcpDoor<HostRuntime, TcpListener>;
+type ListeningDoor = TcpDoor<HostRuntime, TcpListener, TcpStream>;
 
 /// The status where memory is wanting.
 const NO_MEMORY: u8 = 105;
@@ -53,6 +53,13 @@ fn policy_of(words: &[String]) -> WordPolicy
     } else {
         WordPolicy::ServedWords
     }
+}
+
+// Who is let in, as the words say.
+fn access_of(rt: &HostRuntime, words: &[String]) -> Result<AccessList, AllocError> {
+    Ok(AccessList {
+        rules: rules_of(rt.alloc(), settings_of(words))?,
+    })
 }
 
 // Whether any machine that reaches this one may be served: no rule says who is, and the address isn't of this machine alone.
@@ -102,6 +109,7 @@ fn open_doors(
 fn doors_at(
     rt: &HostRuntime,
     place: Option<DoorPlace>,
+    access: AccessList,
     policy: WordPolicy,
 ) -> Result<Vec<SystemDoor>, AllocError>
     requires { IfSome place (λ place. place.doors ≤ 16) }
@@ -110,7 +118,7 @@ fn doors_at(
 {
     match place {
         Some(place) if 0 < place.doors => {
-            let first = TcpDoor::open(*rt, place.addr, place.port);
+            let first = TcpDoor::open(*rt, rt.alloc(), place.addr, place.port, access);
             if !first.is_open() {
                 warn!(rt; "cannot listen");
                 first.tell_refusal();
@@ -121,24 +129,33 @@ fn doors_at(
     }
 }
 
-// Runs `farmd` on the program's words and standard output, and answers its exit status.
-fn run<T: Threads + Sync>(threads: &T, rt: &HostRuntime) -> Result<u8, AllocError> {
+// The words, and the doors that they ask for.
+fn doors_of(rt: &HostRuntime) -> Result<(Vec<String>, Vec<SystemDoor>), AllocError>
+    ensures some { IfOk result (λ made. 1 ≤ length made.1.items) }
+    ensures few { IfOk result (λ made. length made.1.items ≤ 16) }
+{
     let words = words_of(rt)?;
     let place = door_place(words.as_slice());
-    let options = options_of(words.as_slice());
-    if lets_all_in(&options) {
+    if lets_all_in(&options_of(words.as_slice())) {
         warn!(rt; "every peer is let in, since no rule says who is");
     }
-    let mut doors = doors_at(rt, place, policy_of(words.as_slice()))?;
-    let mut out = StdSink::new(rt.stdout());
-    let status = farmd(threads, rt.alloc(), words.as_slice(), &mut doors, &mut out);
-    Ok(status)
+    let access = access_of(rt, words.as_slice())?;
+    let doors = doors_at(rt, place, access, policy_of(words.as_slice()))?;
+    Ok((words, doors))
 }
 
+// Runs `farmd` on the program's words and standard output, and ends with its status.
 fn main(rt: HostRuntime) -> ExitCode {
-    if let Ok(status) = run(&rt, &rt) {
-        return ExitCode::from(status);
-    }
-    let _ = println!(rt; "farmd: no memory");
-    ExitCode::from(NO_MEMORY)
+    let Ok((words, mut doors)) = doors_of(&rt) else {
+        let _ = println!(rt; "farmd: no memory");
+        return ExitCode::from(NO_MEMORY);
+    };
+    let mut out = StdSink::new(rt.stdout());
+    ExitCode::from(farmd(
+        &rt,
+        rt.alloc(),
+        words.as_slice(),
+        &mut doors,
+        &mut out,
+    ))
 }

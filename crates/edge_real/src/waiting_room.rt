@@ -1,0 +1,236 @@
+// The connections that were accepted and that no door reads yet, of all doors on one listener.
+ghost use Rattle.std.specs.Prelude.{◌≡◌, ℕ, Option, true, false};
+ghost use Rattle.access_list.specs.Rules.{AreRight, decision};
+ghost use Rattle.access_list.specs.declared.decision.Decision.TheVariants as decided;
+
+use crate::door_link::moment;
+use crate::exchange::{Exchange, Leaving};
+use crate::notices::{Visit, tell_visit};
+use crate::pending::Pending;
+use access_list::{AccessList, Decision};
+use mio::unix::SourceFd;
+use mio::{Events, Interest, Poll, Token};
+use std::alloc::Global;
+use std::io::{self, Eprint};
+use std::net::{Net, OpenStream, SocketAddr};
+use std::os::fd::AsRawFd;
+use std::rt::Clock;
+use std::time::Duration;
+
+/// The connections that wait, and what tells of them and of the listener.
+#[derive(Drop)]
+pub struct WaitingRoom<S> {
+    poll: Poll,
+    events: Events,
+    places: Vec<Option<Pending<S>>>,
+    /// Where the bytes of one connection are looked at.
+    scratch: Vec<u8>,
+    access: AccessList,
+    /// Whether the listener may have a connection.
+    is_called: bool,
+}
+
+/// How many connections wait at most.
+const PLACES: usize = 512;
+
+/// How many bytes of a connection are looked at. A connection of which so many wait is ready.
+const SCRATCH: usize = 16_384;
+
+/// How many events are told at once.
+const EVENTS: usize = 128;
+
+/// The token of the listener. Those of the connections are their places.
+const LISTENER: Token = Token(PLACES);
+
+impl<S: Drop> WaitingRoom<S> {
+    /// An empty room. Connections of peers that these rules deny are ready at once.
+    pub fn new<R: Net>(rt: &R, alloc: Global, access: AccessList) -> io::Result<WaitingRoom<S>> {
+        let mut places = Vec::with_capacity(alloc, PLACES)?;
+        for _ in 0..PLACES {
+            places.push(None)?;
+        }
+        Ok(WaitingRoom {
+            poll: Poll::new(rt)?,
+            events: Events::with_capacity(alloc, EVENTS)?,
+            places,
+            scratch: Vec::from_elem(alloc, 0u8, SCRATCH)?,
+            access,
+            is_called: false,
+        })
+    }
+
+    /// Has connections at this listener told, which doesn't wait for them.
+    pub fn watch<L: AsRawFd>(&self, listener: &L) -> io::Result<()> {
+        let descriptor = listener.as_raw_fd();
+        self.poll
+            .registry()
+            .register(&mut SourceFd(&descriptor), LISTENER, Interest::READABLE)
+    }
+
+    /// Whether the listener may have a connection, and there is a place for it.
+    pub fn takes_more(&self) -> bool {
+        self.is_called && !(self.free_place().is_none() && self.has_ready())
+    }
+
+    /// The listener has no connection, until the system tells of one.
+    pub fn forget_call(&mut self) {
+        self.is_called = false;
+    }
+
+    /// Whether one is ready.
+    pub fn has_ready(&self) -> bool {
+        self.oldest(true).is_some()
+    }
+
+    fn free_place(&self) -> Option<usize> {
+        for (at, place) in self.places.iter().enumerate() {
+            if place.is_none() {
+                return Some(at);
+            }
+        }
+        None
+    }
+
+    /// The place of the one that has waited longest of those that are ready, or of those that aren't.
+    fn oldest(&self, is_ready: bool) -> Option<usize> {
+        let mut found: Option<(usize, Duration)> = None;
+        for (at, place) in self.places.iter().enumerate() {
+            let Some(pending) = place else {
+                continue;
+            };
+            if pending.is_ready() != is_ready {
+                continue;
+            }
+            let is_older = match found {
+                Some((_, begun)) => pending.begun < begun,
+                None => true,
+            };
+            if is_older {
+                found = Some((at, pending.begun));
+            }
+        }
+        Some(found?.0)
+    }
+
+    fn remove(&mut self, at: usize) -> Option<Pending<S>> {
+        self.places.get_mut(at)?.take()
+    }
+
+    /// Whether the rules deny this peer.
+    fn denies(&self, peer: u32) -> bool
+        ensures admitted { (rule : Option ℕ) → decision self.now.access.rules peer ≡ decided.Admitted rule → result ≡ false }
+        ensures denied { (rule : Option ℕ) → AreRight self.now.access.rules → decision self.now.access.rules peer ≡ decided.Denied rule → result ≡ true }
+    {
+        self.access.is_right() && matches!(self.access.decide(peer), Decision::Denied { .. })
+    }
+}
+
+impl<S: OpenStream + AsRawFd + Drop> WaitingRoom<S> {
+    /// Takes in a connection of the peer with this IPv4 address. Where there is no place, the one that has waited longest is left.
+    pub fn take_in<R: Eprint + Clock>(
+        &mut self,
+        rt: &R,
+        stream: S,
+        peer: SocketAddr,
+        address: u32,
+    ) {
+        if self.free_place().is_none() {
+            self.leave_oldest(rt);
+        }
+        let Some(at) = self.free_place() else {
+            return;
+        };
+        let mut pending = Pending::new(stream, peer, moment(rt), self.denies(address));
+        pending.watch(&self.poll, Token(at));
+        if let Some(place) = self.places.get_mut(at) {
+            *place = Some(pending);
+        }
+    }
+
+    /// Looks at those of which something came.
+    pub fn look(&mut self, alloc: Global) {
+        for place in self.places.iter_mut() {
+            if let Some(pending) = place {
+                pending.look(alloc, self.scratch.as_mut_slice());
+            }
+        }
+    }
+
+    /// Takes out the one that has waited longest of those that are ready.
+    pub fn take_ready(&mut self) -> Option<Pending<S>> {
+        let at = self.oldest(true)?;
+        let mut pending = self.remove(at)?;
+        pending.release(&self.poll);
+        Some(pending)
+    }
+}
+
+impl<S: Drop> WaitingRoom<S> {
+    /// Leaves the one that has waited longest of those that aren't ready, where there is one.
+    pub fn leave_oldest<R: Eprint + Clock>(&mut self, rt: &R) -> bool {
+        match self.oldest(false) {
+            Some(at) => {
+                self.leave(rt, at, Leaving::Displaced);
+                true
+            }
+            None => false,
+        }
+    }
+
+    /// Leaves those that have waited for too long.
+    pub fn leave_late<R: Eprint + Clock>(&mut self, rt: &R) {
+        let now = moment(rt);
+        for _ in 0..PLACES {
+            let Some(at) = self.oldest(false) else {
+                return;
+            };
+            if !self.time_left(at, now).is_zero() {
+                return;
+            }
+            self.leave(rt, at, Leaving::Late);
+        }
+    }
+
+    fn time_left(&self, at: usize, now: Duration) -> Duration {
+        match self.places.get(at) {
+            Some(Some(pending)) => pending.time_left(now),
+            _ => Duration::ZERO,
+        }
+    }
+
+    fn leave<R: Eprint + Clock>(&mut self, rt: &R, at: usize, leaving: Leaving) {
+        let Some(pending) = self.remove(at) else {
+            return;
+        };
+        let exchange = Exchange::unread(leaving, pending.was_given);
+        let visit = Visit {
+            peer: &pending.peer,
+            exchange: &exchange,
+            begun: &pending.begun,
+        };
+        tell_visit(rt, &visit);
+    }
+
+    /// Waits until something comes, or one has waited for too long.
+    pub fn wait<R: Clock>(&mut self, rt: &R) -> io::Result<()> {
+        let time = match self.oldest(false) {
+            Some(at) => Some(self.time_left(at, moment(rt))),
+            None => None,
+        };
+        self.hear(time)
+    }
+
+    /// Waits for so long at most until something comes.
+    pub fn hear(&mut self, time: Option<Duration>) -> io::Result<()> {
+        self.poll.poll(&mut self.events, time)?;
+        for event in &self.events {
+            let Token(at) = event.token();
+            if at == PLACES {
+                self.is_called = true;
+            } else if let Some(Some(pending)) = self.places.get_mut(at) {
+                pending.notice(event);
+            }
+        }
+        Ok(())
+    }
+}
