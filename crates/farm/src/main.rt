@@ -1,6 +1,9 @@
 //! The program `farm`: the call `farm` over the devices of the system.
 #![tactic(auto)]
 
+mod command;
+
+use command::add_dependencies;
 use edge_real::{StdSink, StdSource, command_words, own_folder, system_kits, variable};
 use farm_program::farm;
 use std::alloc::AllocError;
@@ -17,10 +20,14 @@ const VARIABLES: [&str; 3] = ["DISTCC_HOSTS", "DISTCC_FALLBACK", "DISTCC_BACKOFF
 /// The status where memory is wanting.
 const NO_MEMORY: u8 = 105;
 
-// The words of the command line. One that isn't UTF-8 makes the line a faulty one: it is read as no words, which no command allows.
+// The words of the command line, with those of the dependency file of a compile command. One that isn't UTF-8 makes the line a faulty
+// one: it is read as no words, which no command allows.
 fn words_of(rt: &HostRuntime) -> Result<Vec<String>, AllocError> {
     Ok(match command_words(rt)? {
-        Some(words) => words,
+        Some(mut words) => {
+            add_dependencies(rt.alloc(), &mut words)?;
+            words
+        }
         None => Vec::new(rt.alloc()),
     })
 }
