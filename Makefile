@@ -9,7 +9,7 @@ completions = $(DESTDIR)$(PREFIX)/share/bash-completion/completions
 units = $(DESTDIR)$(PREFIX)/lib/systemd/system
 defaults = $(DESTDIR)/etc/default
 
-.PHONY: bench bench-jobs bench-wire build demo install test test-all uninstall
+.PHONY: bench bench-jobs bench-wire build demo dist install test test-all uninstall
 
 # The farm whole: farm with two farmds on loopback, of which one is killed in the middle of a build.
 demo:
@@ -60,6 +60,10 @@ install:
 	sed 's|/usr/local/bin/farmd|$(PREFIX)/bin/farmd|' contrib/farmd.service >$(units)/farmd.service
 	chmod 644 $(units)/farmd.service
 	[ -e $(defaults)/farmd ] || { install -d $(defaults) && install -m 644 contrib/farmd.default $(defaults)/farmd; }
+
+# An archive of all that, with the SHA-256 sums of its files and how it was made, below dist/.
+dist:
+	contrib/dist
 
 uninstall:
 	for program in $(PROGRAMS); do rm -f $(bin)/$$program $(man)/$$program.1 $(completions)/$$program; done
