@@ -18,7 +18,7 @@ demo:
 # The gate: each crate is proved, each edit that must fail is refused, each test and each stored run passes.
 # Then farm with a real distccd, in an odd environment, objects on a real disk, faults of a real machine, runs with an allocation
 # refused, real clients of farmd, mutated requests for it, the options that it lets through and those that it doesn't, its cache, whole
-# projects, dependency files, sources that become a program, the manual pages and the installation; each is skipped where what it needs isn't installed.
+# projects, dependency files, two hosts in turn, sources that become a program, the manual pages and the installation; each is skipped where what it needs isn't installed.
 test:
 	rt ci
 	tests/interop
@@ -33,6 +33,7 @@ test:
 	tests/projects
 	tests/database
 	tests/dependencies
+	tests/randomize
 	tests/programs
 	tests/manual
 	tests/install
