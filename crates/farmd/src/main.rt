@@ -1,10 +1,13 @@
 //! The program `farmd`: the call `farmd` over the devices of the system.
 #![tactic(auto)]
 
+mod beginning;
+
 ghost use Rattle.std.specs.Prelude.{◌≡◌, ◌≤◌, true, false, length, map, Some, IfOk, IfSome, string_bytes};
 ghost use Rattle.daemon_words.specs.Commands.{trusts};
 ghost use Rattle.edge_real.specs.Views.{policy_of as station_policy};
 
+use beginning::tell_beginning;
 use daemon_program::{DoorPlace, door_place, farmd};
 use daemon_words::{Command, Options, parse_words, trusts_options};
 use daemon_worker::DoorKit;
@@ -101,6 +104,7 @@ fn open_doors(
 // The doors at a place. Where `farmd` isn't to serve, there is one that is closed.
 fn doors_at(
     rt: &HostRuntime,
+    words: &[String],
     place: Option<DoorPlace>,
     policy: WordPolicy,
 ) -> Result<Vec<SystemDoor>, AllocError>
@@ -114,6 +118,9 @@ fn doors_at(
             if !first.is_open() {
                 warn!(rt; "cannot listen");
                 first.tell_refusal();
+            }
+            if let Some(port) = first.port() {
+                tell_beginning(rt, words, &place, port)?;
             }
             open_doors(rt, first, place.doors, policy)
         }
@@ -129,7 +136,7 @@ fn run<T: Threads + Sync>(threads: &T, rt: &HostRuntime) -> Result<u8, AllocErro
     if lets_all_in(&options) {
         warn!(rt; "every peer is let in, since no rule says who is");
     }
-    let mut doors = doors_at(rt, place, policy_of(words.as_slice()))?;
+    let mut doors = doors_at(rt, words.as_slice(), place, policy_of(words.as_slice()))?;
     let mut out = StdSink::new(rt.stdout());
     let status = farmd(threads, rt.alloc(), words.as_slice(), &mut doors, &mut out);
     Ok(status)
