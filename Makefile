@@ -3,7 +3,6 @@
 
 PREFIX ?= /usr/local
 PROGRAMS = farm farmd scc farm_jobs
-ARCHIVE = kilavomeru-0.1-x86_64-linux
 bin = $(DESTDIR)$(PREFIX)/bin
 man = $(DESTDIR)$(PREFIX)/share/man/man1
 completions = $(DESTDIR)$(PREFIX)/share/bash-completion/completions
@@ -28,7 +27,8 @@ gate:
 
 # The map of the crates and the list of what has to be believed. Then farm with a real distccd, in an odd environment, objects on a real disk, faults of a
 # real machine, runs with an allocation refused, real clients of farmd, mutated requests for it, the options that it lets through and those that it doesn't,
-# its cache, whole projects, sources that become a program, the manual pages and the installation; each is skipped where what it needs isn't installed.
+# its cache, whole projects, dependency files, two hosts in turn, sources that become a program, the manual pages and the installation; each is skipped
+# where what it needs isn't installed.
 checks:
 	tests/layers
 	tests/believed
@@ -42,6 +42,8 @@ checks:
 	tests/options
 	tests/cache
 	tests/projects
+	tests/dependencies
+	tests/randomize
 	tests/database
 	tests/programs
 	tests/manual
@@ -76,17 +78,9 @@ uninstall:
 	rm -f $(units)/farmd.service $(bin)/farmcc
 	if cmp -s contrib/farmd.default $(defaults)/farmd; then rm -f $(defaults)/farmd; fi
 
-# The archive dist/$(ARCHIVE).tar.gz: what `make install` puts in place, the licence and the SHA-256 sum of each file. It says how it was made; the same
-# commit and toolchain give the same bytes.
+# An archive of what `make install` puts in place, with the SHA-256 sums of its files and how it was made, below dist/.
 dist:
-	rm -rf dist
-	$(MAKE) --no-print-directory --silent install DESTDIR=$(CURDIR)/dist/$(ARCHIVE) PREFIX=/usr/local
-	install -m 644 LICENSE dist/$(ARCHIVE)/LICENSE
-	cd dist/$(ARCHIVE) && find . -type f | LC_ALL=C sort | xargs sha256sum >../SHA256SUMS && mv ../SHA256SUMS .
-	tar -C dist --sort=name --owner=0 --group=0 --numeric-owner --mtime=@$$(git log -1 --format=%ct) -c $(ARCHIVE) | gzip -n >dist/$(ARCHIVE).tar.gz
-	@echo "dist/$(ARCHIVE).tar.gz: $$(sha256sum <dist/$(ARCHIVE).tar.gz | cut -d' ' -f1)"
-	@echo "Made of commit $$(git describe --always --dirty) by $$(rt version): each program is built of crates whose proofs were checked on this machine."
-	@echo "It is put in place by: tar -C / --strip-components=1 -xf $(ARCHIVE).tar.gz $(ARCHIVE)/usr, and etc/default/farmd by hand."
+	contrib/dist
 
 # What farm and distcc add to gcc -E and gcc -c, per job, by itself and within a job list; whole builds at 2, 4 and 8 jobs at once; the
 # transfer of an object of 32 MiB; the resident size of farm and farmd; and how long a worker takes between two children.

@@ -1,8 +1,15 @@
 //! The program `farm`: the call `farm` over the devices of the system.
 #![tactic(auto)]
 
+mod command;
+mod reasons;
+
+use command::{add_dependencies, bytes_of, compile_command, replaces_source, tell_input};
 use edge_real::{StdSink, StdSource, command_words, own_folder, system_kits, variable};
 use farm_program::farm;
+use host_turns::{spread, turned};
+use kept_input::KeptSource;
+use reasons::{Given, tell_carriage_return, tell_refusal};
 use std::alloc::AllocError;
 use std::process::{self, ExitCode};
 use std::sync::Wait;
@@ -11,58 +18,105 @@ use std::thread::Threads;
 /// How many kits there are: the most workers.
 const KITS: usize = 16;
 
+/// The variable with the host list.
+const HOSTS: &str = "DISTCC_HOSTS";
+
 /// The variables of the environment that are read.
-const VARIABLES: [&str; 3] = ["DISTCC_HOSTS", "DISTCC_FALLBACK", "DISTCC_BACKOFF_PERIOD"];
+const VARIABLES: [&str; 3] = [HOSTS, "DISTCC_FALLBACK", "DISTCC_BACKOFF_PERIOD"];
 
 /// The status where memory is wanting.
 const NO_MEMORY: u8 = 105;
+
+/// The status where a command would replace its source: that of gcc.
+const REFUSED: u8 = 1;
 
 // The words of the command line. One that isn't UTF-8 makes the line a faulty one: it is read as no words, which no command allows.
 fn words_of(rt: &HostRuntime) -> Result<Vec<String>, AllocError> {
     Ok(match command_words(rt)? {
         Some(words) => words,
-        None => Vec::new(rt.alloc()),
+        None => {
+            let _ = eprintln!(rt; "farm: a word of the command line isn't UTF-8");
+            Vec::new(rt.alloc())
+        }
     })
 }
 
-// The variables that are set.
-fn variables_of(rt: &HostRuntime) -> Result<Vec<(String, String)>, AllocError> {
+// The text of the host list, which begins elsewhere for each process where it has `--randomize`.
+fn turned_for(rt: &HostRuntime, text: String) -> Result<String, AllocError> {
+    let share = spread(process::id(rt.process()));
+    let bytes = turned(rt.alloc(), text.as_bytes(), share)?;
+    Ok(String::from_utf8(bytes.into_vec()).unwrap_or(text))
+}
+
+// The variables that are set. A single command begins with an entry of its own.
+fn variables_of(rt: &HostRuntime, is_single: bool) -> Result<Vec<(String, String)>, AllocError> {
     let alloc = rt.alloc();
     let mut variables = Vec::new(alloc);
     for name in VARIABLES {
-        if let Some(value) = variable(rt, name)? {
+        if let Some(mut value) = variable(rt, name)? {
+            if is_single && name == HOSTS {
+                value = turned_for(rt, value)?;
+            }
             variables.push((String::from_str(alloc, name)?, value))?;
         }
     }
     Ok(variables)
 }
 
-// Runs `farm` on the program's words, its environment and the standard streams, and answers its exit status. It may wait
-// for a slot.
-fn run<W: Threads + Wait + Sync>(waits: &W, rt: &HostRuntime) -> Result<u8, AllocError> {
+// Runs `farm` on these words, the environment and the standard streams, tells in plain words what was refused, and answers the exit
+// status. It may wait for a slot.
+fn run<W: Threads + Wait + Sync>(
+    waits: &W,
+    rt: &HostRuntime,
+    words: &[String],
+) -> Result<u8, AllocError> {
     let alloc = rt.alloc();
-    let words = words_of(rt)?;
-    let variables = variables_of(rt)?;
+    let variables = variables_of(rt, compile_command(words).is_some())?;
     let folder = own_folder(rt)?;
-    let mut kits = system_kits(*rt, alloc, folder.as_str(), process::id(rt.process()), KITS)?;
-    let mut input = StdSource::new(rt.stdin());
+    let process = process::id(rt.process());
+    let mut kits = system_kits(*rt, alloc, folder.as_str(), process, KITS)?;
+    let mut input = KeptSource::new(alloc, StdSource::new(rt.stdin()));
     let mut out = StdSink::new(rt.stdout());
     let mut err = StdSink::new(rt.stderr());
     let ended = farm(
         waits,
         alloc,
-        words.as_slice(),
+        words,
         variables.as_slice(),
         &mut input,
         &mut kits,
         &mut out,
         &mut err,
     );
+    let given = Given {
+        words,
+        variables: variables.as_slice(),
+        list: input.kept().unwrap_or(&[]),
+    };
+    if ended.built.is_empty() && ended.status != 0 {
+        tell_refusal(rt, alloc, &given);
+    }
+    tell_carriage_return(rt, given.list);
     Ok(ended.status)
 }
 
+// Does what the words of the command line ask for, and answers the exit status.
+fn serve<W: Threads + Wait + Sync>(waits: &W, rt: &HostRuntime) -> Result<u8, AllocError> {
+    let alloc = rt.alloc();
+    let mut words = words_of(rt)?;
+    if let Some(command) = compile_command(words.as_slice()) {
+        let command = bytes_of(alloc, command)?;
+        if replaces_source(rt, alloc, &command)? {
+            return Ok(REFUSED);
+        }
+        tell_input(rt, &command);
+        add_dependencies(alloc, &mut words, &command)?;
+    }
+    run(waits, rt, words.as_slice())
+}
+
 fn main(rt: HostRuntime) -> ExitCode {
-    if let Ok(status) = run(&rt, &rt) {
+    if let Ok(status) = serve(&rt, &rt) {
         return ExitCode::from(status);
     }
     let _ = eprintln!(rt; "farm: no memory");

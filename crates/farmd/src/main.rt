@@ -1,11 +1,14 @@
 //! The program `farmd`: the call `farmd` over the devices of the system.
 #![tactic(auto)]
 
+mod beginning;
+
 ghost use Rattle.std.specs.Prelude.{◌≡◌, ◌≤◌, true, false, length, map, Some, IfOk, IfSome, string_bytes};
 ghost use Rattle.daemon_words.specs.Commands.{trusts};
 ghost use Rattle.edge_real.specs.Views.{policy_of as station_policy};
 
 use access_list::AccessList;
+use beginning::tell_beginning;
 use daemon_program::{DoorPlace, door_place, farmd};
 use daemon_words::{Command, Options, parse_words, rules_of, settings_of, trusts_options};
 use daemon_worker::DoorKit;
@@ -108,6 +111,7 @@ fn open_doors(
 // The doors at a place. Where `farmd` isn't to serve, there is one that is closed.
 fn doors_at(
     rt: &HostRuntime,
+    words: &[String],
     place: Option<DoorPlace>,
     access: AccessList,
     policy: WordPolicy,
@@ -122,6 +126,9 @@ fn doors_at(
             if !first.is_open() {
                 warn!(rt; "cannot listen");
                 first.tell_refusal();
+            }
+            if let Some(port) = first.port() {
+                tell_beginning(rt, words, &place, port)?;
             }
             open_doors(rt, first, place.doors, policy)
         }
@@ -140,7 +147,7 @@ fn doors_of(rt: &HostRuntime) -> Result<(Vec<String>, Vec<SystemDoor>), AllocErr
         warn!(rt; "every peer is let in, since no rule says who is");
     }
     let access = access_of(rt, words.as_slice())?;
-    let doors = doors_at(rt, place, access, policy_of(words.as_slice()))?;
+    let doors = doors_at(rt, words.as_slice(), place, access, policy_of(words.as_slice()))?;
     Ok((words, doors))
 }
 

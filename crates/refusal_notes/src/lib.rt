@@ -1,0 +1,8 @@
+//! What a refusal is told as in plain words, behind the line that has its numbers.
+#![tactic(auto)]
+
+mod advice;
+mod faults;
+
+pub use advice::{Advice, advice_on};
+pub use faults::{host_reason, job_reason};
