@@ -1,5 +1,6 @@
 -- What the way of a station beside a book says of the book's counts.
-use Rattle.std.proofs.Common.{◌≡◌, inl, inr, ℕ, suc, ◌+◌, ◌*◌, ◌<◌, ◌≤◌, nat_eq, Bool, true, false, List, [], ◌∷◌, ◌++◌, length, map, reverse, take, drop, refl, sym, ◌∙◌, ap, subst, length-append, arith}
+use Rattle.std.proofs.Common.{◌≡◌, inl, inr, ℕ, suc, ◌+◌, ◌*◌, ◌<◌, ◌≤◌, nat_eq, Bool, true, false, List, [], ◌∷◌, ◌++◌, length, map}
+use Rattle.std.proofs.Common.{reverse, take, drop, refl, sym, ◌∙◌, ap, subst, length-append, arith}
 use Rattle.std.specs.Prelude.{Option, Some, Result, Ok, Err, ◌||◌, cond, bytes_eq, All, if◌then◌else◌}
 use Rattle.std.specs.List.{list_any, find}
 use Rattle.std.specs.Option.{option_map}
@@ -44,14 +45,17 @@ use Rattle.daemon_program.specs.Counts.{is_compile_status, is_compiled, compiled
 
 -- ---- programs, answers
 
-short_found : (b : Bool) (row : Compiler) (rest : Option Compiler) (program : List ℕ) → length row.program < 4294967296 → (option_map (λ (r : Compiler). r.program) rest ≡ Some program → length program < 4294967296)
+short_found : (b : Bool) (row : Compiler) (rest : Option Compiler) (program : List ℕ) → length row.program < 4294967296
+    → (option_map (λ (r : Compiler). r.program) rest ≡ Some program → length program < 4294967296)
     → option_map (λ (r : Compiler). r.program) (cond b (Some row) rest) ≡ Some program → length program < 4294967296
 short_found true row rest program here there is = let same : row.program ≡ program = cc is in subst (λ p. length p < 4294967296) same here
 short_found false row rest program here there is = there is
 
-short_program : (rows : List Compiler) (name program : List ℕ) → AreShort rows → program_of rows name ≡ Some program → length program < 4294967296
+short_program : (rows : List Compiler) (name program : List ℕ) → AreShort rows → program_of rows name ≡ Some program
+    → length program < 4294967296
 short_program [] name program short is = absurd (cc is)
-short_program (row ∷ rows) name program short is = short_found (bytes_eq row.name name) row (find (λ r. bytes_eq r.name name) rows) program short.0 (short_program rows name program short.1) is
+short_program (row ∷ rows) name program short is = short_found (bytes_eq row.name name) row
+    (find (λ r. bytes_eq r.name name) rows) program short.0 (short_program rows name program short.1) is
 
 none_compiled : (answer : Served) → IsUncompiled answer → is_compiled (met.Served answer) ≡ false
 none_compiled (Answered status) (inl is) = ap is_compile_status is
@@ -63,7 +67,8 @@ none_compiled Stopped is = refl
 none_compiled StationFault is = refl
 none_compiled Memory is = refl
 
-wanted_compiled : (answer : Served) (ended : Result Ran RunStop) → IsEnded ended answer → ended ≡ Err stop.Memory → is_compiled (met.Served answer) ≡ false
+wanted_compiled : (answer : Served) (ended : Result Ran RunStop) → IsEnded ended answer → ended ≡ Err stop.Memory
+    → is_compiled (met.Served answer) ≡ false
 wanted_compiled (Answered status) ended is none = absurd (cc (is.1, none))
 wanted_compiled (Refused at fault) ended is none = refl
 wanted_compiled (Cut have) ended is none = refl
@@ -72,7 +77,8 @@ wanted_compiled Stopped ended is none = refl
 wanted_compiled StationFault ended is none = refl
 wanted_compiled Memory ended is none = refl
 
-came : (answer : Served) (ended : Result Ran RunStop) → IsEnded ended answer → is_failed (met.Served answer) ≡ false → (ran : Ran) × (ended ≡ Ok ran)
+came : (answer : Served) (ended : Result Ran RunStop) → IsEnded ended answer → is_failed (met.Served answer) ≡ false
+    → (ran : Ran) × (ended ≡ Ok ran)
 came (Answered status) ended is calm = (is.0, is.1)
 came (Refused at fault) ended is calm = is
 came (Cut have) ended is calm = is
@@ -104,7 +110,8 @@ few_run : {E : Type 0} (words : List Word) (input : List ℕ) (result : Result R
 few_run words input (Ok ran) = omega arith
 few_run words input (Err fault) = omega arith
 
-one_run : {E : Type 0} (words : List Word) (input : List ℕ) (result : Result Ran E) (ran : Ran) → result ≡ Ok ran → length (run_entries words input result) ≡ 1
+one_run : {E : Type 0} (words : List Word) (input : List ℕ) (result : Result Ran E) (ran : Ran) → result ≡ Ok ran
+    → length (run_entries words input result) ≡ 1
 one_run words input result ran is = ap (λ r. length (run_entries words input r)) is
 
 -- ---- books
@@ -113,13 +120,16 @@ kept_counts : (entry : Kept) (old new : BookView) → Keeps entry old new → (n
 kept_counts entry old new (inl is) = (ap (λ b. b.hits) is, ap (λ b. b.misses) is)
 kept_counts entry old new (inr is) = (ap (λ b. b.hits) is.1, ap (λ b. b.misses) is.1)
 
-chosen_counts : (b : Bool) (entry : Kept) (old new : BookView) → MatchBool b (Keeps entry old new) (new ≡ old) → (new.hits ≡ old.hits) × (new.misses ≡ old.misses)
+chosen_counts : (b : Bool) (entry : Kept) (old new : BookView) → MatchBool b (Keeps entry old new) (new ≡ old)
+    → (new.hits ≡ old.hits) × (new.misses ≡ old.misses)
 chosen_counts true entry old new is = kept_counts entry old new is
 chosen_counts false entry old new is = (ap (λ b. b.hits) is, ap (λ b. b.misses) is)
 
 module _ {S : Type 0} (shows : S → StationView) where
-  learned_counts : (words : List Word) (input : List ℕ) (old new : BookView) (result : Result Ran RunStop) → Learned shows words input old new result → (new.hits ≡ old.hits) × (new.misses ≡ one_more old.misses)
-  learned_counts words input old new (Ok ran) is = chosen_counts (nat_eq ran.status 0) (record { words = words; input = input; ran = ran }) (after_miss old) new is
+  learned_counts : (words : List Word) (input : List ℕ) (old new : BookView) (result : Result Ran RunStop)
+      → Learned shows words input old new result → (new.hits ≡ old.hits) × (new.misses ≡ one_more old.misses)
+  learned_counts words input old new (Ok ran) is = chosen_counts (nat_eq ran.status 0) (record { words = words; input = input; ran = ran })
+      (after_miss old) new is
   learned_counts words input old new (Err fault) is = (ap (λ b. b.hits) is, ap (λ b. b.misses) is)
 
   -- what one connection adds
@@ -131,7 +141,8 @@ module _ {S : Type 0} (shows : S → StationView) where
     misses : length runs + old.book.misses ≤ new.book.misses
     exact : is_failed what ≡ false → length runs + old.book.misses ≡ new.book.misses
 
-  nothing : (what : Met) (old new : Cached S) → is_compiled what ≡ false → new.station ≡ old.station → new.book ≡ old.book → Counts what old new
+  nothing : (what : Met) (old new : Cached S) → is_compiled what ≡ false → new.station ≡ old.station → new.book ≡ old.book
+      → Counts what old new
   nothing what old new none station book =
       let hits : new.book.hits ≡ old.book.hits = ap (λ b. b.hits) book in
       let misses : new.book.misses ≡ old.book.misses = ap (λ b. b.misses) book in
@@ -144,7 +155,8 @@ module _ {S : Type 0} (shows : S → StationView) where
         exact = λ calm. omega (arith, misses);
       }
 
-  by_run : (answer : Served) (words : List Word) (input : List ℕ) (bounds : Bounds) (old new : Cached S) (ended : Result Ran RunStop) → old.book.hits + old.book.misses < greatest → is_cacheable words input ≡ true
+  by_run : (answer : Served) (words : List Word) (input : List ℕ) (bounds : Bounds) (old new : Cached S) (ended : Result Ran RunStop)
+      → old.book.hits + old.book.misses < greatest → is_cacheable words input ≡ true
       → IsEnded ended answer → CacheRun shows words input bounds old new ended → Counts (met.Served answer) old new
   by_run answer words input bounds old new ended room may is (hit entry cacheable found result station book) =
       let hits : new.book.hits ≡ old.book.hits + 1 = ap (λ b. b.hits) book ∙ raised old.book.hits (omega (arith, room)) in
@@ -177,16 +189,19 @@ module _ {S : Type 0} (shows : S → StationView) where
   went c words input bounds result new = CacheRun shows words input bounds c new result
 
   module _ (table : List Compiler) (short : AreShort table) where
-    by_calls : (answer : Served) (old new : Cached S) → old.book.hits + old.book.misses < greatest → Calls went table old new answer → Counts (met.Served answer) old new
+    by_calls : (answer : Served) (old new : Cached S) → old.book.hits + old.book.misses < greatest → Calls went table old new answer
+        → Counts (met.Served answer) old new
     by_calls answer old new room (uncalled same none) =
         nothing (met.Served answer) old new (none_compiled answer none) (ap (λ c. c.station) same) (ap (λ c. c.book) same)
     by_calls answer old new room (called q program ended fits remote named run is) =
         by_run answer (with_program program (placed_words q.words)) q.source compile_bounds old new ended room
         (cacheable q.words q.source program fits remote (short_program table (first_word q.words) program short named)) is run
 
-    by_meeting : (what : Met) (old new : Cached S) → old.book.hits + old.book.misses < greatest → MetCalls went table old new what → Counts what old new
+    by_meeting : (what : Met) (old new : Cached S) → old.book.hits + old.book.misses < greatest → MetCalls went table old new what
+        → Counts what old new
     by_meeting (met.Served answer) old new room calls = by_calls answer old new room calls
-    by_meeting (met.Denied addr rule) old new room same = nothing (met.Denied addr rule) old new refl (ap (λ c. c.station) same) (ap (λ c. c.book) same)
+    by_meeting (met.Denied addr rule) old new room same = nothing (met.Denied addr rule) old new refl (ap (λ c. c.station) same)
+        (ap (λ c. c.book) same)
     by_meeting met.DoorFault old new room same = nothing met.DoorFault old new refl (ap (λ c. c.station) same) (ap (λ c. c.book) same)
     by_meeting met.DoorMemory old new room same = nothing met.DoorMemory old new refl (ap (λ c. c.station) same) (ap (λ c. c.book) same)
 
@@ -199,7 +214,8 @@ module _ {S : Type 0} (shows : S → StationView) where
       misses : length runs + old.book.misses ≤ new.book.misses
       exact : list_any (λ (entry : Entry). is_failed entry.what) entries ≡ false → length runs + old.book.misses ≡ new.book.misses
 
-    one_more_counted : (entry : Entry) (entries : List Entry) (old mid new : Cached S) → Counts entry.what old mid → AllCounts entries mid new → AllCounts (entry ∷ entries) old new
+    one_more_counted : (entry : Entry) (entries : List Entry) (old mid new : Cached S) → Counts entry.what old mid
+        → AllCounts entries mid new → AllCounts (entry ∷ entries) old new
     one_more_counted entry entries old mid new first rest =
         let both : length (first.runs ++ rest.runs) ≡ length first.runs + length rest.runs = length-append first.runs rest.runs in
         record {
@@ -212,14 +228,16 @@ module _ {S : Type 0} (shows : S → StationView) where
               omega (arith, both, first.exact parts.0, rest.exact parts.1);
         }
 
-    all_counts : (entries : List Entry) (old new : Cached S) → old.book.hits + old.book.misses + length entries < greatest → Path went table old new entries → AllCounts entries old new
+    all_counts : (entries : List Entry) (old new : Cached S) → old.book.hits + old.book.misses + length entries < greatest
+        → Path went table old new entries → AllCounts entries old new
     all_counts [] old new room same =
         let hits : new.book.hits ≡ old.book.hits = ap (λ c. c.book.hits) same in
         let misses : new.book.misses ≡ old.book.misses = ap (λ c. c.book.misses) same in
         record {
           answers = omega (arith, hits, misses);
           runs = [];
-          grew = subst (λ (c : Cached S). Grew (shows old.station).runs (shows c.station).runs []) (sym same) (Grew-refl (shows old.station).runs);
+          grew = subst (λ (c : Cached S). Grew (shows old.station).runs (shows c.station).runs []) (sym same)
+              (Grew-refl (shows old.station).runs);
           misses = omega (arith, misses);
           exact = λ calm. omega (arith, misses);
         }
@@ -227,7 +245,8 @@ module _ {S : Type 0} (shows : S → StationView) where
         let first = by_meeting entry.what old path.0 (omega (arith, room)) path.1 in
         one_more_counted entry entries old path.0 new first (all_counts entries path.0 new (omega (arith, room, first.few)) path.2)
 
-    counted : (entries : List Entry) (old new : Cached S) (bound : ℕ) → old.book ≡ new_book bound → length entries < greatest → Path went table old new entries
+    counted : (entries : List Entry) (old new : Cached S) (bound : ℕ) → old.book ≡ new_book bound → length entries < greatest
+        → Path went table old new entries
         → AreCounted shows old.station new.station entries (stats_of new.book)
     counted entries old new bound fresh room path =
         let hits : old.book.hits ≡ 0 = ap (λ b. b.hits) fresh in
@@ -243,8 +262,10 @@ module _ {S : Type 0} (shows : S → StationView) where
 
     -- ---- the doors
 
-    pub doors_counted : {A : Type 0} (bound number : ℕ) (olds news : List (DoorKit A (Cached S))) (log : List Entry) → All (λ kit. book_of kit ≡ new_book bound) olds → length log < greatest
-        → DoorsPaths went table number olds news log → DoorsCounted shows (map plain_kit olds) (map plain_kit news) log (map (λ kit. stats_of (book_of kit)) news)
+    pub doors_counted : {A : Type 0} (bound number : ℕ) (olds news : List (DoorKit A (Cached S))) (log : List Entry)
+        → All (λ kit. book_of kit ≡ new_book bound) olds → length log < greatest
+        → DoorsPaths went table number olds news log
+        → DoorsCounted shows (map plain_kit olds) (map plain_kit news) log (map (λ kit. stats_of (book_of kit)) news)
     doors_counted bound number [] [] log fresh room paths = paths
     doors_counted bound number [] (new ∷ news) log fresh room paths = absurd paths
     doors_counted bound number (old ∷ olds) [] log fresh room paths = absurd paths
@@ -253,35 +274,54 @@ module _ {S : Type 0} (shows : S → StationView) where
           paths.0,
           paths.1,
           paths.2,
-          counted paths.0 old.station new.station bound (All-head (λ kit. book_of kit ≡ new_book bound) old olds fresh) (omega (arith, all, room)) paths.3.path,
-          doors_counted bound (suc number) olds news paths.1 (All-tail (λ kit. book_of kit ≡ new_book bound) old olds fresh) (omega (arith, all, room)) paths.4,
+          counted paths.0 old.station new.station bound (All-head (λ kit. book_of kit ≡ new_book bound) old olds fresh)
+              (omega (arith, all, room)) paths.3.path,
+          doors_counted bound (suc number) olds news paths.1 (All-tail (λ kit. book_of kit ≡ new_book bound) old olds fresh)
+              (omega (arith, all, room)) paths.4,
         )
 
 -- a log is short
-pub short_log : {A T : Type 0} (table : List Compiler) (rules : List Rule) (serve : ℕ) (door : A → DoorView) (station : T → StationView) (ran : T → List Word → List ℕ → Ran → Type 0) (number : ℕ) (olds news : List (DoorKit A T)) (log : List Entry)
+pub short_log : {A T : Type 0} (table : List Compiler) (rules : List Rule) (serve : ℕ) (door : A → DoorView) (station : T → StationView)
+    (ran : T → List Word → List ℕ → Ran → Type 0) (number : ℕ) (olds news : List (DoorKit A T)) (log : List Entry)
     → serve ≤ 100000 → DoorsServed table rules serve door station ran number olds news log → length log ≤ length olds * 100000
 short_log table rules serve door station ran number [] [] log few done = omega (arith, ap length done)
 short_log table rules serve door station ran number [] (new ∷ news) log few done = absurd done
 short_log table rules serve door station ran number (old ∷ olds) [] log few done = absurd done
 short_log table rules serve door station ran number (old ∷ olds) (new ∷ news) log few done =
     let all : length log ≡ length done.0 + length done.1 = ap length done.2 ∙ length-append done.0 done.1 in
-    let mine = few_entries table rules (ran new.station) serve number (door old.door) (door new.door) (station old.station) (station new.station) done.0 done.3 in
+    let mine = few_entries table rules (ran new.station) serve number (door old.door) (door new.door) (station old.station)
+    (station new.station) done.0 done.3 in
     omega (arith, all, mine, few, short_log table rules serve door station ran (suc number) olds news done.1 few done.4)
 
 -- the counts of books are those of the doors without their books
-pub counted_plain : {A S : Type 0} (shows : S → StationView) (table : List Compiler) (rules : List Rule) (serve : ℕ) (door : A → DoorView) (ran : S → List Word → List ℕ → Ran → Type 0) (count bound : ℕ) (ins outs : List (DoorKit A (Cached S)))
-    → length ins ≡ count → (left olds news : List (DoorKit A S)) → map plain_kit ins ++ reverse left ≡ olds → news ≡ map plain_kit outs ++ reverse left → count ≤ 16 → serve ≤ 100000 → All (λ kit. book_of kit ≡ new_book bound) ins
-    → (log : List Entry) → DoorsServed table rules serve door (λ (c : Cached S). cached_shows (shows c.station)) (λ (c : Cached S). ran c.station) 1 (take count ins) (take count outs) log
+pub counted_plain : {A S : Type 0} (shows : S → StationView) (table : List Compiler) (rules : List Rule) (serve : ℕ) (door : A → DoorView)
+    (ran : S → List Word → List ℕ → Ran → Type 0) (count bound : ℕ) (ins outs : List (DoorKit A (Cached S)))
+    → length ins ≡ count → (left olds news : List (DoorKit A S)) → map plain_kit ins ++ reverse left ≡ olds
+    → news ≡ map plain_kit outs ++ reverse left → count ≤ 16 → serve ≤ 100000 → All (λ kit. book_of kit ≡ new_book bound) ins
+    → (log : List Entry) → DoorsServed table rules serve door (λ (c : Cached S). cached_shows (shows c.station))
+    (λ (c : Cached S). ran c.station) 1 (take count ins) (take count outs) log
     → DoorsPaths (went shows) table 1 (take count ins) (take count outs) log → drop count outs ≡ drop count ins
-    → (stats : List Stats) → stats ≡ map (λ kit. stats_of (book_of kit)) outs → AreShort table → DoorsCounted shows (take count olds) (take count news) log stats
+    → (stats : List Stats) → stats ≡ map (λ kit. stats_of (book_of kit)) outs → AreShort table
+    → DoorsCounted shows (take count olds) (take count news) log stats
 counted_plain shows table rules serve door ran count bound ins outs many left olds news before after few served_few fresh log served paths others stats are short =
     let same = count_ok table rules serve door shows ran count ins outs many log served others in
     let in_whole = whole count ins many in
     let out_whole = whole count outs same in
-    let room : length log < greatest = omega (arith, short_log table rules serve door (λ c. cached_shows (shows c.station)) (λ c. ran c.station) 1 (take count ins) (take count outs) log served_few served, ap length in_whole, many, few) in
-    let first : take count olds ≡ map plain_kit ins = first_of count (map plain_kit ins) (reverse left) olds (length-map ins plain_kit ∙ many) (sym before) in
-    let last : take count news ≡ map plain_kit outs = first_of count (map plain_kit outs) (reverse left) news (length-map outs plain_kit ∙ same) after in
-    let ways = subst (λ l. DoorsPaths (went shows) table 1 ins l log) out_whole (subst (λ l. DoorsPaths (went shows) table 1 l (take count outs) log) in_whole paths) in
+    let room : length log < greatest =
+    omega (
+      arith,
+      short_log table rules serve door (λ c. cached_shows (shows c.station)) (λ c. ran c.station) 1 (take count ins)
+          (take count outs) log served_few served,
+      ap length in_whole,
+      many,
+      few,
+    ) in
+    let first : take count olds ≡ map plain_kit ins =
+    first_of count (map plain_kit ins) (reverse left) olds (length-map ins plain_kit ∙ many) (sym before) in
+    let last : take count news ≡ map plain_kit outs =
+    first_of count (map plain_kit outs) (reverse left) news (length-map outs plain_kit ∙ same) after in
+    let ways = subst (λ l. DoorsPaths (went shows) table 1 ins l log) out_whole
+    (subst (λ l. DoorsPaths (went shows) table 1 l (take count outs) log) in_whole paths) in
     subst (λ l. DoorsCounted shows (take count olds) (take count news) log l) (sym are)
     (subst (λ l. DoorsCounted shows l (take count news) log (map (λ kit. stats_of (book_of kit)) outs)) (sym first)
     (subst (λ l. DoorsCounted shows (map plain_kit ins) l log (map (λ kit. stats_of (book_of kit)) outs)) (sym last)

@@ -1,5 +1,6 @@
 -- How printing ends.
-use Rattle.std.proofs.Common.{◌≡◌, ◌≢◌, ℕ, suc, ◌+◌, ◌<◌, ◌≤◌, List, [], ◌∷◌, ◌++◌, length, take, drop, get_or, ◌-◌, inl, inr, refl, sym, ◌∙◌, ap, subst, append_assoc, length-drop, arith}
+use Rattle.std.proofs.Common.{◌≡◌, ◌≢◌, ℕ, suc, ◌+◌, ◌<◌, ◌≤◌, List, [], ◌∷◌, ◌++◌, length, take, drop, get_or, ◌-◌, inl, inr, refl, sym}
+use Rattle.std.proofs.Common.{◌∙◌, ap, subst, append_assoc, length-drop, arith}
 use Rattle.std.specs.Prelude.{Result, Ok, Err, OnOk, OnErr}
 use Rattle.std.proofs.Math.Seq.{take-length}
 use Rattle.std.proofs.lemmas.List.{take-append-drop, append-nil}
@@ -19,7 +20,8 @@ use Rattle.daemon_program.specs.Endings.{IsPart, Noticed, told_whole, told_stopp
 rest_left : (n : ℕ) (text : List ℕ) → n < length text → drop n text ≢ []
 rest_left n text less none = omega (arith, less, length-drop n text, ap length none)
 
-pub part_of : (text : List ℕ) (n : ℕ) (old new : SinkView) → n < length text → Grew old.written new.written (take n text) → IsPart text old new
+pub part_of : (text : List ℕ) (n : ℕ) (old new : SinkView) → n < length text → Grew old.written new.written (take n text)
+    → IsPart text old new
 part_of text n old new less grew = record {
   front = take n text;
   rest = drop n text;
@@ -51,13 +53,16 @@ notice_stopped old new part stop = record { told = part.front; grew = part.grew;
 pub notice_wanted : (old new : SinkView) → IsPart no_memory_text old new → GoesOn old new → WantsAfter [] old new 105
 notice_wanted old new part on = record { told = part.front; grew = part.grew; noticed = told_wanted part.rest part.parts part.left on refl }
 
-notice_then : (old mid new : SinkView) (answer : ℕ) (told : List ℕ) → GoesOn old mid → Noticed mid new answer told → Noticed old new answer told
+notice_then : (old mid new : SinkView) (answer : ℕ) (told : List ℕ) → GoesOn old mid → Noticed mid new answer told
+    → Noticed old new answer told
 notice_then old mid new answer told on (told_whole is more status) = told_whole is (goes_then on more) status
-notice_then old mid new answer told on (told_stopped rest parts left stop status) = told_stopped rest parts left (stop_then old mid new on stop) status
+notice_then old mid new answer told on (told_stopped rest parts left stop status) = told_stopped rest parts left
+    (stop_then old mid new on stop) status
 notice_then old mid new answer told on (told_wanted rest parts left more status) = told_wanted rest parts left (goes_then on more) status
 
 -- a part of a text, and then the notice
-pub part_wanted : (text : List ℕ) (status : ℕ) (old mid new : SinkView) (answer : ℕ) → IsPart text old mid → GoesOn old mid → WantsAfter [] mid new answer → Ends text status old new answer
+pub part_wanted : (text : List ℕ) (status : ℕ) (old mid new : SinkView) (answer : ℕ) → IsPart text old mid → GoesOn old mid
+    → WantsAfter [] mid new answer → Ends text status old new answer
 part_wanted text status old mid new answer part on wants = wanted part.front part.rest part.parts part.left (record {
   told = wants.told;
   grew = Grew-join part.grew wants.grew refl;
@@ -65,7 +70,8 @@ part_wanted text status old mid new answer part on wants = wanted part.front par
 })
 
 -- nothing of a text, and then the notice
-pub none_wanted : (text : List ℕ) (status : ℕ) (old new : SinkView) (answer : ℕ) → text ≢ [] → WantsAfter [] old new answer → Ends text status old new answer
+pub none_wanted : (text : List ℕ) (status : ℕ) (old new : SinkView) (answer : ℕ) → text ≢ [] → WantsAfter [] old new answer
+    → Ends text status old new answer
 none_wanted text status old new answer some wants = wanted [] text refl some wants
 
 -- ---- line after line
@@ -97,7 +103,9 @@ module _ (all left line more : List ℕ) (old mid : SinkView) (so_far : SoFar al
   failed_line new part = record {
     front = so_far.done ++ part.front;
     rest = part.rest ++ more;
-    parts = text_is ∙ ap (λ l. (so_far.done ++ l) ++ more) part.parts ∙ ap (λ l. l ++ more) (sym (append_assoc so_far.done part.front part.rest)) ∙ append_assoc (so_far.done ++ part.front) part.rest more;
+    parts = text_is ∙ ap (λ l. (so_far.done ++ l) ++ more) part.parts
+        ∙ ap (λ l. l ++ more) (sym (append_assoc so_far.done part.front part.rest))
+        ∙ append_assoc (so_far.done ++ part.front) part.rest more;
     left = more_left part.rest more part.left;
     grew = Grew-join so_far.grew part.grew refl;
   }
@@ -116,7 +124,8 @@ no_more [] few = refl
 no_more (x ∷ rest) few = absurd (omega (arith, few))
 
 -- the first of some elements, and the others
-pub one_part : {T : Type 0} (other : T) (rest : List T) → 1 ≤ length rest → rest ≡ get_or rest 0 other ∷ take (length rest - 1) (drop 1 rest)
+pub one_part : {T : Type 0} (other : T) (rest : List T) → 1 ≤ length rest
+    → rest ≡ get_or rest 0 other ∷ take (length rest - 1) (drop 1 rest)
 one_part other [] some = absurd (omega (arith, some))
 one_part other (x ∷ more) some =
     let left : length more ≡ length (x ∷ more) - 1 = omega arith in
@@ -135,7 +144,8 @@ part_first text more old new part = record {
 }
 
 -- the first, and a part of the second
-pub part_second : (text more : List ℕ) (old mid new : SinkView) → Grew old.written mid.written text → IsPart more mid new → IsPart (text ++ more) old new
+pub part_second : (text more : List ℕ) (old mid new : SinkView) → Grew old.written mid.written text → IsPart more mid new
+    → IsPart (text ++ more) old new
 part_second text more old mid new grew part = record {
   front = text ++ part.front;
   rest = part.rest;
@@ -145,15 +155,19 @@ part_second text more old mid new grew part = record {
 }
 
 -- the first, and then what became of the second
-pub second_part : {A : Type 0} (text more : List ℕ) (old mid new : SinkView) (result : Result A PrintStop) → Grew old.written mid.written text → OnErr result (IsPart more mid new) → OnErr result (IsPart (text ++ more) old new)
+pub second_part : {A : Type 0} (text more : List ℕ) (old mid new : SinkView) (result : Result A PrintStop)
+    → Grew old.written mid.written text → OnErr result (IsPart more mid new) → OnErr result (IsPart (text ++ more) old new)
 second_part text more old mid new (Ok done) grew part = tt
 second_part text more old mid new (Err stop) grew part = part_second text more old mid new grew part
 
-pub second_all : {A : Type 0} (text more : List ℕ) (old mid new : SinkView) (result : Result A PrintStop) → Grew old.written mid.written text → OnOk result (Grew mid.written new.written more) → OnOk result (Grew old.written new.written (text ++ more))
+pub second_all : {A : Type 0} (text more : List ℕ) (old mid new : SinkView) (result : Result A PrintStop)
+    → Grew old.written mid.written text → OnOk result (Grew mid.written new.written more)
+    → OnOk result (Grew old.written new.written (text ++ more))
 second_all text more old mid new (Ok done) grew all = Grew-join grew all refl
 second_all text more old mid new (Err stop) grew all = tt
 
-pub second_on : {A : Type 0} (old mid new : SinkView) (result : Result A PrintStop) → GoesOn old mid → OnOk result (GoesOn mid new) → OnOk result (GoesOn old new)
+pub second_on : {A : Type 0} (old mid new : SinkView) (result : Result A PrintStop) → GoesOn old mid → OnOk result (GoesOn mid new)
+    → OnOk result (GoesOn old new)
 second_on old mid new (Ok done) on more = goes_then on more
 second_on old mid new (Err stop) on more = tt
 
@@ -165,7 +179,8 @@ abbrev pub no_stats : Stats
 no_stats = record { hits = 0; misses = 0; unkept = 0; bytes = 0 }
 
 -- the line of the first of some books, and the lines of the others
-pub first_book : (door : ℕ) (stats : Stats) (books more : List Stats) → books ≡ stats ∷ more → books_text door books ≡ book_line door stats ++ books_text (door + 1) more
+pub first_book : (door : ℕ) (stats : Stats) (books more : List Stats) → books ≡ stats ∷ more
+    → books_text door books ≡ book_line door stats ++ books_text (door + 1) more
 first_book door stats books more are =
     let next : suc door ≡ door + 1 = omega arith in
     ap (books_text door) are ∙ ap (λ n. book_line door stats ++ books_text n more) next

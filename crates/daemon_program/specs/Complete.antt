@@ -30,7 +30,8 @@ module _ {A S : Type 0} (door : A → DoorView) (station : S → StationView) (r
   AllSmooth [] news = Unit {0}
   AllSmooth (old ∷ olds) [] = Unit {0}
   AllSmooth (old ∷ olds) (new ∷ news) =
-      NoneFailed (door old.door) (door new.door) (station old.station) (station new.station) × CalmVisits (door old.door) (door new.door) × AllSmooth olds news
+      NoneFailed (door old.door) (door new.door) (station old.station) (station new.station) × CalmVisits (door old.door) (door new.door)
+      × AllSmooth olds news
 
   -- the log of these doors, each of whose connections was answered rightly
   abbrev pub DoorsRight : List Compiler → List Rule → ℕ → ℕ → List (DoorKit A S) → List (DoorKit A S) → List Entry → Type 0
@@ -39,7 +40,8 @@ module _ {A S : Type 0} (door : A → DoorView) (station : S → StationView) (r
   DoorsRight table rules serve number (old ∷ olds) [] log = ⊥
   DoorsRight table rules serve number (old ∷ olds) (new ∷ news) log =
       (mine : List Entry) × (more : List Entry) × (log ≡ mine ++ more)
-      × (served : DoorServed table rules serve number (ran new.station) (door old.door) (door new.door) (station old.station) (station new.station) mine)
+      × (served : DoorServed table rules serve number (ran new.station) (door old.door) (door new.door) (station old.station)
+      (station new.station) mine)
       × AllRight served.cs × DoorsRight table rules serve (suc number) olds news more
 
   -- nothing failed: neither a used door or its station, nor the sink, and no send or write took nothing
@@ -54,8 +56,10 @@ module _ {A S : Type 0} (door : A → DoorView) (station : S → StationView) (r
   pub data Completed (words : List (List ℕ)) (options : Options) (olds news : List (DoorKit A S)) (answer : ℕ) : Type 0 where
     nothing : news ≡ olds → answer ≡ 105 → Completed words options olds news answer
     all : (config : DaemonConfig) (log : List Entry) → IsConfig words options config → book_bound options ≡ None
-        → DoorsRight door station ran config.table.rows config.access.rules config.serve 1 (take (doors_used options olds) olds) (take (doors_used options olds) news) log
+        → DoorsRight door station ran config.table.rows config.access.rules config.serve 1 (take (doors_used options olds) olds)
+        (take (doors_used options olds) news) log
         → (answer ≡ 0) ⊎ (answer ≡ 105) → Completed words options olds news answer
     beside : (config : DaemonConfig) (log : List Entry) (bound : ℕ) → IsConfig words options config → book_bound options ≡ Some bound
-        → DoorsRight door (λ s. cached_shows (station s)) ran config.table.rows config.access.rules config.serve 1 (take (doors_used options olds) olds) (take (doors_used options olds) news) log
+        → DoorsRight door (λ s. cached_shows (station s)) ran config.table.rows config.access.rules config.serve 1
+        (take (doors_used options olds) olds) (take (doors_used options olds) news) log
         → (answer ≡ 0) ⊎ (answer ≡ 105) → Completed words options olds news answer

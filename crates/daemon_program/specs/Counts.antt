@@ -37,7 +37,8 @@ abbrev pub AreShort : List Compiler → Type 0
 AreShort [] = Unit {0}
 AreShort (row ∷ rows) = (length row.program < 4294967296) × AreShort rows
 
--- Each answer of a compile was a hit or a miss, and each new run of the station a miss; where neither the station failed nor memory was wanting,
+-- Each answer of a compile was a hit or a miss, and each new run of the station a miss; where neither the station failed nor memory was
+-- wanting,
 -- each miss was a run.
 pub record AreCounted {S : Type 0} (shows : S → StationView) (before after : S) (entries : List Entry) (stats : Stats) : Type 0 where
   pub answers : compiled_in entries ≤ stats.hits + stats.misses
@@ -50,7 +51,8 @@ pub record AreCounted {S : Type 0} (shows : S → StationView) (before after : S
 abbrev pub DoorsCounted : {A S : Type 0} → (S → StationView) → List (DoorKit A S) → List (DoorKit A S) → List Entry → List Stats → Type 0
 DoorsCounted shows [] [] log [] = log ≡ []
 DoorsCounted shows (old ∷ olds) (new ∷ news) log (stats ∷ books) =
-    (mine : List Entry) × (more : List Entry) × (log ≡ mine ++ more) × AreCounted shows old.station new.station mine stats × DoorsCounted shows olds news more books
+    (mine : List Entry) × (more : List Entry) × (log ≡ mine ++ more) × AreCounted shows old.station new.station mine stats
+    × DoorsCounted shows olds news more books
 DoorsCounted shows [] (new ∷ news) log books = ⊥
 DoorsCounted shows [] [] log (stats ∷ books) = ⊥
 DoorsCounted shows (old ∷ olds) [] log books = ⊥

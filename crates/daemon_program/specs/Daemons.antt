@@ -1,5 +1,6 @@
 -- What `farmd` does by its words.
-use Rattle.std.specs.Prelude.{◌≡◌, ℕ, min, Bool, true, false, List, [], ◌++◌, length, take, drop, unwrap_or, Some, None, Result, Ok, Err, if◌then◌else◌}
+use Rattle.std.specs.Prelude.{◌≡◌, ℕ, min, Bool, true, false, List, [], ◌++◌, length, take, drop, unwrap_or, Some, None, Result, Ok, Err}
+use Rattle.std.specs.Prelude.{if◌then◌else◌}
 use Rattle.std.specs.List.{list_any}
 use Rattle.farm_types.specs.declared.placed.Word.{Word}
 use Rattle.farm_types.specs.declared.ran.Ran.{Ran}
@@ -47,19 +48,25 @@ doors_used options doors = min (unwrap_or options.jobs 4) (length doors)
 
 module _ {A S : Type 0} (door : A → DoorView) (station : S → StationView) (ran : S → List Word → List ℕ → Ran → Type 0) where
   -- Memory was wanting before anything was served. Or the doors were served, the others are as before, and the log was printed;
-  -- where each door's station stood beside a book, it told no runs, each book's counts are those of its door's connections and of its station's own
+  -- where each door's station stood beside a book, it told no runs, each book's counts are those of its door's connections and of its
+  -- station's own
   -- new runs, and the lines of the books were printed behind the log.
-  pub data Serves (words : List (List ℕ)) (options : Options) (olds news : List (DoorKit A S)) (old new : SinkView) (answer : ℕ) : Type 0 where
+  pub data Serves (words : List (List ℕ)) (options : Options) (olds news : List (DoorKit A S)) (old new : SinkView)
+      (answer : ℕ) : Type 0 where
     unserved : news ≡ olds → WantsAfter [] old new answer → Serves words options olds news old new answer
     served : (config : DaemonConfig) (log : List Entry) → IsConfig words options config → book_bound options ≡ None
-        → DoorsServed config.table.rows config.access.rules config.serve door station ran 1 (take (doors_used options olds) olds) (take (doors_used options olds) news) log
+        → DoorsServed config.table.rows config.access.rules config.serve door station ran 1 (take (doors_used options olds) olds)
+        (take (doors_used options olds) news) log
         → drop (doors_used options olds) news ≡ drop (doors_used options olds) olds
         → Ends (log_text log) (log_status log) old new answer → Serves words options olds news old new answer
-    cached : (config : DaemonConfig) (log : List Entry) (bound : ℕ) (books : List Stats) → IsConfig words options config → book_bound options ≡ Some bound
-        → DoorsServed config.table.rows config.access.rules config.serve door (λ s. cached_shows (station s)) ran 1 (take (doors_used options olds) olds) (take (doors_used options olds) news) log
+    cached : (config : DaemonConfig) (log : List Entry) (bound : ℕ) (books : List Stats) → IsConfig words options config
+        → book_bound options ≡ Some bound
+        → DoorsServed config.table.rows config.access.rules config.serve door (λ s. cached_shows (station s)) ran 1
+        (take (doors_used options olds) olds) (take (doors_used options olds) news) log
         → drop (doors_used options olds) news ≡ drop (doors_used options olds) olds
         → length books ≡ doors_used options olds
-        → (AreShort config.table.rows → DoorsCounted station (take (doors_used options olds) olds) (take (doors_used options olds) news) log books)
+        → (AreShort config.table.rows
+        → DoorsCounted station (take (doors_used options olds) olds) (take (doors_used options olds) news) log books)
         → Ends (log_text log ++ books_text 1 books) (log_status log) old new answer → Serves words options olds news old new answer
 
   -- what is done by these words: bad ones are told with their place, and nothing is served

@@ -8,6 +8,7 @@ pub mod Soundness
 pub mod TableLemmas
 pub mod Held
 pub mod Reading
+pub mod Members
 pub mod Promise
 pub mod Front
 pub mod Sets

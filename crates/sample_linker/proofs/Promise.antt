@@ -1,5 +1,6 @@
 -- Linking the objects of sources keeps its promise.
-use Rattle.std.proofs.Common.{◌≡◌, ℕ, zero, suc, ◌<◌, Bool, true, false, cond, List, [], ◌∷◌, ◌++◌, length, map, get_or, Option, Some, None, Result, Ok, refl, ap, sym, ◌∙◌, subst, ◌⊎◌, inl, inr, ⊎_elim, append_assoc, arith}
+use Rattle.std.proofs.Common.{◌≡◌, ℕ, zero, suc, ◌<◌, Bool, true, false, cond, List, [], ◌∷◌, ◌++◌, length, map, get_or, Option, Some, None}
+use Rattle.std.proofs.Common.{Result, Ok, refl, ap, sym, ◌∙◌, subst, ◌⊎◌, inl, inr, ⊎_elim, append_assoc, arith}
 use Rattle.std.specs.Prelude.{All, MatchOption, MatchResult, MatchBool, ◌||◌}
 use Rattle.std.specs.List.{Contains}
 use Rattle.std.specs.Str.{bytes_eq}
@@ -31,195 +32,39 @@ use Rattle.sample_linker.specs.Right.{AreRightItems}
 use Rattle.sample_linker.specs.Orders.{Uses, LeadTo, GoRound, IsNext, IsImageOrder}
 use Rattle.sample_linker.specs.Links.{definitions, doubled, unresolved, image_of, OrderedTo, ItemsLinkTo}
 use Rattle.sample_linker.specs.Values.{main_name, MainIs, ItemsHaveValue, IsValue}
-use Rattle.sample_linker.specs.Sources.{AreSources, FitsText, FitsTexts, FitsSources, UsesItself, CanLink, FitOnce, MainFits, Promised, together, LinksSources}
+use Rattle.sample_linker.specs.Sources.{AreSources, FitsText, FitsTexts, FitsSources, UsesItself, CanLink, FitOnce, MainFits, Promised}
+use Rattle.sample_linker.specs.Sources.{together, LinksSources}
 use Rattle.sample_linker.proofs.Spelling.{file_reads}
 use Rattle.sample_linker.proofs.SourceItems.{source_says}
 use Rattle.sample_linker.proofs.Numbers.{agree_at, holding_small, holding_agree, ItemsHold-append, last_named, same_bytes}
 use Rattle.sample_linker.proofs.Placed.{image_says, definitions_right, order_right, order_declared, order_holds}
-
-unlike : {P : Type 0} → true ≡ false → P
-unlike h = cc
-
--- ---- members
-
-abbrev pub Member : Item → List Item → Type 0
-Member x [] = ⊥
-Member x (y ∷ ys) = (y ≡ x) ⊎ Member x ys
-
-member_mid : (front back : List Item) (x : Item) → Member x (front ++ x ∷ back)
-member_mid [] back x = inl refl
-member_mid (y ∷ front) back x = inr (member_mid front back x)
-
-member_at : (xs : List Item) (k : ℕ) (x : Item) → k < length xs → get_or xs k x ≡ x → Member x xs
-member_at [] k x h e = absurd (omega (arith, h))
-member_at (y ∷ ys) zero x h e = inl e
-member_at (y ∷ ys) (suc k) x h e = inr (member_at ys k x (omega (arith, h)) e)
-
-pub member_contained : (xs : List Item) (x : Item) → Contains xs x → Member x xs
-member_contained xs x h = member_at xs h.0 x h.1 h.2
-
-same_name : (item : Item) (name : List ℕ) → bytes_eq (name_of item) name ≡ true → name_of item ≡ name
-same_name item name h = same_text (name_of item) name (sym h)
-
-pub named_member : (items : List Item) (name : List ℕ) → is_named items name ≡ true → (item : Item) × Member item items × (name_of item ≡ name)
-named_member [] name h = unlike (sym h)
-named_member (item ∷ items) name h =
-    ⊎_elim (λ here. (item, inl refl, same_name item name here))
-    (λ later. let found = named_member items name later in (found.0, inr found.1, found.2))
-    (or_cases (bytes_eq (name_of item) name) (is_named items name) h)
-
-not_named : (earlier : List Item) (b : Bool) (name : List ℕ) (rest : Option (List ℕ)) → cond b (Some name) rest ≡ None → (b ≡ false) × (rest ≡ None)
-not_named earlier true name rest h = cc
-not_named earlier false name rest h = (refl, h)
-
-left_false : (a b : Bool) → (a || b) ≡ false → a ≡ false
-left_false true b h = h
-left_false false b h = refl
-
-named_kept : (items more : List Item) (name : List ℕ) → is_named (items ++ more) name ≡ false → is_named items name ≡ false
-named_kept items more name h = left_false (is_named items name) (is_named more name) (sym (list_any-append (λ item. bytes_eq (name_of item) name) items more) ∙ h)
-
--- a definition among these has a name that no earlier one has
-fresh_member : (earlier items : List Item) (x : Item) → doubled earlier items ≡ None → Member x items → is_named earlier (name_of x) ≡ false
-fresh_member earlier [] x h m = absurd m
-fresh_member earlier (item ∷ items) x h m =
-    let first = not_named earlier (is_named earlier (name_of item)) (name_of item) (doubled (earlier ++ item ∷ []) items) h in
-    ⊎_elim (λ here. subst (λ i. is_named earlier (name_of i) ≡ false) here first.0)
-    (λ later. named_kept earlier (item ∷ []) (name_of x) (fresh_member (earlier ++ item ∷ []) items x first.1 later)) m
-
-apart : (earlier items : List Item) (item x : Item) → doubled (earlier ++ item ∷ []) items ≡ None → Member x items → name_of item ≡ name_of x → ⊥
-apart earlier items item x h m e =
-    unlike (sym (last_named earlier item) ∙ ap (is_named (earlier ++ item ∷ [])) e ∙ fresh_member (earlier ++ item ∷ []) items x h m)
-
--- two definitions with one name are one
-one_member : (earlier items : List Item) (x y : Item) → doubled earlier items ≡ None → Member x items → Member y items → name_of x ≡ name_of y → x ≡ y
-one_member earlier [] x y h m n e = absurd m
-one_member earlier (item ∷ items) x y h m n e =
-    let first = not_named earlier (is_named earlier (name_of item)) (name_of item) (doubled (earlier ++ item ∷ []) items) h in
-    ⊎_elim
-    (λ x_here. ⊎_elim (λ y_here. sym x_here ∙ y_here)
-    (λ y_later. absurd (apart earlier items item y first.1 y_later (ap name_of x_here ∙ e))) n)
-    (λ x_later. ⊎_elim (λ y_here. absurd (apart earlier items item x first.1 x_later (ap name_of y_here ∙ sym e)))
-    (λ y_later. one_member (earlier ++ item ∷ []) items x y first.1 x_later y_later e) n)
-    m
-
--- ---- an order has no circles
-
-have_rest : (items : List Item) (part : Part) (code : List Part) → HaveNames items (part ∷ code) → HaveNames items code
-have_rest items (Name other) code h = h.1
-have_rest items (Number n) code h = h
-have_rest items Add code h = h
-have_rest items Sub code h = h
-have_rest items Mul code h = h
-
-one_name : (a b : List ℕ) → Name a ≡ Name b → a ≡ b
-one_name a b h = cc
-
-pub have_part : (items : List Item) (code : List Part) (name : List ℕ) (k : ℕ) → HaveNames items code → k < length code → get_or code k (Name name) ≡ Name name → is_named items name ≡ true
-have_part items [] name k h l e = absurd (omega (arith, l))
-have_part items (Name other ∷ code) name zero h l e = subst (λ n. is_named items n ≡ true) (one_name other name e) h.0
-have_part items (Number n ∷ code) name zero h l e = cc
-have_part items (Add ∷ code) name zero h l e = cc
-have_part items (Sub ∷ code) name zero h l e = cc
-have_part items (Mul ∷ code) name zero h l e = cc
-have_part items (part ∷ code) name (suc k) h l e = have_part items code name k (have_rest items part code h) (omega (arith, l)) e
-
--- what a placed definition uses is placed
-abbrev Closed : List Item → List Item → Type 0
-Closed defined placed = (name used : List ℕ) → is_named placed name ≡ true → Uses defined name used → is_named placed used ≡ true
-
-stays : (defined placed : List Item) (end name : List ℕ) (names : List (List ℕ)) → Closed defined placed → is_named placed name ≡ true → LeadTo defined end (name ∷ names) → is_named placed end ≡ true
-stays defined placed end name [] c h l = c name end h l
-stays defined placed end name (next ∷ names) c h l = stays defined placed end next names c (c name next h l.0) l.1
-
-abbrev NoneRound : List Item → List Item → Type 0
-NoneRound defined placed = (name : List ℕ) → is_named placed name ≡ true → UsesItself defined name → ⊥
-
-last_name : (next : Item) (name : List ℕ) → (bytes_eq (name_of next) name ≡ true) ⊎ (false ≡ true) → name_of next ≡ name
-last_name next name (inl h) = same_text (name_of next) name (sym h)
-last_name next name (inr h) = unlike (sym h)
-
-pub push_cases : (placed : List Item) (next : Item) (name : List ℕ) → is_named (placed ++ next ∷ []) name ≡ true → (is_named placed name ≡ true) ⊎ (name_of next ≡ name)
-push_cases placed next name h =
-    ⊎_elim (λ old. inl old)
-    (λ new. inr (last_name next name (or_cases (bytes_eq (name_of next) name) false new)))
-    (or_cases (is_named placed name) (is_named (next ∷ []) name) (sym (list_any-append (λ item. bytes_eq (name_of item) name) placed (next ∷ [])) ∙ h))
-
-pub more_named : (placed : List Item) (next : Item) (name : List ℕ) → is_named placed name ≡ true → is_named (placed ++ next ∷ []) name ≡ true
-more_named placed next name h = list_any-append (λ item. bytes_eq (name_of item) name) placed (next ∷ []) ∙ ap (λ b. b || is_named (next ∷ []) name) h
-
-next_uses : (defined placed : List Item) (next : Item) (used : List ℕ) → doubled [] defined ≡ None → IsNext defined placed next → Uses defined (name_of next) used → is_named placed used ≡ true
-next_uses defined placed next used once n u =
-    let itself : Member next defined = subst (Member next) (sym n.split) (member_mid n.front n.back next) in
-    let same : Def (name_of next) u.code ≡ next = one_member [] defined (Def (name_of next) u.code) next once (member_contained defined (Def (name_of next) u.code) u.defined) itself refl in
-    have_part placed u.code used u.part.0 (subst (λ i. HaveNames placed (code_of i)) (sym same) n.ready) u.part.1 u.part.2
-
-closed_push : (defined placed : List Item) (next : Item) → doubled [] defined ≡ None → IsNext defined placed next → Closed defined placed → Closed defined (placed ++ next ∷ [])
-closed_push defined placed next once n c name used h u =
-    ⊎_elim (λ old. more_named placed next used (c name used old u))
-    (λ new. more_named placed next used (next_uses defined placed next used once n (subst (λ m. Uses defined m used) (sym new) u)))
-    (push_cases placed next name h)
-
-next_leads : (defined placed : List Item) (next : Item) (through : List (List ℕ)) → doubled [] defined ≡ None → IsNext defined placed next → Closed defined placed
-    → LeadTo defined (name_of next) (name_of next ∷ through) → ⊥
-next_leads defined placed next [] once n c l = unlike (sym (next_uses defined placed next (name_of next) once n l) ∙ n.left)
-next_leads defined placed next (used ∷ more) once n c l =
-    unlike (sym (stays defined placed (name_of next) used more c (next_uses defined placed next used once n l.0) l.1) ∙ n.left)
-
-next_straight : (defined placed : List Item) (next : Item) → doubled [] defined ≡ None → IsNext defined placed next → Closed defined placed → UsesItself defined (name_of next) → ⊥
-next_straight defined placed next once n c round = next_leads defined placed next round.0 once n c round.1
-
-straight_push : (defined placed : List Item) (next : Item) → doubled [] defined ≡ None → IsNext defined placed next → Closed defined placed → NoneRound defined placed → NoneRound defined (placed ++ next ∷ [])
-straight_push defined placed next once n c s name h round =
-    ⊎_elim (λ old. s name old round)
-    (λ new. next_straight defined placed next once n c (subst (UsesItself defined) (sym new) round))
-    (push_cases placed next name h)
-
-first_use : (defined : List Item) (end name : List ℕ) (names : List (List ℕ)) → LeadTo defined end (name ∷ names) → (used : List ℕ) × Uses defined name used
-first_use defined end name [] l = (end, l)
-first_use defined end name (next ∷ names) l = (next, l.0)
-
-order_straight : (defined placed more : List Item) → doubled [] defined ≡ None → IsImageOrder defined placed more → Closed defined placed → NoneRound defined placed
-    → (name : List ℕ) → UsesItself defined name → ⊥
-order_straight defined placed [] once o c s name round =
-    let use_of = (first_use defined name name round.0 round.1).1 in
-    s name (All-contains (λ definition. is_named placed (name_of definition) ≡ true) defined (Def name use_of.code) o use_of.defined) round
-order_straight defined placed (next ∷ more) once o c s name round =
-    order_straight defined (placed ++ next ∷ []) more once o.1 (closed_push defined placed next once o.0 c) (straight_push defined placed next once o.0 c s) name round
-
--- ---- the order has the definitions
-
-order_members : (defined placed more : List Item) (item : Item) → IsImageOrder defined placed more → Member item more → Member item defined
-order_members defined placed [] item o m = absurd m
-order_members defined placed (next ∷ more) item o m =
-    ⊎_elim (λ here. subst (λ i. Member i defined) here (subst (Member next) (sym o.0.split) (member_mid o.0.front o.0.back next)))
-    (λ later. order_members defined (placed ++ next ∷ []) more item o.1 later) m
-
-order_named : (defined placed more : List Item) → IsImageOrder defined placed more → All (λ definition. is_named (placed ++ more) (name_of definition) ≡ true) defined
-order_named defined placed [] o = subst (λ is. All (λ definition. is_named is (name_of definition) ≡ true) defined) (sym (append-nil placed)) o
-order_named defined placed (next ∷ more) o =
-    subst (λ is. All (λ definition. is_named is (name_of definition) ≡ true) defined) (append_assoc placed (next ∷ []) more)
-    (order_named defined (placed ++ next ∷ []) more o.1)
+use Rattle.sample_linker.proofs.Members.{unlike, Member, named_member, one_member, order_straight, order_members, order_named, member_named}
 
 no_def : {P : Type 0} (other name : List ℕ) (code : List Part) → Extern other ≡ Def name code → P
 no_def other name code e = cc
 
-holds_at : (numbers : Numbers) (items : List Item) (name : List ℕ) (code : List Part) → ItemsHold numbers items → Member (Def name code) items → HasValue numbers code (numbers name)
+holds_at : (numbers : Numbers) (items : List Item) (name : List ℕ) (code : List Part) → ItemsHold numbers items
+    → Member (Def name code) items → HasValue numbers code (numbers name)
 holds_at numbers [] name code h m = absurd m
-holds_at numbers (Extern other ∷ items) name code h m = ⊎_elim (λ here. no_def other name code here) (λ later. holds_at numbers items name code h later) m
+holds_at numbers (Extern other ∷ items) name code h m = ⊎_elim (λ here. no_def other name code here)
+    (λ later. holds_at numbers items name code h later) m
 holds_at numbers (Def other body ∷ items) name code h m =
-    ⊎_elim (λ here. subst (λ i. HasValue numbers (code_of i) (numbers (name_of i))) here h.0) (λ later. holds_at numbers items name code h.1 later) m
+    ⊎_elim (λ here. subst (λ i. HasValue numbers (code_of i) (numbers (name_of i))) here h.0)
+    (λ later. holds_at numbers items name code h.1 later) m
 
 -- what holds of the order holds of each of these, which are among the definitions
-all_hold : (numbers : Numbers) (defined order part : List Item) → doubled [] defined ≡ None → IsImageOrder defined [] order → ItemsHold numbers order
-    → ((item : Item) → Member item part → Member item defined) → ((item : Item) → Member item part → is_named order (name_of item) ≡ true) → ItemsHold numbers part
+all_hold : (numbers : Numbers) (defined order part : List Item) → doubled [] defined ≡ None → IsImageOrder defined [] order
+    → ItemsHold numbers order
+    → ((item : Item) → Member item part → Member item defined) → ((item : Item) → Member item part → is_named order (name_of item) ≡ true)
+    → ItemsHold numbers part
 all_hold numbers defined order [] once o h sub named = tt
 all_hold numbers defined order (Extern name ∷ part) once o h sub named =
     all_hold numbers defined order part once o h (λ item m. sub item (inr m)) (λ item m. named item (inr m))
 all_hold numbers defined order (Def name code ∷ part) once o h sub named =
     let item : Item = Def name code in
     let found = named_member order name (named item (inl refl)) in
-    let same : found.0 ≡ item = one_member [] defined found.0 item once (order_members defined [] order found.0 o found.1) (sub item (inl refl)) found.2 in (
+    let same : found.0 ≡ item =
+    one_member [] defined found.0 item once (order_members defined [] order found.0 o found.1) (sub item (inl refl)) found.2 in (
       holds_at numbers order name code h (subst (λ i. Member i order) same found.1),
       all_hold numbers defined order part once o h (λ item m. sub item (inr m)) (λ item m. named item (inr m)),
     )
@@ -229,7 +74,8 @@ all_member P [] x h m = absurd m
 all_member P (y ∷ ys) x h m =
     ⊎_elim (λ here. subst P here (All-head P y ys h)) (λ later. all_member P ys x (All-tail P y ys h) later) m
 
-definitions_hold : (numbers : Numbers) (defined order : List Item) → doubled [] defined ≡ None → IsImageOrder defined [] order → ItemsHold numbers order → ItemsHold numbers defined
+definitions_hold : (numbers : Numbers) (defined order : List Item) → doubled [] defined ≡ None → IsImageOrder defined [] order
+    → ItemsHold numbers order → ItemsHold numbers defined
 definitions_hold numbers defined order once o h =
     all_hold numbers defined order defined once o h (λ item m. m)
     (λ item m. all_member (λ definition. is_named order (name_of definition) ≡ true) defined item (order_named defined [] order o) m)
@@ -272,20 +118,23 @@ all_right : (texts : List (List ℕ)) (files : List (List Item)) → AreSources 
 all_right [] [] h = tt
 all_right [] (items ∷ files) h = absurd h
 all_right (text ∷ texts) [] h = absurd h
-all_right (text ∷ texts) (items ∷ files) h = right_both items (together files) (source_says text items h.0).right (all_right texts files h.1)
+all_right (text ∷ texts) (items ∷ files) h = right_both items (together files) (source_says text items h.0).right
+    (all_right texts files h.1)
 
 text_holds : (numbers : Numbers) (text : List ℕ) (items : List Item) → SourceOf text items → FitsText numbers text → ItemsHold numbers items
 text_holds numbers text items source fits =
     subst (ItemsHold numbers) (sym fits.1.meant ∙ one_source text fits.0 items fits.1 source) (forms_items numbers fits.1.forms fits.2)
 
-texts_hold : (numbers : Numbers) (texts : List (List ℕ)) (files : List (List Item)) → AreSources texts files → FitsTexts numbers texts → ItemsHold numbers (together files)
+texts_hold : (numbers : Numbers) (texts : List (List ℕ)) (files : List (List Item)) → AreSources texts files → FitsTexts numbers texts
+    → ItemsHold numbers (together files)
 texts_hold numbers [] [] h f = tt
 texts_hold numbers [] (items ∷ files) h f = absurd h
 texts_hold numbers (text ∷ texts) [] h f = absurd h
 texts_hold numbers (text ∷ texts) (items ∷ files) h f =
     ItemsHold-append numbers items (together files) (text_holds numbers text items h.0 f.0) (texts_hold numbers texts files h.1 f.1)
 
-texts_fit : (numbers : Numbers) (texts : List (List ℕ)) (files : List (List Item)) → AreSources texts files → ItemsHold numbers (together files) → FitsTexts numbers texts
+texts_fit : (numbers : Numbers) (texts : List (List ℕ)) (files : List (List Item)) → AreSources texts files
+    → ItemsHold numbers (together files) → FitsTexts numbers texts
 texts_fit numbers [] [] h k = tt
 texts_fit numbers [] (items ∷ files) h k = absurd h
 texts_fit numbers (text ∷ texts) [] h k = absurd h
@@ -296,7 +145,8 @@ texts_fit numbers (text ∷ texts) (items ∷ files) h k =
 -- ---- the promise
 
 -- the order's numbers are those of the definitions
-fit_once : (texts : List (List ℕ)) (files : List (List Item)) (order : List Item) → AreSources texts files → doubled [] (definitions (together files)) ≡ None
+fit_once : (texts : List (List ℕ)) (files : List (List Item)) (order : List Item) → AreSources texts files
+    → doubled [] (definitions (together files)) ≡ None
     → IsImageOrder (definitions (together files)) [] order → FitOnce texts (together files)
 fit_once texts files order sources once o =
     let items : List Item = together files in
@@ -317,30 +167,26 @@ fit_once texts files order sources once o =
           let holds_b = order_holds b defined [] order (defined_hold b items (texts_hold b texts files sources fb.solves)) o in
           let member = named_member defined name named in
           let placed : is_named order name ≡ true =
-          subst (λ n. is_named order n ≡ true) member.2 (all_member (λ definition. is_named order (name_of definition) ≡ true) defined member.0 (order_named defined [] order o) member.1) in
+          subst (λ n. is_named order n ≡ true) member.2
+          (all_member (λ definition. is_named order (name_of definition) ≡ true) defined member.0
+          (order_named defined [] order o) member.1) in
           agree_at a b order name (holding_agree a b order declared right holds_a holds_b) placed;
     }
 
-or_true : (b : Bool) → (b || true) ≡ true
-or_true true = refl
-or_true false = refl
-
-pub member_named : (items : List Item) (item : Item) (name : List ℕ) → Member item items → name_of item ≡ name → is_named items name ≡ true
-member_named [] item name m e = absurd m
-member_named (other ∷ items) item name m e =
-    ⊎_elim (λ here. ap (λ b. b || is_named items name) (subst (λ n. bytes_eq n name ≡ true) (sym (ap name_of here ∙ e)) (same_bytes name)))
-    (λ later. ap (λ b. bytes_eq (name_of other) name || b) (member_named items item name later e) ∙ or_true (bytes_eq (name_of other) name)) m
-
-defined_placed : (defined order : List Item) (name : List ℕ) → IsImageOrder defined [] order → is_named defined name ≡ true → is_named order name ≡ true
+defined_placed : (defined order : List Item) (name : List ℕ) → IsImageOrder defined [] order → is_named defined name ≡ true
+    → is_named order name ≡ true
 defined_placed defined order name o h =
     let member = named_member defined name h in
-    subst (λ n. is_named order n ≡ true) member.2 (all_member (λ definition. is_named order (name_of definition) ≡ true) defined member.0 (order_named defined [] order o) member.1)
+    subst (λ n. is_named order n ≡ true) member.2
+    (all_member (λ definition. is_named order (name_of definition) ≡ true) defined member.0 (order_named defined [] order o) member.1)
 
-no_member : (defined order : List Item) (name : List ℕ) (b : Bool) → is_named defined name ≡ b → is_named order name ≡ false → IsImageOrder defined [] order → is_named defined name ≡ false
+no_member : (defined order : List Item) (name : List ℕ) (b : Bool) → is_named defined name ≡ b → is_named order name ≡ false
+    → IsImageOrder defined [] order → is_named defined name ≡ false
 no_member defined order name false e h o = e
 no_member defined order name true e h o = unlike (sym (defined_placed defined order name o e) ∙ h)
 
-placed_defined : (defined order : List Item) (name : List ℕ) → is_named order name ≡ true → IsImageOrder defined [] order → is_named defined name ≡ true
+placed_defined : (defined order : List Item) (name : List ℕ) → is_named order name ≡ true → IsImageOrder defined [] order
+    → is_named defined name ≡ true
 placed_defined defined order name h o =
     let found = named_member order name h in
     member_named defined found.0 name (order_members defined [] order found.0 o found.1) found.2
@@ -349,51 +195,70 @@ placed_defined defined order name h o =
 abbrev FromOrder : List (List ℕ) → List (List Item) → List Item → Type 0
 FromOrder texts files order = (AreSources texts files) × (IsImageOrder (definitions (together files)) [] order)
 
-order_fits : (texts : List (List ℕ)) (files : List (List Item)) (order : List Item) (numbers : Numbers) → FromOrder texts files order → FitsSources texts numbers → ItemsHold numbers order
+order_fits : (texts : List (List ℕ)) (files : List (List Item)) (order : List Item) (numbers : Numbers) → FromOrder texts files order
+    → FitsSources texts numbers → ItemsHold numbers order
 order_fits texts files order numbers f fits =
-    order_holds numbers (definitions (together files)) [] order (defined_hold numbers (together files) (texts_hold numbers texts files f.0 fits.solves)) f.1
+    order_holds numbers (definitions (together files)) [] order
+    (defined_hold numbers (together files) (texts_hold numbers texts files f.0 fits.solves)) f.1
 
-order_fine : (texts : List (List ℕ)) (files : List (List Item)) (order : List Item) → FromOrder texts files order → AreRightItems Image order
-order_fine texts files order f = order_right Image (definitions (together files)) [] order (definitions_right (together files) (all_right texts files f.0)) f.1
+order_fine : (texts : List (List ℕ)) (files : List (List Item)) (order : List Item) → FromOrder texts files order
+    → AreRightItems Image order
+order_fine texts files order f = order_right Image (definitions (together files)) [] order
+    (definitions_right (together files) (all_right texts files f.0)) f.1
 
-main_is : (texts : List (List ℕ)) (files : List (List Item)) (order : List Item) (value : Value) → FromOrder texts files order → is_named order main_name ≡ true → MainIs order value → MainFits texts (together files) value
+main_is : (texts : List (List ℕ)) (files : List (List Item)) (order : List Item) (value : Value) → FromOrder texts files order
+    → is_named order main_name ≡ true → MainIs order value → MainFits texts (together files) value
 main_is texts files order (values.Number n) f named m = (
   placed_defined (definitions (together files)) order main_name named f.1,
   λ fit fits.
       agree_at fit m.0 order main_name
-      (holding_agree fit m.0 order (order_declared (definitions (together files)) [] order f.1) (order_fine texts files order f) (order_fits texts files order fit f fits) m.1) named
+      (holding_agree fit m.0 order (order_declared (definitions (together files)) [] order f.1) (order_fine texts files order f)
+      (order_fits texts files order fit f fits) m.1) named
       ∙ sym m.2,
 )
 main_is texts files order (values.Fault fault) f named m = absurd m
 main_is texts files order values.Memory f named m = absurd m
 
-main_by : (texts : List (List ℕ)) (files : List (List Item)) (order : List Item) (value : Value) (b : Bool) → FromOrder texts files order → is_named order main_name ≡ b
+main_by : (texts : List (List ℕ)) (files : List (List Item)) (order : List Item) (value : Value) (b : Bool) → FromOrder texts files order
+    → is_named order main_name ≡ b
     → MatchBool b (MainIs order value) (value ≡ values.Fault NoMain) → MainFits texts (together files) value
 main_by texts files order value true f named h = main_is texts files order value f named h
 main_by texts files order value false f named h =
     subst (MainFits texts (together files)) (sym h)
     (no_member (definitions (together files)) order main_name (is_named (definitions (together files)) main_name) refl named f.1)
 
-image_reads : (texts : List (List ℕ)) (files : List (List Item)) (order : List Item) → FromOrder texts files order → file_items Image (image_of order) ≡ Ok order
+image_reads : (texts : List (List ℕ)) (files : List (List Item)) (order : List Item) → FromOrder texts files order
+    → file_items Image (image_of order) ≡ Ok order
 image_reads texts files order f =
-    file_reads Image (image_of order) order (image_says (definitions (together files)) order (definitions_right (together files) (all_right texts files f.0)) f.1)
+    file_reads Image (image_of order) order
+    (image_says (definitions (together files)) order (definitions_right (together files) (all_right texts files f.0)) f.1)
 
 abbrev ByItems : Value → Result (List Item) ℕ → Type 0
 ByItems value read = MatchResult read (λ items. ItemsHaveValue items value) (λ line. value ≡ values.Fault (BadImage line))
 
-run_fits : (texts : List (List ℕ)) (files : List (List Item)) (order : List Item) → FromOrder texts files order → (value : Value) → IsValue (image_of order) value → MainFits texts (together files) value
+run_fits : (texts : List (List ℕ)) (files : List (List Item)) (order : List Item) → FromOrder texts files order → (value : Value)
+    → IsValue (image_of order) value → MainFits texts (together files) value
 run_fits texts files order f values.Memory h = tt
 run_fits texts files order f (values.Number n) h =
-    main_by texts files order (values.Number n) (is_named order main_name) f refl (subst (ByItems (values.Number n)) (image_reads texts files order f) h)
+    main_by texts files order (values.Number n) (is_named order main_name) f refl
+    (subst (ByItems (values.Number n)) (image_reads texts files order f) h)
 run_fits texts files order f (values.Fault fault) h =
-    main_by texts files order (values.Fault fault) (is_named order main_name) f refl (subst (ByItems (values.Fault fault)) (image_reads texts files order f) h)
+    main_by texts files order (values.Fault fault) (is_named order main_name) f refl
+    (subst (ByItems (values.Fault fault)) (image_reads texts files order f) h)
 
-image_kept : (texts : List (List ℕ)) (files : List (List Item)) (image : List ℕ) → AreSources texts files → doubled [] (definitions (together files)) ≡ None
-    → unresolved (definitions (together files)) (together files) ≡ None → OrderedTo (definitions (together files)) (linked.Image image) → Promised texts (together files) (linked.Image image)
+image_kept : (texts : List (List ℕ)) (files : List (List Item)) (image : List ℕ) → AreSources texts files
+    → doubled [] (definitions (together files)) ≡ None
+    → unresolved (definitions (together files)) (together files) ≡ None → OrderedTo (definitions (together files)) (linked.Image image)
+    → Promised texts (together files) (linked.Image image)
 image_kept texts files image sources once met o =
     let defined : List Item = definitions (together files) in
     let from : FromOrder texts files o.0 = (sources, o.1) in (
-      record { once = once; met = met; straight = order_straight defined [] o.0 once o.1 (λ name used h u. unlike (sym h)) (λ name h round. unlike (sym h)) },
+      record {
+        once = once;
+        met = met;
+        straight = order_straight defined [] o.0 once o.1 (λ name used h u. unlike (sym h))
+            (λ name h round. unlike (sym h));
+      },
       fit_once texts files o.0 sources once o.1,
       λ value h. run_fits texts files o.0 from value (subst (λ i. IsValue i value) o.2 h),
     )
@@ -402,7 +267,8 @@ round_not : (defined : List Item) (names : List (List ℕ)) → GoRound defined 
 round_not defined [] g s = g
 round_not defined (name ∷ names) g s = s name (names, g)
 
-fault_kept : (defined : List Item) (fault : LinkFault) → OrderedTo defined (linked.Fault fault) → ((name : List ℕ) → UsesItself defined name → ⊥) → ⊥
+fault_kept : (defined : List Item) (fault : LinkFault) → OrderedTo defined (linked.Fault fault)
+    → ((name : List ℕ) → UsesItself defined name → ⊥) → ⊥
 fault_kept defined (Circular names) o s = round_not defined names o.round s
 fault_kept defined (BadObject file line) o s = o
 fault_kept defined (Doubled name) o s = o
@@ -416,7 +282,8 @@ some_none name e = cc
 
 image_by : (texts : List (List ℕ)) (files : List (List Item)) (image : List ℕ) (twice needed : Option (List ℕ)) → AreSources texts files
     → doubled [] (definitions (together files)) ≡ twice → unresolved (definitions (together files)) (together files) ≡ needed
-    → MatchOption twice (MatchOption needed (OrderedTo (definitions (together files)) (linked.Image image)) (λ name. linked.Image image ≡ linked.Fault (Unresolved name)))
+    → MatchOption twice (MatchOption needed (OrderedTo (definitions (together files)) (linked.Image image))
+    (λ name. linked.Image image ≡ linked.Fault (Unresolved name)))
     (λ name. linked.Image image ≡ linked.Fault (Doubled name))
     → Promised texts (together files) (linked.Image image)
 image_by texts files image None None sources d u h = image_kept texts files image sources d u h
@@ -425,7 +292,8 @@ image_by texts files image (Some name) needed sources d u h = image_fault image 
 
 fault_by : (files : List (List Item)) (fault : LinkFault) (twice needed : Option (List ℕ))
     → doubled [] (definitions (together files)) ≡ twice → unresolved (definitions (together files)) (together files) ≡ needed
-    → MatchOption twice (MatchOption needed (OrderedTo (definitions (together files)) (linked.Fault fault)) (λ name. linked.Fault fault ≡ linked.Fault (Unresolved name)))
+    → MatchOption twice (MatchOption needed (OrderedTo (definitions (together files)) (linked.Fault fault))
+    (λ name. linked.Fault fault ≡ linked.Fault (Unresolved name)))
     (λ name. linked.Fault fault ≡ linked.Fault (Doubled name))
     → CanLink (together files) → ⊥
 fault_by files fault None None d u h can = fault_kept (definitions (together files)) fault h can.straight

@@ -1,5 +1,6 @@
 -- Names that lead to one another.
-use Rattle.std.proofs.Common.{◌≡◌, ℕ, zero, suc, ◌+◌, ◌<◌, ◌≤◌, Bool, true, false, List, [], ◌∷◌, ◌++◌, length, map, take, drop, get_or, Option, Some, None, refl, ap, sym, ◌∙◌, subst, ⊎_elim, arith}
+use Rattle.std.proofs.Common.{◌≡◌, ℕ, zero, suc, ◌+◌, ◌<◌, ◌≤◌, Bool, true, false, List, [], ◌∷◌, ◌++◌, length, map, take, drop, get_or}
+use Rattle.std.proofs.Common.{Option, Some, None, refl, ap, sym, ◌∙◌, subst, ⊎_elim, arith}
 use Rattle.std.specs.Prelude.{All, IfSome, IfNone, unwrap_or, ◌||◌}
 use Rattle.std.specs.List.{Contains, IsDistinct, list_any, list_all, position_from}
 use Rattle.std.specs.Option.{is_some}
@@ -31,7 +32,7 @@ use Rattle.sample_linker.specs.Runs.{number_in}
 use Rattle.sample_linker.specs.Tables.{place_in}
 use Rattle.sample_linker.specs.Waits.{At, Settled, PlacedSo}
 use Rattle.sample_linker.proofs.Places.{bytes_laws, any_place, at_name, item_of, place_is, named_any, indexes_named}
-use Rattle.sample_linker.proofs.Promise.{have_part}
+use Rattle.sample_linker.proofs.Members.{have_part}
 use Rattle.sample_linker.proofs.Soundness.{have_known}
 use Rattle.sample_linker.proofs.TableLemmas.{bytes_turn}
 
@@ -40,23 +41,27 @@ absent h = cc
 
 -- ---- ways
 
-pub leads_more : (defined : List Item) (end next : List ℕ) (names : List (List ℕ)) → LeadTo defined end names → Uses defined end next → LeadTo defined next (names ++ end ∷ [])
+pub leads_more : (defined : List Item) (end next : List ℕ) (names : List (List ℕ)) → LeadTo defined end names → Uses defined end next
+    → LeadTo defined next (names ++ end ∷ [])
 leads_more defined end next [] h u = u
 leads_more defined end next (name ∷ []) h u = (h, u)
 leads_more defined end next (name ∷ other ∷ names) h u = (h.0, leads_more defined end next (other ∷ names) h.1 u)
 
-pub leads_drop : (defined : List Item) (end : List ℕ) (i : ℕ) (names : List (List ℕ)) → LeadTo defined end names → LeadTo defined end (drop i names)
+pub leads_drop : (defined : List Item) (end : List ℕ) (i : ℕ) (names : List (List ℕ)) → LeadTo defined end names
+    → LeadTo defined end (drop i names)
 leads_drop defined end zero names h = h
 leads_drop defined end (suc i) [] h = tt
 leads_drop defined end (suc i) (name ∷ []) h = leads_drop defined end i [] tt
 leads_drop defined end (suc i) (name ∷ other ∷ names) h = leads_drop defined end i (other ∷ names) h.1
 
-leads_split : (defined : List Item) (end y : List ℕ) (xs ys : List (List ℕ)) → LeadTo defined end (xs ++ y ∷ ys) → LeadTo defined y xs × LeadTo defined end (y ∷ ys)
+leads_split : (defined : List Item) (end y : List ℕ) (xs ys : List (List ℕ)) → LeadTo defined end (xs ++ y ∷ ys)
+    → LeadTo defined y xs × LeadTo defined end (y ∷ ys)
 leads_split defined end y [] ys h = (tt, h)
 leads_split defined end y (x ∷ []) ys h = h
 leads_split defined end y (x ∷ z ∷ xs) ys h = let r = leads_split defined end y (z ∷ xs) ys h.1 in ((h.0, r.0), r.1)
 
-leads_join : (defined : List Item) (end y : List ℕ) (xs ys : List (List ℕ)) → LeadTo defined y xs → LeadTo defined end (y ∷ ys) → LeadTo defined end (xs ++ y ∷ ys)
+leads_join : (defined : List Item) (end y : List ℕ) (xs ys : List (List ℕ)) → LeadTo defined y xs → LeadTo defined end (y ∷ ys)
+    → LeadTo defined end (xs ++ y ∷ ys)
 leads_join defined end y [] ys h k = k
 leads_join defined end y (x ∷ []) ys h k = (h, k)
 leads_join defined end y (x ∷ z ∷ xs) ys h k = (h.0, leads_join defined end y (z ∷ xs) ys h.1 k)
@@ -93,30 +98,40 @@ pub record WalksTo (table placed met : NameTable) (defined : List Item) (path : 
   pub met_so : Indexes met path
   pub among : (name : List ℕ) → list_any (bytes_eq name) path ≡ true → list_any (bytes_eq name) (names_of defined) ≡ true
 
-pub walk_few : (table placed met : NameTable) (defined : List Item) (path : List (List ℕ)) (at : List ℕ) → WalksTo table placed met defined path at → length path ≤ length defined
+pub walk_few : (table placed met : NameTable) (defined : List Item) (path : List (List ℕ)) (at : List ℕ)
+    → WalksTo table placed met defined path at → length path ≤ length defined
 walk_few table placed met defined path at w =
-    subst (λ n. length path ≤ n) (length-map defined name_of) (length-le_from_is_member bytes_laws path (names_of defined) w.distinct w.among)
+    subst (λ n. length path ≤ n) (length-map defined name_of)
+    (length-le_from_is_member bytes_laws path (names_of defined) w.distinct w.among)
 
-last_among : (defined : List Item) (path : List (List ℕ)) (at name : List ℕ) → ((other : List ℕ) → list_any (bytes_eq other) path ≡ true → list_any (bytes_eq other) (names_of defined) ≡ true)
-    → list_any (bytes_eq at) (names_of defined) ≡ true → list_any (bytes_eq name) (path ++ at ∷ []) ≡ true → list_any (bytes_eq name) (names_of defined) ≡ true
+last_among : (defined : List Item) (path : List (List ℕ)) (at name : List ℕ)
+    → ((other : List ℕ) → list_any (bytes_eq other) path ≡ true → list_any (bytes_eq other) (names_of defined) ≡ true)
+    → list_any (bytes_eq at) (names_of defined) ≡ true → list_any (bytes_eq name) (path ++ at ∷ []) ≡ true
+    → list_any (bytes_eq name) (names_of defined) ≡ true
 last_among defined path at name among here h =
     ⊎_elim (λ old. among name old)
-    (λ new. ⊎_elim (λ same. subst (λ n. list_any (bytes_eq n) (names_of defined) ≡ true) (sym (same_text name at (sym same))) here) (λ no. absent (sym no))
+    (λ new. ⊎_elim (λ same. subst (λ n. list_any (bytes_eq n) (names_of defined) ≡ true) (sym (same_text name at (sym same))) here)
+    (λ no. absent (sym no))
     (or_cases (bytes_eq name at) false new))
-    (or_cases (list_any (bytes_eq name) path) (list_any (bytes_eq name) (at ∷ [])) (sym (list_any-append (bytes_eq name) path (at ∷ [])) ∙ h))
+    (or_cases (list_any (bytes_eq name) path) (list_any (bytes_eq name) (at ∷ []))
+    (sym (list_any-append (bytes_eq name) path (at ∷ [])) ∙ h))
 
-pub walk_more : (table placed met new : NameTable) (defined : List Item) (path : List (List ℕ)) (at next : List ℕ) → Indexes table (names_of defined) → WalksTo table placed met defined path at
-    → list_any (bytes_eq at) path ≡ false → Indexes new (path ++ at ∷ []) → Uses defined at next → IsLeft table placed defined next → WalksTo table placed new defined (path ++ at ∷ []) next
+pub walk_more : (table placed met new : NameTable) (defined : List Item) (path : List (List ℕ)) (at next : List ℕ)
+    → Indexes table (names_of defined) → WalksTo table placed met defined path at
+    → list_any (bytes_eq at) path ≡ false → Indexes new (path ++ at ∷ []) → Uses defined at next → IsLeft table placed defined next
+    → WalksTo table placed new defined (path ++ at ∷ []) next
 walk_more table placed met new defined path at next indexes w fresh noted uses left = record {
   leads = leads_more defined at next path w.leads uses;
   left = left;
   distinct = IsDistinct-push bytes_laws path at w.distinct fresh;
   met_so = noted;
-  among = λ name h. last_among defined path at name w.among (sym (named_any defined at) ∙ sym (indexes_named table defined at indexes) ∙ w.left.found) h;
+  among = λ name h. last_among defined path at name w.among
+      (sym (named_any defined at) ∙ sym (indexes_named table defined at indexes) ∙ w.left.found) h;
 }
 
 -- where a walk meets a name again, its end goes round
-pub walk_round : (table placed met : NameTable) (defined : List Item) (path : List (List ℕ)) (at : List ℕ) (from : ℕ) → WalksTo table placed met defined path at → place_in met at ≡ Some from
+pub walk_round : (table placed met : NameTable) (defined : List Item) (path : List (List ℕ)) (at : List ℕ) (from : ℕ)
+    → WalksTo table placed met defined path at → place_in met at ≡ Some from
     → (from ≤ length path) × IsRound defined (drop from path)
 walk_round table placed met defined path at from w found =
     let here = at_name at path from (sym (w.met_so at) ∙ found) in (
@@ -134,12 +149,14 @@ some_of : (number : Option ℕ) → is_some number ≡ true → (n : ℕ) × (nu
 some_of None h = absent (sym h)
 some_of (Some n) h = (n, refl)
 
-number_place : (table : NameTable) (defined : List Item) (name : List ℕ) → Indexes table (names_of defined) → list_any (bytes_eq name) (names_of defined) ≡ true → number_in table name ≡ place_of defined name
+number_place : (table : NameTable) (defined : List Item) (name : List ℕ) → Indexes table (names_of defined)
+    → list_any (bytes_eq name) (names_of defined) ≡ true → number_in table name ≡ place_of defined name
 number_place table defined name h among =
     let found = some_of (place_in table name) (indexes_named table defined name h ∙ named_any defined name ∙ among) in
     ap (λ o. unwrap_or o 0) found.1 ∙ place_is table defined name found.0 h found.1
 
-pub round_first : (table : NameTable) (defined : List Item) (names : List (List ℕ)) (at : ℕ) → Indexes table (names_of defined) → IsRound defined names → IsLowest table names at
+pub round_first : (table : NameTable) (defined : List Item) (names : List (List ℕ)) (at : ℕ) → Indexes table (names_of defined)
+    → IsRound defined names → IsLowest table names at
     → IsCircle defined (drop at names ++ take at names)
 round_first table defined names at h r low =
     let whole : names ≡ take at names ++ drop at names = sym (take-append-drop at names) in
@@ -148,24 +165,30 @@ round_first table defined names at h r low =
     let shape : drop at names ++ take at names ≡ first ∷ (drop (at + 1) names ++ take at names) = ap (λ d. d ++ take at names) here in
     let numbered : (name : List ℕ) → list_any (bytes_eq name) names ≡ true → number_in table name ≡ place_of defined name =
     λ name m. number_place table defined name h (r.among name m) in
-    let places : All (λ other. number_in table other ≡ place_of defined other) names = All-from_any bytes_laws (λ other. number_in table other ≡ place_of defined other) names numbered in
+    let places : All (λ other. number_in table other ≡ place_of defined other) names =
+    All-from_any bytes_laws (λ other. number_in table other ≡ place_of defined other) names numbered in
     let least : All (λ other. place_of defined first ≤ place_of defined other) names =
-    λ k d lt. subst (λ n. n ≤ place_of defined (get_or names k d)) (places at [] low.0) (subst (λ n. number_in table first ≤ n) (places k d lt) (low.1 k [] d lt)) in
+    λ k d lt. subst (λ n. n ≤ place_of defined (get_or names k d)) (places at [] low.0)
+    (subst (λ n. number_in table first ≤ n) (places k d lt) (low.1 k [] d lt)) in
     record {
       round = round_turned defined (take at names) (drop at names) (subst (GoRound defined) whole r.round);
-      distinct = IsDistinct-IsPermutation bytes_eq bytes_turn (take at names ++ drop at names) (drop at names ++ take at names) (IsPermutation-append_comm (take at names) (drop at names)) (subst (IsDistinct bytes_eq) whole r.distinct);
+      distinct = IsDistinct-IsPermutation bytes_eq bytes_turn (take at names ++ drop at names) (drop at names ++ take at names)
+          (IsPermutation-append_comm (take at names) (drop at names)) (subst (IsDistinct bytes_eq) whole r.distinct);
       begins = subst (BeginsByFirst defined) (sym shape)
           (All-append (λ other. place_of defined first ≤ place_of defined other) (drop (at + 1) names) (take at names)
-          (All-drop (λ other. place_of defined first ≤ place_of defined other) (at + 1) names least) (All-take (λ other. place_of defined first ≤ place_of defined other) at names least));
+          (All-drop (λ other. place_of defined first ≤ place_of defined other) (at + 1) names least)
+          (All-take (λ other. place_of defined first ≤ place_of defined other) at names least));
     }
 
 -- ---- where no definition can be placed
 
-pub stuck_from : (table : NameTable) (lists : List (Vec ℕ Global)) (placed defined : List Item) → Settled table lists [] placed defined → AreStuck placed defined
+pub stuck_from : (table : NameTable) (lists : List (Vec ℕ Global)) (placed defined : List Item) → Settled table lists [] placed defined
+    → AreStuck placed defined
 stuck_from table lists placed defined s at item here free known =
     ⊎_elim (λ named. absent (sym named ∙ free))
     (λ rest. ⊎_elim (λ none. absurd none)
-    (λ w. absent (sym (have_part placed (code_of item) w.name w.part.0 (have_known placed (code_of item) known) w.part.1 w.part.2) ∙ w.left)) rest)
+    (λ w. absent (sym (have_part placed (code_of item) w.name w.part.0 (have_known placed (code_of item) known) w.part.1 w.part.2)
+    ∙ w.left)) rest)
     (s at item here)
 
 -- ---- a step
@@ -176,7 +199,8 @@ pub record Stands (defined : List Item) (name : List ℕ) (place : ℕ) : Type 0
   pub here : At defined place item
   pub named : name_of item ≡ name
 
-pub left_stands : (table placed : NameTable) (defined : List Item) (name : List ℕ) (place : ℕ) → Indexes table (names_of defined) → IsLeft table placed defined name
+pub left_stands : (table placed : NameTable) (defined : List Item) (name : List ℕ) (place : ℕ) → Indexes table (names_of defined)
+    → IsLeft table placed defined name
     → place ≡ unwrap_or (place_in table name) 0 → Stands defined name place
 left_stands table placed defined name place h left is =
     let found = some_of (place_in table name) left.found in
@@ -190,7 +214,8 @@ get_any (x ∷ xs) zero a b h = refl
 get_any (x ∷ xs) (suc k) a b h = get_any xs k a b (omega (arith, h))
 
 -- the item at its place is the same
-stands_is : (defined : List Item) (name : List ℕ) (place : ℕ) (item : Item) → Stands defined name place → item ≡ get_or defined place item → At defined place item × (name_of item ≡ name)
+stands_is : (defined : List Item) (name : List ℕ) (place : ℕ) (item : Item) → Stands defined name place → item ≡ get_or defined place item
+    → At defined place item × (name_of item ≡ name)
 stands_is defined name place item s is =
     let same : item ≡ s.item = is ∙ get_any defined place item s.item s.here.0 ∙ s.here.1 in
     ((s.here.0, sym is), ap name_of same ∙ s.named)
@@ -200,8 +225,11 @@ used_def (Extern other) name h = absurd (omega (arith, h.1))
 used_def (Def other code) name h = refl
 
 -- one that isn't known is found in its code
-pub step_found : (table placed : NameTable) (defined : List Item) (name : List ℕ) (place : ℕ) (item : Item) (found : Option ℕ) → Stands defined name place → item ≡ get_or defined place item
-    → IsLeft table placed defined name → ((items : List Item) → Lists placed items → IfNone found (list_all (is_known items) (code_of item) ≡ true)) → (at : ℕ) × (found ≡ Some at)
+pub step_found : (table placed : NameTable) (defined : List Item) (name : List ℕ) (place : ℕ) (item : Item) (found : Option ℕ)
+    → Stands defined name place → item ≡ get_or defined place item
+    → IsLeft table placed defined name
+    → ((items : List Item) → Lists placed items → IfNone found (list_all (is_known items) (code_of item) ≡ true))
+    → (at : ℕ) × (found ≡ Some at)
 step_found table placed defined name place item (Some at) s is left none = (at, refl)
 step_found table placed defined name place item None s is left none =
     let here = stands_is defined name place item s is in
@@ -218,8 +246,10 @@ pub record Lacks (placed : NameTable) (code : List Part) (at : ℕ) : Type 0 whe
   pub within : at < length code
   pub unknown : (items : List Item) → Lists placed items → is_known items (get_or code at Add) ≡ false
 
-pub step_lacks : (table placed : NameTable) (defined : List Item) (name : List ℕ) (place : ℕ) (item : Item) (code : List Part) (found : Option ℕ) (at : ℕ) → Stands defined name place → item ≡ get_or defined place item
-    → IsLeft table placed defined name → code ≡ code_of item → Looked placed code found → at ≡ unwrap_or found 0 → Lacks placed (code_of item) at
+pub step_lacks : (table placed : NameTable) (defined : List Item) (name : List ℕ) (place : ℕ) (item : Item) (code : List Part)
+    (found : Option ℕ) (at : ℕ) → Stands defined name place → item ≡ get_or defined place item
+    → IsLeft table placed defined name → code ≡ code_of item → Looked placed code found → at ≡ unwrap_or found 0
+    → Lacks placed (code_of item) at
 step_lacks table placed defined name place item code found at s is left coded looked which =
     let here : Looked placed (code_of item) found = subst (λ c. Looked placed c found) coded looked in
     let some = step_found table placed defined name place item found s is left here.none in
@@ -231,20 +261,29 @@ step_lacks table placed defined name place item code found at s is left coded lo
     }
 
 -- it is a use, and left
-pub step_uses : (table placed : NameTable) (defined : List Item) (name next : List ℕ) (place : ℕ) (item : Item) (at : ℕ) (part : Part) → Stands defined name place → item ≡ get_or defined place item
+pub step_uses : (table placed : NameTable) (defined : List Item) (name next : List ℕ) (place : ℕ) (item : Item) (at : ℕ) (part : Part)
+    → Stands defined name place → item ≡ get_or defined place item
     → AllUsed table defined → IsLeft table placed defined name → at < length (code_of item) → part ≡ get_or (code_of item) at part
     → ((items : List Item) → Lists placed items → is_known items (get_or (code_of item) at Add) ≡ false)
     → ((items : List Item) → is_known items part ≡ false → part ≡ Name next)
     → Uses defined name next × IsLeft table placed defined next
 step_uses table placed defined name next place item at part s is used left lt there unknown names =
     let here = stands_is defined name place item s is in
-    let missed : is_known left.before part ≡ false = ap (is_known left.before) (there ∙ get_any (code_of item) at part Add lt) ∙ unknown left.before left.lists in
+    let missed : is_known left.before part ≡ false = ap (is_known left.before) (there ∙ get_any (code_of item) at part Add lt)
+    ∙ unknown left.before left.lists in
     let named : part ≡ Name next = names left.before missed in
     let among : Contains (code_of item) (Name next) = (at, lt, get_any (code_of item) at (Name next) part lt ∙ sym there ∙ named) in
     let contained : Contains defined item = (place, here.0.0, here.0.1) in
     let whole : item ≡ Def name (code_of item) = used_def item next among ∙ ap (λ n. Def n (code_of item)) here.1 in (
       record { code = code_of item; defined = subst (Contains defined) whole contained; part = among },
-      record { before = left.before; lists = left.lists; stuck = left.stuck; left = ap (is_known left.before) (sym named) ∙ missed; found = used item next contained among },
+      record {
+        before = left.before;
+        lists = left.lists;
+        stuck = left.stuck;
+        left = ap (is_known left.before) (sym named)
+            ∙ missed;
+        found = used item next contained among;
+      },
     )
 
 -- ---- the start and the end of a walk
@@ -253,7 +292,8 @@ distinct_none : IsDistinct bytes_eq []
 unfolding IsDistinct
 distinct_none = tt
 
-pub walk_none : (table placed met : NameTable) (defined : List Item) (path : List (List ℕ)) (at : List ℕ) → path ≡ [] → ((name : List ℕ) → place_in met name ≡ None) → IsLeft table placed defined at
+pub walk_none : (table placed met : NameTable) (defined : List Item) (path : List (List ℕ)) (at : List ℕ) → path ≡ []
+    → ((name : List ℕ) → place_in met name ≡ None) → IsLeft table placed defined at
     → WalksTo table placed met defined path at
 walk_none table placed met defined path at e none left =
     subst (λ p. WalksTo table placed met defined p at) (sym e)
@@ -269,7 +309,8 @@ pub record Halted (table placed : NameTable) (text : List ℕ) (lists : List (Ve
   pub so : PlacedSo placed text before defined
   pub settled : Settled table lists [] before defined
 
-pub left_at : (table placed : NameTable) (text : List ℕ) (lists : List (Vec ℕ Global)) (defined : List Item) (name : List ℕ) → Indexes table (names_of defined) → Halted table placed text lists defined
+pub left_at : (table placed : NameTable) (text : List ℕ) (lists : List (Vec ℕ Global)) (defined : List Item) (name : List ℕ)
+    → Indexes table (names_of defined) → Halted table placed text lists defined
     → is_some (place_in placed name) ≡ false → is_named defined name ≡ true → IsLeft table placed defined name
 left_at table placed text lists defined name h halted left named = record {
   before = halted.before;
@@ -279,8 +320,10 @@ left_at table placed text lists defined name h halted left named = record {
   found = indexes_named table defined name h ∙ named;
 }
 
-pub order_at : (table placed : NameTable) (text : List ℕ) (lists : List (Vec ℕ Global)) (defined : List Item) → Halted table placed text lists defined
-    → All (λ item. is_some (place_in placed (name_of item)) ≡ true) defined → (order : List Item) × IsImageOrder defined [] order × (text ≡ image_of order)
+pub order_at : (table placed : NameTable) (text : List ℕ) (lists : List (Vec ℕ Global)) (defined : List Item)
+    → Halted table placed text lists defined
+    → All (λ item. is_some (place_in placed (name_of item)) ≡ true) defined
+    → (order : List Item) × IsImageOrder defined [] order × (text ≡ image_of order)
 order_at table placed text lists defined halted all = (
   halted.before,
   subst (IsImageOrder defined []) (append-nil halted.before)
@@ -291,6 +334,8 @@ order_at table placed text lists defined halted all = (
 all_one : (P : Item → Type 0) (x : Item) → P x → All P (x ∷ [])
 all_one P x p = All-cons P x [] p (All-nil P)
 
-pub all_more : (P : Item → Type 0) (items : List Item) (i : ℕ) (item : Item) → i < length items → item ≡ get_or items i item → All P (take i items) → P item → All P (take (i + 1) items)
+pub all_more : (P : Item → Type 0) (items : List Item) (i : ℕ) (item : Item) → i < length items → item ≡ get_or items i item
+    → All P (take i items) → P item → All P (take (i + 1) items)
 all_more P items i item lt is h p =
-    subst (All P) (sym (take_more items i item lt)) (All-append P (take i items) (get_or items i item ∷ []) h (all_one P (get_or items i item) (subst P is p)))
+    subst (All P) (sym (take_more items i item lt))
+    (All-append P (take i items) (get_or items i item ∷ []) h (all_one P (get_or items i item) (subst P is p)))

@@ -1,5 +1,6 @@
 -- Items of a source are right items of an object.
-use Rattle.std.proofs.Common.{◌≡◌, ℕ, suc, ◌+◌, ◌-◌, ◌<◌, ◌^◌, Bool, true, false, cond, eqb, ltb, List, [], ◌∷◌, ◌++◌, length, take, refl, ap, sym, ◌∙◌, subst, append_assoc, arith}
+use Rattle.std.proofs.Common.{◌≡◌, ℕ, suc, ◌+◌, ◌-◌, ◌<◌, ◌^◌, Bool, true, false, cond, eqb, ltb, List, [], ◌∷◌, ◌++◌, length, take, refl}
+use Rattle.std.proofs.Common.{ap, sym, ◌∙◌, subst, append_assoc, arith}
 use Rattle.std.specs.Prelude.{not, codes, MatchBool}
 use Rattle.std.specs.List.{list_all, prefix_len, take_while}
 use Rattle.std.specs.Str.{bytes_eq}
@@ -8,13 +9,16 @@ use Rattle.std.proofs.lemmas.Bool.{and_from, ltb-true, ltb-false, le-leb, le-ltb
 use Rattle.std.proofs.lemmas.Bool.Decides.{nat_tests}
 use Rattle.std.proofs.lemmas.List.{append-nil}
 use Rattle.sample_lang.specs.declared.token.Token.{Token}
-use Rattle.sample_lang.specs.declared.token.Token.TheVariants.{IntWord, ExternWord, Identifier, Integer, Plus, Minus, Times, Equals, Semicolon, Open, Close, StrayByte, LongName, LargeNumber}
+use Rattle.sample_lang.specs.declared.token.Token.TheVariants.{IntWord, ExternWord, Identifier, Integer, Plus, Minus, Times, Equals}
+use Rattle.sample_lang.specs.declared.token.Token.TheVariants.{Semicolon, Open, Close, StrayByte, LongName, LargeNumber}
 use Rattle.sample_lang.specs.declared.program.Part.{Part}
 use Rattle.sample_lang.specs.declared.program.Part.TheVariants.{Add, Sub, Mul}
 use Rattle.sample_lang.specs.declared.program.Item.{Item}
 use Rattle.sample_lang.specs.Bytes.{is_blank, begins_name, is_name_byte, is_digit}
 use Rattle.sample_lang.specs.Tokens.{Placed, kinds, behind, word_token, number_token, symbol_token, IsRun, BeginsWith, TokensOf}
-use Rattle.sample_lang.specs.Grammar.{Expr, Alone, Sum, Difference, Term, Single, Product, Factor, Literal, Reference, Group, ItemForm, Needs, Defines, expr_tokens, term_tokens, factor_tokens, item_tokens, forms_tokens, expr_code, term_code, factor_code, item_of, items_of}
+use Rattle.sample_lang.specs.Grammar.{Expr, Alone, Sum, Difference, Term, Single, Product, Factor, Literal, Reference, Group, ItemForm}
+use Rattle.sample_lang.specs.Grammar.{Needs, Defines, expr_tokens, term_tokens, factor_tokens, item_tokens, forms_tokens, expr_code}
+use Rattle.sample_lang.specs.Grammar.{term_code, factor_code, item_of, items_of}
 use Rattle.sample_lang.specs.Sources.{SourceOf}
 use Rattle.sample_linker.specs.declared.kind.Kind.TheVariants.{Object}
 use Rattle.sample_compiler.specs.Objects.{object_of}
@@ -41,7 +45,8 @@ one_more n = omega arith
 
 front_by : (p : ℕ → Bool) (x : ℕ) (xs : List ℕ) (b : Bool) → p x ≡ b → list_all p (take_while p xs) ≡ true
     → list_all p (take (cond b (1 + prefix_len p xs) 0) (x ∷ xs)) ≡ true
-front_by p x xs true is more = ap (λ n. list_all p (take n (x ∷ xs))) (one_more (prefix_len p xs)) ∙ and_from (p x) (list_all p (take_while p xs)) is more
+front_by p x xs true is more = ap (λ n. list_all p (take n (x ∷ xs))) (one_more (prefix_len p xs))
+    ∙ and_from (p x) (list_all p (take_while p xs)) is more
 front_by p x xs false is more = refl
 
 front_all : (p : ℕ → Bool) (xs : List ℕ) → list_all p (take_while p xs) ≡ true
@@ -50,7 +55,8 @@ front_all p (x ∷ xs) = front_by p x xs (p x) refl (front_all p xs)
 
 front_begins : (p q : ℕ → Bool) (x : ℕ) (xs : List ℕ) → p x ≡ true → q x ≡ true → begins_by q (take_while p (x ∷ xs)) ≡ true
 front_begins p q x xs h k =
-    ap (λ b. begins_by q (take (cond b (1 + prefix_len p xs) 0) (x ∷ xs))) h ∙ ap (λ n. begins_by q (take n (x ∷ xs))) (one_more (prefix_len p xs)) ∙ k
+    ap (λ b. begins_by q (take (cond b (1 + prefix_len p xs) 0) (x ∷ xs))) h
+    ∙ ap (λ n. begins_by q (take n (x ∷ xs))) (one_more (prefix_len p xs)) ∙ k
 
 name_byte : (c : ℕ) → begins_name c ≡ true → is_name_byte c ≡ true
 name_byte c h = grind (arith, nat_tests)
@@ -60,23 +66,28 @@ right_word w h k =
     right_cond (ltb 63 (length w)) LongName _ (λ _. tt) (λ short.
     right_cond (bytes_eq w (codes "int")) IntWord _ (λ _. tt) (λ no_int.
     right_cond (bytes_eq w (codes "extern")) ExternWord _ (λ _. tt) (λ no_extern.
-    and_from _ _ (and_from _ _ (and_from _ _ (and_from _ _ h k) (le-leb (length w) 63 (ltb-false 63 (length w) short))) (ap not no_int)) (ap not no_extern))))
+    and_from _ _ (and_from _ _ (and_from _ _ (and_from _ _ h k) (le-leb (length w) 63 (ltb-false 63 (length w) short))) (ap not no_int))
+    (ap not no_extern))))
 
 right_number : (ds : List ℕ) → IsRightToken (number_token ds)
-right_number ds = right_cond (ltb (digits_value 10 ds) (2 ^ 64)) (Integer (digits_value 10 ds)) LargeNumber (ltb-true (digits_value 10 ds) (2 ^ 64)) (λ _. tt)
+right_number ds = right_cond (ltb (digits_value 10 ds) (2 ^ 64)) (Integer (digits_value 10 ds)) LargeNumber
+    (ltb-true (digits_value 10 ds) (2 ^ 64)) (λ _. tt)
 
 right_symbol : (c : ℕ) → IsRightToken (symbol_token c)
 right_symbol c =
     right_cond (eqb c 43) Plus _ (λ _. tt) (λ _. right_cond (eqb c 45) Minus _ (λ _. tt) (λ _. right_cond (eqb c 42) Times _ (λ _. tt) (λ _.
-    right_cond (eqb c 61) Equals _ (λ _. tt) (λ _. right_cond (eqb c 59) Semicolon _ (λ _. tt) (λ _. right_cond (eqb c 40) Open _ (λ _. tt) (λ _.
+    right_cond (eqb c 61) Equals _ (λ _. tt)
+    (λ _. right_cond (eqb c 59) Semicolon _ (λ _. tt) (λ _. right_cond (eqb c 40) Open _ (λ _. tt) (λ _.
     right_cond (eqb c 41) Close StrayByte (λ _. tt) (λ _. tt)))))))
 
 begins_by_cases : (c : ℕ) (cs : List ℕ) (token : Token) (rest : List ℕ) (b d : Bool) → begins_name c ≡ b → is_digit c ≡ d
-    → MatchBool b (IsRun is_name_byte word_token (c ∷ cs) token rest) (MatchBool d (IsRun is_digit number_token (c ∷ cs) token rest) ((token ≡ symbol_token c) × (rest ≡ cs)))
+    → MatchBool b (IsRun is_name_byte word_token (c ∷ cs) token rest)
+    (MatchBool d (IsRun is_digit number_token (c ∷ cs) token rest) ((token ≡ symbol_token c) × (rest ≡ cs)))
     → IsRightToken token
 begins_by_cases c cs token rest true d is digit h =
     let word : List ℕ = take_while is_name_byte (c ∷ cs) in
-    subst IsRightToken (sym h.0) (right_word word (front_begins is_name_byte begins_name c cs (name_byte c is) is) (front_all is_name_byte (c ∷ cs)))
+    subst IsRightToken (sym h.0)
+    (right_word word (front_begins is_name_byte begins_name c cs (name_byte c is) is) (front_all is_name_byte (c ∷ cs)))
 begins_by_cases c cs token rest false true is digit h = subst IsRightToken (sym h.0) (right_number (take_while is_digit (c ∷ cs)))
 begins_by_cases c cs token rest false false is digit h = subst IsRightToken (sym h.0) (right_symbol c)
 
@@ -112,7 +123,8 @@ mutual
   term_right (Single f) h = factor_right f h
   term_right (Product t f) h =
       let s = both (term_tokens t) (Times ∷ factor_tokens f) h in
-      joined (term_code t) (factor_code f ++ Mul ∷ []) (term_right t s.0) (joined (factor_code f) (Mul ∷ []) (factor_right f s.1.1) (tt, tt))
+      joined (term_code t) (factor_code f ++ Mul ∷ []) (term_right t s.0)
+      (joined (factor_code f) (Mul ∷ []) (factor_right f s.1.1) (tt, tt))
 
   factor_right : (f : Factor) → AreRightTokens (factor_tokens f) → AreRightParts (factor_code f)
   factor_right (Literal n) h = h
@@ -124,7 +136,8 @@ mutual
 regroup : (a b c d : List Part) → (a ++ (b ++ c)) ++ d ≡ a ++ (b ++ (c ++ d))
 regroup a b c d = simp append_assoc
 
-two_found : (depth : ℕ) (rest : List Part) → cond (ltb (suc (suc depth)) 2) false (leaves_one (suc (suc depth) - 1) rest) ≡ leaves_one (suc depth) rest
+two_found : (depth : ℕ) (rest : List Part)
+    → cond (ltb (suc (suc depth)) 2) false (leaves_one (suc (suc depth) - 1) rest) ≡ leaves_one (suc depth) rest
 two_found depth rest =
     let enough : ltb (suc (suc depth)) 2 ≡ false = le-ltb (suc (suc depth)) 2 (omega arith) in
     let less : suc (suc depth) - 1 ≡ suc depth = omega arith in
@@ -170,6 +183,7 @@ forms_right (form ∷ forms) h =
 pub source_says : (text : List ℕ) (items : List Item) → SourceOf text items → Says Object (object_of items) items
 source_says text items s = record {
   spelled = refl;
-  right = subst (AreRightItems Object) (sym s.meant) (forms_right s.forms (subst AreRightTokens s.spelled.spelled (tokens_right 1 text s.tokens s.split)));
+  right = subst (AreRightItems Object) (sym s.meant)
+      (forms_right s.forms (subst AreRightTokens s.spelled.spelled (tokens_right 1 text s.tokens s.split)));
   declared = s.declared;
 }

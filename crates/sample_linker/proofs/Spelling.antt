@@ -1,5 +1,6 @@
 -- Right items are read from their lines.
-use Rattle.std.proofs.Common.{◌≡◌, ℕ, suc, ◌+◌, Bool, true, false, cond, List, [], ◌∷◌, ◌++◌, length, take, drop, Option, Some, None, Result, Ok, refl, ap, sym, ◌∙◌, append_assoc, arith}
+use Rattle.std.proofs.Common.{◌≡◌, ℕ, suc, ◌+◌, Bool, true, false, cond, List, [], ◌∷◌, ◌++◌, length, take, drop, Option, Some, None}
+use Rattle.std.proofs.Common.{Result, Ok, refl, ap, sym, ◌∙◌, append_assoc, arith}
 use Rattle.std.specs.Prelude.{not, codes, ◌&&◌}
 use Rattle.std.specs.List.{list_all, flat_map, slice_split, position_or_len, before_first, after_first}
 use Rattle.std.specs.Option.{option_map}
@@ -16,7 +17,8 @@ use Rattle.sample_lang.specs.Names as names
 use Rattle.sample_linker.specs.declared.kind.Kind.{Kind}
 use Rattle.sample_linker.specs.declared.kind.Kind.TheVariants.{Object, Image}
 use Rattle.sample_compiler.specs.Objects.{part_text, item_line}
-use Rattle.sample_linker.specs.Lines.{is_line_feed, is_blank, heading, has_needs, is_name, leaves_one, code_of, def_item, need_item, line_item}
+use Rattle.sample_linker.specs.Lines.{is_line_feed, is_blank, heading, has_needs, is_name, leaves_one, code_of, def_item, need_item}
+use Rattle.sample_linker.specs.Lines.{line_item}
 use Rattle.sample_linker.specs.Files.{is_known, may_follow, following, go_on, lines_items, headed_items, file_items}
 use Rattle.sample_linker.specs.Right.{IsRightItem, AreRightItems, AreRightParts, Says}
 use Rattle.sample_linker.proofs.Splits.{split_some}
@@ -55,8 +57,19 @@ body_is (Def name code) = refl
 
 body_clear : (kind : Kind) (item : Item) → IsRightItem kind item → Clear is_line_feed (body_of item)
 body_clear kind (Extern name) h = (refl, (refl, (refl, (refl, (refl, (name_is_clear name h.1).1)))))
-body_clear kind (Def name code) h =
-    (refl, (refl, (refl, (refl, Clear-append is_line_feed name (flat_map part_text code) (name_is_clear name h.0).1 (code_clear code h.1)))))
+body_clear kind (Def name code) h = (
+  refl,
+  (
+    refl,
+    (
+      refl,
+      (
+        refl,
+        Clear-append is_line_feed name (flat_map part_text code) (name_is_clear name h.0).1 (code_clear code h.1),
+      ),
+    ),
+  ),
+)
 
 abbrev def_by : List ℕ → List ℕ → Option Item
 def_by name text = cond (is_name name) (option_map (λ code. Def name code) (code_of text)) None
@@ -88,7 +101,8 @@ known items (Add ∷ parts) h = known items parts h
 known items (Sub ∷ parts) h = known items parts h
 known items (Mul ∷ parts) h = known items parts h
 
-follows : (items : List Item) (item : Item) → is_named items (name_of item) ≡ false → HaveNames items (names.code_of item) → may_follow items item ≡ true
+follows : (items : List Item) (item : Item) → is_named items (name_of item) ≡ false → HaveNames items (names.code_of item)
+    → may_follow items item ≡ true
 follows items item h k = and_from _ _ (ap not h) (known items (names.code_of item) k)
 
 abbrev Rest : Kind → ℕ → List (List ℕ) → List Item → Result (List Item) ℕ
@@ -103,7 +117,8 @@ lines_read kind earlier (item ∷ items) at h k =
     let lined : item_line item ++ text ≡ body ++ 10 ∷ text = ap (λ t. t ++ text) (body_is item) ∙ append_assoc body (10 ∷ []) text in
     let some = split_some is_line_feed text in
     let cut : slice_split is_line_feed (item_line item ++ text) ≡ body ∷ some.0 ∷ some.1 =
-    ap (slice_split is_line_feed) lined ∙ slice_split_at is_line_feed body 10 text (all_clear is_line_feed body (body_clear kind item h.0)) refl
+    ap (slice_split is_line_feed) lined
+    ∙ slice_split_at is_line_feed body 10 text (all_clear is_line_feed body (body_clear kind item h.0)) refl
     ∙ ap (λ ls. body ∷ ls) some.2 in
     let read : following earlier (line_item kind body) ≡ Some item =
     ap (following earlier) (line_reads kind item h.0) ∙ cond_yes (may_follow earlier item) _ _ (follows earlier item k.0 k.1) in
@@ -117,7 +132,8 @@ head_clear : (kind : Kind) → Clear is_line_feed (heading kind)
 head_clear Object = (refl, (refl, (refl, (refl, tt))))
 head_clear Image = (refl, (refl, (refl, (refl, tt))))
 
-headed : (kind : Kind) (head : List ℕ) (tail : List (List ℕ)) → headed_items kind (heading kind ∷ head ∷ tail) ≡ lines_items kind [] 2 (head ∷ tail)
+headed : (kind : Kind) (head : List ℕ) (tail : List (List ℕ))
+    → headed_items kind (heading kind ∷ head ∷ tail) ≡ lines_items kind [] 2 (head ∷ tail)
 headed Object head tail = refl
 headed Image head tail = refl
 
@@ -127,7 +143,8 @@ file_reads kind text items s =
     let rest : List ℕ = flat_map item_line items in
     let some = split_some is_line_feed rest in
     ap (file_items kind) s.spelled
-    ∙ ap (headed_items kind) (slice_split_at is_line_feed (heading kind) 10 rest (all_clear is_line_feed (heading kind) (head_clear kind)) refl)
+    ∙ ap (headed_items kind)
+    (slice_split_at is_line_feed (heading kind) 10 rest (all_clear is_line_feed (heading kind) (head_clear kind)) refl)
     ∙ ap (λ ls. headed_items kind (heading kind ∷ ls)) some.2
     ∙ headed kind some.0 some.1
     ∙ ap (lines_items kind [] 2) (sym some.2)

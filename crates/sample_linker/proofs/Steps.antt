@@ -1,5 +1,6 @@
 -- How definitions are placed.
-use Rattle.std.proofs.Common.{◌≡◌, ℕ, zero, suc, ◌<◌, ◌≤◌, Bool, true, false, List, [], ◌∷◌, ◌++◌, length, take, drop, get_or, codes, Option, Some, None, refl, ap, sym, ◌∙◌, subst, ◌⊎◌, inl, inr, ⊎_elim, append_assoc, arith}
+use Rattle.std.proofs.Common.{◌≡◌, ℕ, zero, suc, ◌<◌, ◌≤◌, Bool, true, false, List, [], ◌∷◌, ◌++◌, length, take, drop, get_or, codes}
+use Rattle.std.proofs.Common.{Option, Some, None, refl, ap, sym, ◌∙◌, subst, ◌⊎◌, inl, inr, ⊎_elim, append_assoc, arith}
 use Rattle.std.specs.Prelude.{Vec}
 use Rattle.std.specs.Global.{Global}
 use Rattle.std.specs.List.{Contains, list_all, flat_map}
@@ -23,7 +24,7 @@ use Rattle.sample_linker.specs.Waits.{Has, Awaits, Wakes, At, Waits, Settled, Pl
 use Rattle.sample_linker.proofs.Numbers.{last_named}
 use Rattle.sample_linker.proofs.Sets.{some_is}
 use Rattle.sample_linker.proofs.Soundness.{have_known}
-use Rattle.sample_linker.proofs.Promise.{push_cases, more_named, have_part}
+use Rattle.sample_linker.proofs.Members.{push_cases, more_named, have_part}
 
 never : {P : Type 0} → true ≡ false → P
 never h = cc
@@ -37,7 +38,8 @@ abbrev Now : NameTable → List (Vec ℕ Global) → List ℕ → List Item → 
 Now table lists seen placed at item = (is_named placed (name_of item) ≡ true) ⊎ (Has seen at ⊎ Waits table lists placed at item)
 
 -- the definition at one place was looked at, and the others stand as they did
-settled_map : (table : NameTable) (lists new : List (Vec ℕ Global)) (at : ℕ) (seen more : List ℕ) (placed then : List Item) (defined : List Item)
+settled_map : (table : NameTable) (lists new : List (Vec ℕ Global)) (at : ℕ) (seen more : List ℕ) (placed then : List Item)
+    (defined : List Item)
     → Settled table lists (at ∷ seen) placed defined
     → ((item : Item) → At defined at item → Now table new more then at item)
     → ((name : List ℕ) → is_named placed name ≡ true → is_named then name ≡ true)
@@ -47,39 +49,51 @@ settled_map : (table : NameTable) (lists new : List (Vec ℕ Global)) (at : ℕ)
 settled_map table lists new at seen more placed then defined s here named kept waits k item there =
     ⊎_elim (λ p. inl (named (name_of item) p))
     (λ rest. ⊎_elim
-    (λ looked. ⊎_elim (λ same. subst (λ j. Now table new more then j item) same (here item (subst (λ j. At defined j item) (sym same) there))) (λ later. inr (inl (kept k later))) looked)
+    (λ looked. ⊎_elim (λ same. subst (λ j. Now table new more then j item) same
+    (here item (subst (λ j. At defined j item) (sym same) there))) (λ later. inr (inl (kept k later))) looked)
     (λ w. waits k item w) rest)
     (s k item there)
 
 -- there is no such place
-pub settled_past : (table : NameTable) (lists : List (Vec ℕ Global)) (at : ℕ) (seen : List ℕ) (placed defined : List Item) → length defined ≤ at
+pub settled_past : (table : NameTable) (lists : List (Vec ℕ Global)) (at : ℕ) (seen : List ℕ) (placed defined : List Item)
+    → length defined ≤ at
     → Settled table lists (at ∷ seen) placed defined → Settled table lists seen placed defined
 settled_past table lists at seen placed defined le s =
-    settled_map table lists lists at seen seen placed placed defined s (λ item there. absurd (omega (arith, le, there.0))) (λ n h. h) (λ k h. h) (λ k item w. inr (inr w))
+    settled_map table lists lists at seen seen placed placed defined s (λ item there. absurd (omega (arith, le, there.0))) (λ n h. h)
+    (λ k h. h) (λ k item w. inr (inr w))
 
 -- it was placed before
-pub settled_done : (table : NameTable) (lists : List (Vec ℕ Global)) (at : ℕ) (seen : List ℕ) (placed defined : List Item) (item : Item) → At defined at item → is_named placed (name_of item) ≡ true
+pub settled_done : (table : NameTable) (lists : List (Vec ℕ Global)) (at : ℕ) (seen : List ℕ) (placed defined : List Item) (item : Item)
+    → At defined at item → is_named placed (name_of item) ≡ true
     → Settled table lists (at ∷ seen) placed defined → Settled table lists seen placed defined
 settled_done table lists at seen placed defined item is h s =
     settled_map table lists lists at seen seen placed placed defined s
-    (λ other there. inl (subst (λ i. is_named placed (name_of i) ≡ true) (at_one defined at item other is there) h)) (λ n k. k) (λ k m. m) (λ k other w. inr (inr w))
+    (λ other there. inl (subst (λ i. is_named placed (name_of i) ≡ true) (at_one defined at item other is there) h)) (λ n k. k) (λ k m. m)
+    (λ k other w. inr (inr w))
 
-wait_kept : (table : NameTable) (lists new : List (Vec ℕ Global)) (placed : List Item) (k : ℕ) (item : Item) → ((other n : ℕ) → Awaits lists other n → Awaits new other n)
+wait_kept : (table : NameTable) (lists new : List (Vec ℕ Global)) (placed : List Item) (k : ℕ) (item : Item)
+    → ((other n : ℕ) → Awaits lists other n → Awaits new other n)
     → Waits table lists placed k item → Waits table new placed k item
 wait_kept table lists new placed k item f w = record { name = w.name; place = w.place; part = w.part; left = w.left; found = w.found; awaits = f w.place k w.awaits }
 
 -- it waits
-pub settled_wait : (table : NameTable) (lists new : List (Vec ℕ Global)) (at : ℕ) (seen : List ℕ) (placed defined : List Item) (item : Item) → At defined at item → Waits table new placed at item
-    → ((other n : ℕ) → Awaits lists other n → Awaits new other n) → Settled table lists (at ∷ seen) placed defined → Settled table new seen placed defined
+pub settled_wait : (table : NameTable) (lists new : List (Vec ℕ Global)) (at : ℕ) (seen : List ℕ) (placed defined : List Item)
+    (item : Item) → At defined at item → Waits table new placed at item
+    → ((other n : ℕ) → Awaits lists other n → Awaits new other n) → Settled table lists (at ∷ seen) placed defined
+    → Settled table new seen placed defined
 settled_wait table lists new at seen placed defined item is w f s =
     settled_map table lists new at seen seen placed placed defined s
-    (λ other there. inr (inr (subst (λ i. Waits table new placed at i) (at_one defined at item other is there) w))) (λ n k. k) (λ k m. m) (λ k other v. inr (inr (wait_kept table lists new placed k other f v)))
+    (λ other there. inr (inr (subst (λ i. Waits table new placed at i) (at_one defined at item other is there) w))) (λ n k. k) (λ k m. m)
+    (λ k other v. inr (inr (wait_kept table lists new placed k other f v)))
 
-woken_by : (table : NameTable) (lists new : List (Vec ℕ Global)) (seen more : List ℕ) (placed : List Item) (next : Item) (place k : ℕ) (item : Item) (w : Waits table lists placed k item) (b : Bool)
-    → is_named (placed ++ next ∷ []) w.name ≡ b → place_in table (name_of next) ≡ Some place → Wakes lists new seen more place → Now table new more (placed ++ next ∷ []) k item
+woken_by : (table : NameTable) (lists new : List (Vec ℕ Global)) (seen more : List ℕ) (placed : List Item) (next : Item) (place k : ℕ)
+    (item : Item) (w : Waits table lists placed k item) (b : Bool)
+    → is_named (placed ++ next ∷ []) w.name ≡ b → place_in table (name_of next) ≡ Some place → Wakes lists new seen more place
+    → Now table new more (placed ++ next ∷ []) k item
 woken_by table lists new seen more placed next place k item w true e found h =
     ⊎_elim (λ old. never (sym old ∙ w.left))
-    (λ same. inr (inl (h.taken k (subst (λ q. Awaits lists q k) (sym (some_is place w.place (sym found ∙ ap (place_in table) same ∙ w.found))) w.awaits))))
+    (λ same. inr (inl (h.taken k
+    (subst (λ q. Awaits lists q k) (sym (some_is place w.place (sym found ∙ ap (place_in table) same ∙ w.found))) w.awaits))))
     (push_cases placed next w.name e)
 woken_by table lists new seen more placed next place k item w false e found h =
     ⊎_elim (λ woke. inr (inl woke))
@@ -87,17 +101,21 @@ woken_by table lists new seen more placed next place k item w false e found h =
     (h.kept w.place k w.awaits)
 
 -- it is placed
-pub settled_place : (table : NameTable) (lists new : List (Vec ℕ Global)) (at : ℕ) (seen more : List ℕ) (placed defined : List Item) (item : Item) (place : ℕ) → At defined at item
-    → place_in table (name_of item) ≡ Some place → Wakes lists new seen more place → Settled table lists (at ∷ seen) placed defined → Settled table new more (placed ++ item ∷ []) defined
+pub settled_place : (table : NameTable) (lists new : List (Vec ℕ Global)) (at : ℕ) (seen more : List ℕ) (placed defined : List Item)
+    (item : Item) (place : ℕ) → At defined at item
+    → place_in table (name_of item) ≡ Some place → Wakes lists new seen more place → Settled table lists (at ∷ seen) placed defined
+    → Settled table new more (placed ++ item ∷ []) defined
 settled_place table lists new at seen more placed defined item place is found h s =
     settled_map table lists new at seen more placed (placed ++ item ∷ []) defined s
-    (λ other there. inl (subst (λ i. is_named (placed ++ item ∷ []) (name_of i) ≡ true) (at_one defined at item other is there) (last_named placed item)))
+    (λ other there. inl (subst (λ i. is_named (placed ++ item ∷ []) (name_of i) ≡ true) (at_one defined at item other is there)
+    (last_named placed item)))
     (λ n k. more_named placed item n k) h.seen_kept
     (λ k other w. woken_by table lists new seen more placed item place k other w (is_named (placed ++ item ∷ []) w.name) refl found h)
 
 -- ---- the next definition
 
-front_at : (defined : List Item) (at k : ℕ) (x : Item) → k < length (take at defined) → get_or (take at defined) k x ≡ x → (k < at) × At defined k x
+front_at : (defined : List Item) (at k : ℕ) (x : Item) → k < length (take at defined) → get_or (take at defined) k x ≡ x
+    → (k < at) × At defined k x
 front_at defined zero k x h e = absurd (omega (arith, h))
 front_at [] (suc at) k x h e = absurd (omega (arith, h))
 front_at (d ∷ ds) (suc at) zero x h e = (omega arith, (omega arith, e))
@@ -106,8 +124,10 @@ front_at (d ∷ ds) (suc at) (suc k) x h e =
     (omega (arith, r.0), (omega (arith, r.1.0), r.1.1))
 
 -- the least one that is to be looked at comes next, where it is left and all of its names are placed
-pub next_is : (table : NameTable) (lists : List (Vec ℕ Global)) (at : ℕ) (seen : List ℕ) (placed defined : List Item) (item : Item) → At defined at item
-    → Settled table lists (at ∷ seen) placed defined → ((k : ℕ) → Has seen k → at < k) → is_named placed (name_of item) ≡ false → list_all (is_known placed) (code_of item) ≡ true
+pub next_is : (table : NameTable) (lists : List (Vec ℕ Global)) (at : ℕ) (seen : List ℕ) (placed defined : List Item) (item : Item)
+    → At defined at item
+    → Settled table lists (at ∷ seen) placed defined → ((k : ℕ) → Has seen k → at < k) → is_named placed (name_of item) ≡ false
+    → list_all (is_known placed) (code_of item) ≡ true
     → IsNext defined placed item
 next_is table lists at seen placed defined item is s above free known = record {
   front = take at defined;
@@ -128,10 +148,12 @@ image_more : (placed : List Item) (item : Item) → image_of placed ++ item_line
 image_more placed item =
     append_assoc (codes "SCP1\n") (flat_map item_line placed) (item_line item)
     ∙ ap (λ t. codes "SCP1\n" ++ t)
-    (ap (λ t. flat_map item_line placed ++ t) (sym (flat_map-cons item_line item [] ∙ append-nil (item_line item))) ∙ sym (flat_map-append item_line placed (item ∷ [])))
+    (ap (λ t. flat_map item_line placed ++ t) (sym (flat_map-cons item_line item [] ∙ append-nil (item_line item)))
+    ∙ sym (flat_map-append item_line placed (item ∷ [])))
 
 -- the image grows by the line of the next definition
-pub placed_more : (table new : NameTable) (text grown : List ℕ) (placed defined : List Item) (item : Item) → PlacedSo table text placed defined → IsNext defined placed item
+pub placed_more : (table new : NameTable) (text grown : List ℕ) (placed defined : List Item) (item : Item)
+    → PlacedSo table text placed defined → IsNext defined placed item
     → Lists new (placed ++ item ∷ []) → grown ≡ text ++ item_line item → PlacedSo new grown (placed ++ item ∷ []) defined
 placed_more table new text grown placed defined item p next lists e = record {
   lists = lists;
@@ -140,7 +162,8 @@ placed_more table new text grown placed defined item p next lists e = record {
 }
 
 -- nothing is placed
-pub placed_none : (table : NameTable) (text : List ℕ) (defined : List Item) → Lists table [] → text ≡ image_of [] → PlacedSo table text [] defined
+pub placed_none : (table : NameTable) (text : List ℕ) (defined : List Item) → Lists table [] → text ≡ image_of []
+    → PlacedSo table text [] defined
 placed_none table text defined lists e = record { lists = lists; says = e; whole = λ more order. order }
 
 -- ---- one look
@@ -154,8 +177,10 @@ some_of : (number : Option ℕ) → is_some number ≡ true → (n : ℕ) × (nu
 some_of None h = cc
 some_of (Some n) h = (n, refl)
 
-pub look_waits : (table : NameTable) (lists new : List (Vec ℕ Global)) (at : ℕ) (seen : List ℕ) (placed defined : List Item) (item : Item) (code : List Part) (found : ℕ) (part : Part) (name : List ℕ)
-    → At defined at item → code ≡ code_of item → found < length code → part ≡ get_or code found part → is_known placed (get_or code found Add) ≡ false
+pub look_waits : (table : NameTable) (lists new : List (Vec ℕ Global)) (at : ℕ) (seen : List ℕ) (placed defined : List Item) (item : Item)
+    (code : List Part) (found : ℕ) (part : Part) (name : List ℕ)
+    → At defined at item → code ≡ code_of item → found < length code → part ≡ get_or code found part
+    → is_known placed (get_or code found Add) ≡ false
     → (is_known placed part ≡ false → part ≡ Name name)
     → ((used : List ℕ) → Contains (code_of item) (Name used) → is_some (place_in table used) ≡ true)
     → ((place : ℕ) → place_in table name ≡ Some place → Awaits new place at)
@@ -168,9 +193,18 @@ look_waits table lists new at seen placed defined item code found part name here
     let among : Contains (code_of item) (Name name) = subst (λ c. Contains c (Name name)) coded has in
     let place = some_of (place_in table name) (used name among) in
     settled_wait table lists new at seen placed defined item here
-    (record { name = name; place = place.0; part = among; left = ap (is_known placed) (sym named) ∙ missed; found = place.1; awaits = waits place.0 place.1 }) kept s
+    (record {
+      name = name;
+      place = place.0;
+      part = among;
+      left = ap (is_known placed) (sym named)
+          ∙ missed;
+      found = place.1;
+      awaits = waits place.0 place.1;
+    }) kept s
 
-pub look_places : (table old grown : NameTable) (lists new : List (Vec ℕ Global)) (text image : List ℕ) (at : ℕ) (seen more : List ℕ) (placed defined : List Item) (item : Item) (code : List Part)
+pub look_places : (table old grown : NameTable) (lists new : List (Vec ℕ Global)) (text image : List ℕ) (at : ℕ) (seen more : List ℕ)
+    (placed defined : List Item) (item : Item) (code : List Part)
     → At defined at item → code ≡ code_of item → is_named placed (name_of item) ≡ false → list_all (is_known placed) code ≡ true
     → is_some (place_in table (name_of item)) ≡ true
     → Lists grown (placed ++ item ∷ []) → image ≡ text ++ item_line item
@@ -178,6 +212,10 @@ pub look_places : (table old grown : NameTable) (lists new : List (Vec ℕ Globa
     → PlacedSo old text placed defined → Settled table lists (at ∷ seen) placed defined → ((k : ℕ) → Has seen k → at < k)
     → (then : List Item) × PlacedSo grown image then defined × Settled table new more then defined
 look_places table old grown lists new text image at seen more placed defined item code here coded free known own listed line wakes so s above =
-    let next = next_is table lists at seen placed defined item here s above free (subst (λ c. list_all (is_known placed) c ≡ true) coded known) in
-    let place = some_of (place_in table (name_of item)) own in
-    (placed ++ item ∷ [], placed_more old grown text image placed defined item so next listed line, settled_place table lists new at seen more placed defined item place.0 here place.1 (wakes place.0 place.1) s)
+    let next = next_is table lists at seen placed defined item here s above free
+    (subst (λ c. list_all (is_known placed) c ≡ true) coded known) in
+    let place = some_of (place_in table (name_of item)) own in (
+      placed ++ item ∷ [],
+      placed_more old grown text image placed defined item so next listed line,
+      settled_place table lists new at seen more placed defined item place.0 here place.1 (wakes place.0 place.1) s,
+    )

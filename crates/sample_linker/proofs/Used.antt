@@ -1,5 +1,6 @@
 -- The table of definitions has each name in their codes.
-use Rattle.std.proofs.Common.{◌≡◌, ℕ, suc, ◌+◌, ◌<◌, Bool, true, false, cond, List, [], ◌∷◌, ◌++◌, length, take, get_or, Option, Some, None, Result, Ok, Err, refl, ap, sym, ◌∙◌, subst, ◌⊎◌, inl, inr, ⊎_elim, append_assoc, arith}
+use Rattle.std.proofs.Common.{◌≡◌, ℕ, suc, ◌+◌, ◌<◌, Bool, true, false, cond, List, [], ◌∷◌, ◌++◌, length, take, get_or, Option, Some, None}
+use Rattle.std.proofs.Common.{Result, Ok, Err, refl, ap, sym, ◌∙◌, subst, ◌⊎◌, inl, inr, ⊎_elim, append_assoc, arith}
 use Rattle.std.specs.Prelude.{◌||◌}
 use Rattle.std.specs.List.{Contains}
 use Rattle.std.specs.Option.{is_some}
@@ -24,7 +25,7 @@ use Rattle.sample_linker.specs.Runs.{Within}
 use Rattle.sample_linker.specs.Tables.{place_in}
 use Rattle.sample_linker.proofs.Numbers.{same_bytes, have_more, within_more, Within-append}
 use Rattle.sample_linker.proofs.Places.{at_name, indexes_named}
-use Rattle.sample_linker.proofs.Promise.{Member, member_contained, member_named, have_part}
+use Rattle.sample_linker.proofs.Members.{Member, member_contained, member_named, have_part}
 use Rattle.sample_linker.proofs.Soundness.{file_sound}
 
 -- ---- within an object
@@ -35,7 +36,8 @@ or_true false = refl
 
 named_behind : (earlier items : List Item) (name : List ℕ) → is_named items name ≡ true → is_named (earlier ++ items) name ≡ true
 named_behind earlier items name h =
-    list_any-append (λ item. bytes_eq (name_of item) name) earlier items ∙ ap (λ b. is_named earlier name || b) h ∙ or_true (is_named earlier name)
+    list_any-append (λ item. bytes_eq (name_of item) name) earlier items ∙ ap (λ b. is_named earlier name || b) h
+    ∙ or_true (is_named earlier name)
 
 have_behind : (earlier items : List Item) (code : List Part) → HaveNames items code → HaveNames (earlier ++ items) code
 have_behind earlier items [] h = tt
@@ -47,7 +49,12 @@ have_behind earlier items (Mul ∷ code) h = have_behind earlier items code h
 
 within_behind : (earlier outer items : List Item) → Within outer items → Within (earlier ++ outer) items
 within_behind earlier outer [] h = tt
-within_behind earlier outer (item ∷ items) h = (named_behind earlier outer (name_of item) h.0, have_behind earlier outer (code_of item) h.1, within_behind earlier outer items h.2)
+within_behind earlier outer
+    (item ∷ items) h = (
+      named_behind earlier outer (name_of item) h.0,
+      have_behind earlier outer (code_of item) h.1,
+      within_behind earlier outer items h.2,
+    )
 
 first_named : (item : Item) (items : List Item) → is_named (item ∷ items) (name_of item) ≡ true
 first_named item items = ap (λ b. b || is_named items (name_of item)) (same_bytes (name_of item))
@@ -74,12 +81,16 @@ one_list a b h = cc
 no_list : {P : Type 0} (e : ℕ × ℕ) (items : List Item) → Err e ≡ Ok items → P
 no_list e items h = cc
 
-pub objects_within : (items found : List Item) (file : ℕ) (objects : List (List ℕ)) → objects_items items file objects ≡ Ok found → Within items items → Within found found
+pub objects_within : (items found : List Item) (file : ℕ) (objects : List (List ℕ)) → objects_items items file objects ≡ Ok found
+    → Within items items → Within found found
 objects_within items found file [] h w = subst (λ is. Within is is) (one_list items found h) w
-objects_within items found file (object ∷ objects) h w = by (file_items Object object) refl h (λ more k. objects_within (items ++ more) found (suc file) objects k)
+objects_within items found file (object ∷ objects) h w = by (file_items Object object) refl h
+    (λ more k. objects_within (items ++ more) found (suc file) objects k)
   where
-    by : (read : Result (List Item) ℕ) → file_items Object object ≡ read → then_file file read (λ more. objects_items (items ++ more) (suc file) objects) ≡ Ok found
-        → ((more : List Item) → objects_items (items ++ more) (suc file) objects ≡ Ok found → Within (items ++ more) (items ++ more) → Within found found) → Within found found
+    by : (read : Result (List Item) ℕ) → file_items Object object ≡ read
+        → then_file file read (λ more. objects_items (items ++ more) (suc file) objects) ≡ Ok found
+        → ((more : List Item) → objects_items (items ++ more) (suc file) objects ≡ Ok found → Within (items ++ more) (items ++ more)
+        → Within found found) → Within found found
     by (Err line) e h go = no_list (file, line) found h
     by (Ok more) e h go = go more h (within_both items more w (declared_within [] more (file_sound Object object more e).1))
 
@@ -92,7 +103,8 @@ no_need : {P : Type 0} → false ≡ true → P
 no_need h = cc
 
 -- a name of an item is defined, where each need is met
-met_named : (defined items : List Item) (name : List ℕ) → unresolved defined items ≡ None → ((n : List ℕ) → is_named (definitions items) n ≡ true → is_named defined n ≡ true)
+met_named : (defined items : List Item) (name : List ℕ) → unresolved defined items ≡ None
+    → ((n : List ℕ) → is_named (definitions items) n ≡ true → is_named defined n ≡ true)
     → is_named items name ≡ true → is_named defined name ≡ true
 met_named defined [] name met sub h = no_need h
 met_named defined (Def other code ∷ items) name met sub h =
@@ -120,19 +132,24 @@ within_member outer (other ∷ items) item w m =
     ⊎_elim (λ here. subst (λ i. HaveNames outer (code_of i)) here w.1) (λ later. within_member outer items item w.2 later) m
 
 -- each name in a code of a definition has a place
-pub all_used : (table : NameTable) (objects : List (List ℕ)) (items : List Item) → objects_items [] 1 objects ≡ Ok items → Lists table (definitions items) → unresolved (definitions items) items ≡ None
+pub all_used : (table : NameTable) (objects : List (List ℕ)) (items : List Item) → objects_items [] 1 objects ≡ Ok items
+    → Lists table (definitions items) → unresolved (definitions items) items ≡ None
     → AllUsed table (definitions items)
 all_used table objects items read lists met item name defined part =
     let within : Within items items = objects_within [] items 1 objects read tt in
-    let have : HaveNames items (code_of item) = within_member items items item within (member_defined items item (member_contained (definitions items) item defined)) in
+    let have : HaveNames items (code_of item) =
+    within_member items items item within (member_defined items item (member_contained (definitions items) item defined)) in
     let named : is_named items name ≡ true = have_part items (code_of item) name part.0 have part.1 part.2 in
     lists name ∙ met_named (definitions items) items name met (λ n k. k) named
 
 -- each definition has a place
-pub all_own : (table : NameTable) (defined : List Item) (item : Item) → Indexes table (names_of defined) → Contains defined item → is_some (place_in table (name_of item)) ≡ true
-all_own table defined item h here = indexes_named table defined (name_of item) h ∙ member_named defined item (name_of item) (member_contained defined item here) refl
+pub all_own : (table : NameTable) (defined : List Item) (item : Item) → Indexes table (names_of defined) → Contains defined item
+    → is_some (place_in table (name_of item)) ≡ true
+all_own table defined item h here = indexes_named table defined (name_of item) h
+    ∙ member_named defined item (name_of item) (member_contained defined item here) refl
 
-pub place_below : (table : NameTable) (defined : List Item) (name : List ℕ) (place : ℕ) → Indexes table (names_of defined) → place_in table name ≡ Some place → place < length defined
+pub place_below : (table : NameTable) (defined : List Item) (name : List ℕ) (place : ℕ) → Indexes table (names_of defined)
+    → place_in table name ≡ Some place → place < length defined
 place_below table defined name place h found =
     let here = (at_name name (names_of defined) place (sym (h name) ∙ found)).0 in
     omega (arith, here, length-map defined name_of)

@@ -1,5 +1,6 @@
 -- Words of right parts are read as these parts.
-use Rattle.std.proofs.Common.{◌≡◌, ℕ, ◌<◌, ◌^◌, Bool, true, false, cond, eqb, ltb, leb, List, [], ◌∷◌, ◌++◌, length, get_or, map, Some, refl, ap, sym, ◌∙◌, subst, ⊎_elim, append_assoc, arith}
+use Rattle.std.proofs.Common.{◌≡◌, ℕ, ◌<◌, ◌^◌, Bool, true, false, cond, eqb, ltb, leb, List, [], ◌∷◌, ◌++◌, length, get_or, map, Some}
+use Rattle.std.proofs.Common.{refl, ap, sym, ◌∙◌, subst, ⊎_elim, append_assoc, arith}
 use Rattle.std.specs.Prelude.{not, ◌||◌, ◌==◌}
 use Rattle.std.specs.List.{list_all, flat_map, slice_split, All}
 use Rattle.std.specs.Str.{bytes_eq}
@@ -16,7 +17,8 @@ use Rattle.sample_lang.specs.declared.program.Part.{Part}
 use Rattle.sample_lang.specs.declared.program.Part.TheVariants.{Number, Name, Add, Sub, Mul}
 use Rattle.sample_lang.specs.Bytes.{is_name_byte, is_digit}
 use Rattle.sample_compiler.specs.Objects.{part_text}
-use Rattle.sample_linker.specs.Lines.{is_line_feed, is_blank, begins_by, is_name, is_number, part_of, parts_behind, and_then, whole_code, code_of, leaves_one}
+use Rattle.sample_linker.specs.Lines.{is_line_feed, is_blank, begins_by, is_name, is_number, part_of, parts_behind, and_then, whole_code}
+use Rattle.sample_linker.specs.Lines.{code_of, leaves_one}
 use Rattle.sample_linker.specs.Right.{IsRightPart, AreRightParts}
 
 -- ---- bytes
@@ -97,7 +99,8 @@ Plain w = leb (length w) 1 || not (begins_by (λ c. c == 48) w)
 
 plain_decimal : (n : ℕ) → n < 2 ^ 64 → Plain (decimal n) ≡ true
 plain_decimal n h =
-    ⊎_elim (λ some. ap (λ b. leb (length (decimal n)) 1 || not b) (not_zero (decimal n) (first_decimal n some h)) ∙ or_true (leb (length (decimal n)) 1))
+    ⊎_elim (λ some. ap (λ b. leb (length (decimal n)) 1 || not b) (not_zero (decimal n) (first_decimal n some h))
+    ∙ or_true (leb (length (decimal n)) 1))
     (λ none. let zero_is : n ≡ 0 = omega (arith, none) in ap (λ m. Plain (decimal m)) zero_is ∙ ap Plain (decimal_digit 0 (omega arith)))
     (cases_lt 0 n)
 
@@ -167,10 +170,12 @@ word_clear Mul h = ((refl, tt), (refl, tt))
 split_words : (p : Part) (ps : List Part) → IsRightPart p → AreRightParts ps
     → slice_split is_blank (part_word p ++ flat_map part_text ps) ≡ part_word p ∷ map part_word ps
 split_words p [] h k =
-    ap (slice_split is_blank) (append-nil (part_word p)) ∙ slice_split_none is_blank (part_word p) (all_clear is_blank (part_word p) (word_clear p h).0)
+    ap (slice_split is_blank) (append-nil (part_word p))
+    ∙ slice_split_none is_blank (part_word p) (all_clear is_blank (part_word p) (word_clear p h).0)
 split_words p (q ∷ qs) h k =
     ap (λ t. slice_split is_blank (part_word p ++ (t ++ flat_map part_text qs))) (part_is q)
-    ∙ slice_split_at is_blank (part_word p) 32 (part_word q ++ flat_map part_text qs) (all_clear is_blank (part_word p) (word_clear p h).0) refl
+    ∙ slice_split_at is_blank (part_word p) 32 (part_word q ++ flat_map part_text qs)
+    (all_clear is_blank (part_word p) (word_clear p h).0) refl
     ∙ ap (λ ws. part_word p ∷ ws) (split_words q qs k.0 k.1)
 
 parts_read : (code ps : List Part) → AreRightParts ps → parts_behind code (map part_word ps) ≡ Some (code ++ ps)

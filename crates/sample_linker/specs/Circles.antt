@@ -27,7 +27,8 @@ AllUsed table defined =
 -- no definition that is left has a code all of whose names are placed
 abbrev pub AreStuck : List Item → List Item → Type 0
 AreStuck placed defined =
-    (at : ℕ) (item : Item) → At defined at item → is_named placed (name_of item) ≡ false → list_all (is_known placed) (code_of item) ≡ true → ⊥
+    (at : ℕ) (item : Item) → At defined at item → is_named placed (name_of item) ≡ false → list_all (is_known placed) (code_of item) ≡ true
+    → ⊥
 
 -- where no definition can be placed: the name is that of one that is left
 pub record IsLeft (table placed : NameTable) (defined : List Item) (name : List ℕ) : Type 0 where
@@ -49,7 +50,8 @@ EndsRound defined walk = (walk.from ≤ length walk.path) × IsRound defined (dr
 
 -- no name has a lower number than the one at this place
 abbrev pub IsLowest : NameTable → List (List ℕ) → ℕ → Type 0
-IsLowest table names at = (at < length names) × ((k : ℕ) (d e : List ℕ) → k < length names → number_in table (get_or names at d) ≤ number_in table (get_or names k e))
+IsLowest table names at = (at < length names)
+    × ((k : ℕ) (d e : List ℕ) → k < length names → number_in table (get_or names at d) ≤ number_in table (get_or names k e))
 
 -- the names are a circle, or memory ran out
 abbrev pub IsCircularStop : List Item → LinkStop → Type 0

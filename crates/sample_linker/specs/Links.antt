@@ -1,5 +1,6 @@
 -- What linking answers.
-use Rattle.std.specs.Prelude.{ℕ, ◌≡◌, List, [], ◌∷◌, ◌++◌, codes, Bool, true, false, if◌then◌else◌, Option, Some, None, MatchOption, MatchResult}
+use Rattle.std.specs.Prelude.{ℕ, ◌≡◌, List, [], ◌∷◌, ◌++◌, codes, Bool, true, false, if◌then◌else◌, Option, Some, None, MatchOption}
+use Rattle.std.specs.Prelude.{MatchResult}
 use Rattle.std.specs.List.{filter, flat_map}
 use Rattle.sample_lang.specs.declared.program.Item.{Item}
 use Rattle.sample_lang.specs.declared.program.Item.TheVariants.{Extern, Def}

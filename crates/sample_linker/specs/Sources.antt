@@ -54,18 +54,21 @@ pub record CanLink (items : List Item) : Type 0 where
 -- an assignment fits, and each that fits has the same numbers for the defined names
 pub record FitOnce (texts : List (List ℕ)) (items : List Item) : Type 0 where
   pub some : (numbers : Numbers) × FitsSources texts numbers
-  pub one : (a b : Numbers) (name : List ℕ) → FitsSources texts a → FitsSources texts b → is_named (definitions items) name ≡ true → a name ≡ b name
+  pub one : (a b : Numbers) (name : List ℕ) → FitsSources texts a → FitsSources texts b → is_named (definitions items) name ≡ true
+      → a name ≡ b name
 
 -- the value is the number of `main`, which is defined; or it isn't defined
 abbrev pub MainFits : List (List ℕ) → List Item → Value → Type 0
-MainFits texts items (values.Number n) = (is_named (definitions items) main_name ≡ true) × ((numbers : Numbers) → FitsSources texts numbers → numbers main_name ≡ n)
+MainFits texts items (values.Number n) = (is_named (definitions items) main_name ≡ true)
+    × ((numbers : Numbers) → FitsSources texts numbers → numbers main_name ≡ n)
 MainFits texts items (values.Fault NoMain) = is_named (definitions items) main_name ≡ false
 MainFits texts items (values.Fault (BadImage line)) = ⊥
 MainFits texts items values.Memory = Unit {0}
 
 -- an image comes exactly where the objects can be linked; then one assignment fits, and running the image gives its number of `main`
 abbrev pub Promised : List (List ℕ) → List Item → Linked → Type 0
-Promised texts items (linked.Image image) = CanLink items × FitOnce texts items × ((value : Value) → IsValue image value → MainFits texts items value)
+Promised texts items (linked.Image image) = CanLink items × FitOnce texts items
+    × ((value : Value) → IsValue image value → MainFits texts items value)
 Promised texts items (linked.Fault fault) = CanLink items → ⊥
 Promised texts items linked.Memory = Unit {0}
 
@@ -75,4 +78,5 @@ together files = flat_map (λ items. items) files
 
 -- whatever linking the objects of sources answers keeps the promise
 abbrev pub LinksSources : Type 0
-LinksSources = (texts : List (List ℕ)) (files : List (List Item)) (answer : Linked) → AreSources texts files → IsLinked (map object_of files) answer → Promised texts (together files) answer
+LinksSources = (texts : List (List ℕ)) (files : List (List Item)) (answer : Linked) → AreSources texts files
+    → IsLinked (map object_of files) answer → Promised texts (together files) answer

@@ -15,7 +15,8 @@ is_output word = bytes_eq word (codes "-o")
 -- these files, and the image's name, which is the one word behind the first `-o`
 abbrev pub link_of : List (List ℕ) → List (List ℕ) → Option (List (List ℕ) × List ℕ)
 link_of files [] = None
-link_of files (image ∷ []) = if nat_lt 0 (length files) && nat_le (length files) link_max && not (is_reserved image) then Some (files, image) else None
+link_of files (image ∷ []) = if nat_lt 0 (length files) && nat_le (length files) link_max && not (is_reserved image) then Some
+    (files, image) else None
 link_of files (image ∷ other ∷ more) = None
 
 -- what the words behind `--link` ask for: 1 to 512 files, `-o`, and a name that doesn't end in `.farm~`

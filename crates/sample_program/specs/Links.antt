@@ -111,7 +111,8 @@ pub record StoppedPut (old new : KeeperView) (stop : RunStop) : Type 0 where
 -- The files were fetched and linked, and the image was put under its name, and nothing else; or a file is missing, or they are
 -- too large, and nothing was put.
 pub data DidLink (files : List (List ℕ)) (image : List ℕ) (old new : KeeperView) (ran : Ran) : Type 0 where
-  linked_so : (objects : List (List ℕ)) (answer : Linked) → TookAll files old new objects → LinkTo objects answer → PutBy (link_puts image answer) old new
+  linked_so : (objects : List (List ℕ)) (answer : Linked) → TookAll files old new objects → LinkTo objects answer
+      → PutBy (link_puts image answer) old new
       → IsLinkRan files answer ran → DidLink files image old new ran
   missed_so : (stop : FetchStop) → MissedOne files old new stop → PutBy [] old new → MissedRan stop ran → DidLink files image old new ran
 
@@ -128,7 +129,8 @@ pub record Stopped (files : List (List ℕ)) (old new : KeeperView) (stop : RunS
 pub data DidRunImage (image : List ℕ) (old new : KeeperView) (ran : Ran) : Type 0 where
   run_so : (content : List ℕ) (answer : Value) → Took image files_max old new content → HasValue content answer → PutBy [] old new
       → IsValueRan answer ran → DidRunImage image old new ran
-  unread_so : (stop : FetchStop) → Missed image files_max old new stop → PutBy [] old new → MissedRan stop ran → DidRunImage image old new ran
+  unread_so : (stop : FetchStop) → Missed image files_max old new stop → PutBy [] old new → MissedRan stop ran
+      → DidRunImage image old new ran
 
 -- ---- the program
 
@@ -159,5 +161,6 @@ DoesLink None old new sinks sinks_now answer = (new ≡ old) × RefusedWords sin
 
 -- what is done by the words behind `--run`
 abbrev pub DoesRun : Option (List ℕ) → KeeperView → KeeperView → SinksView → SinksView → ℕ → Type 0
-DoesRun (Some image) old new sinks sinks_now answer = Prints (DidRunImage image old new) (Stopped (image ∷ []) old new) sinks sinks_now answer
+DoesRun (Some image) old new sinks sinks_now answer = Prints (DidRunImage image old new)
+    (Stopped (image ∷ []) old new) sinks sinks_now answer
 DoesRun None old new sinks sinks_now answer = (new ≡ old) × RefusedWords sinks sinks_now answer

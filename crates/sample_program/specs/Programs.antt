@@ -41,7 +41,8 @@ fetches_of files words = entries_at (unstaged files) (firsts_looked_up files wor
 
 -- Where the files are told, no overrun rose, unless a name that the words look up is no file.
 abbrev pub OverrunsStandBy : List (List ℕ) → KeeperView → KeeperView → Type 0
-OverrunsStandBy words old new = IsTrue new.files.known → Still old.overruns new.overruns ⊎ HasAbsent old.files.value (looked_up old.files.value words)
+OverrunsStandBy words old new = IsTrue new.files.known
+    → Still old.overruns new.overruns ⊎ HasAbsent old.files.value (looked_up old.files.value words)
 
 -- The run is that of the compiler over some files: those of the keeper, where they are told, but for names that end in
 -- `.farm~`. The object of one that ended well was put, and nothing else. Each file that the words look up was fetched once,
@@ -77,20 +78,25 @@ StopCause words old new Memory = WantCause words old new
 -- nothing was put, and of the files that the words look up some first ones were fetched, each once, and no others
 pub record StoppedRun (words : List (List ℕ)) (old new : KeeperView) (stop : RunStop) : Type 0 where
   pub put : PutBy [] old new
-  pub fetched : IsTrue new.files.known → FetchedFront (unstaged old.files.value) (firsts_looked_up old.files.value words) old.fetches new.fetches
+  pub fetched : IsTrue new.files.known
+      → FetchedFront (unstaged old.files.value) (firsts_looked_up old.files.value words) old.fetches new.fetches
   pub cause : StopCause words old new stop
 
 -- ---- the program
 
 -- The compiler ran, and what it left was printed; or the files failed; or memory was wanting before anything was put or printed.
 pub data Compiled (words : List (List ℕ)) (old new : KeeperView) (sinks sinks_now : SinksView) (answer : ℕ) : Type 0 where
-  ran_so : (ran : Ran) → DidRun words old new ran → Ends no_memory_text (printed_by ran) (exit_code_of ran.status) sinks sinks_now answer → Compiled words old new sinks sinks_now answer
-  files_failed : StoppedRun words old new File → Ends no_memory_text (complaint file_fault_text ∷ []) 107 sinks sinks_now answer → Compiled words old new sinks sinks_now answer
-  memory_wanted : StoppedRun words old new Memory → WantOf no_memory_text [] sinks sinks_now answer → Compiled words old new sinks sinks_now answer
+  ran_so : (ran : Ran) → DidRun words old new ran → Ends no_memory_text (printed_by ran) (exit_code_of ran.status) sinks sinks_now answer
+      → Compiled words old new sinks sinks_now answer
+  files_failed : StoppedRun words old new File → Ends no_memory_text (complaint file_fault_text ∷ []) 107 sinks sinks_now answer
+      → Compiled words old new sinks sinks_now answer
+  memory_wanted : StoppedRun words old new Memory → WantOf no_memory_text [] sinks sinks_now answer
+      → Compiled words old new sinks sinks_now answer
 
 -- the text was printed, or memory was wanting before
 abbrev pub Told : List ℕ → SinksView → SinksView → ℕ → Type 0
-Told text sinks sinks_now answer = Ends no_memory_text (output text ∷ []) 0 sinks sinks_now answer ⊎ WantOf no_memory_text [] sinks sinks_now answer
+Told text sinks sinks_now answer = Ends no_memory_text (output text ∷ []) 0 sinks sinks_now answer
+    ⊎ WantOf no_memory_text [] sinks sinks_now answer
 
 -- what is done by the words, of which the first may name another form
 abbrev pub DoesWords : List (List ℕ) → KeeperView → KeeperView → SinksView → SinksView → ℕ → Type 0

@@ -3,7 +3,7 @@ use Rattle.std.specs.Prelude.{not}
 use Rattle.std.specs.Option.{is_some}
 use Rattle.sample_lang.specs.Names.{name_of}
 use Rattle.sample_linker.specs.Tables.{place_in}
-use Rattle.sample_linker.proofs.Promise.{member_contained, member_named}
+use Rattle.sample_linker.proofs.Members.{member_contained, member_named}
 use Rattle.sample_linker.proofs.Rounds.{all_more}
 use Rattle.sample_linker.proofs.ordering.first_left.Goals as goal
 
