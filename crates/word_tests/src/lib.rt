@@ -10,6 +10,8 @@ mod command_lines;
 #[cfg(test)]
 mod host_lists;
 #[cfg(test)]
+mod job_graphs;
+#[cfg(test)]
 mod job_lists;
 #[cfg(test)]
 mod options;
