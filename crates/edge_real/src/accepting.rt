@@ -28,7 +28,7 @@ enum Trouble {
 pub fn accept_one<R: Eprint + Clock, L: OpenListener>(
     rt: &R,
     listener: &L,
-    room: &mut WaitingRoom<L::Stream>,
+    room: &mut WaitingRoom<L, L::Stream>,
 ) -> io::Result<(L::Stream, SocketAddr)>
     ensures retried { IfErr result (λ error. (error_kind error ≢ ErrorKind.Interrupted) × (error_kind error ≢ ErrorKind.ConnectionAborted)) }
 {

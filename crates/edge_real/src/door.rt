@@ -34,13 +34,13 @@ use std::time::Duration;
 pub struct TcpDoor<R, L, S> {
     rt: R,
     listener: Option<L>,
-    room: Option<SharedRoom<S>>,
+    room: Option<SharedRoom<L, S>>,
     refusal: Option<Error>,
     faults: u64,
 }
 
 /// The room of all doors on one listener.
-type SharedRoom<S> = Arc<Mutex<WaitingRoom<S>>, Global>;
+type SharedRoom<L, S> = Arc<Mutex<WaitingRoom<L, S>>, Global>;
 
 impl<R: Eprint + Net> TcpDoor<R, R::Listener, R::Stream> {
     /// A door on this IPv4 address and port. Port 0 is one that the system picks. Peers that the rules deny are handed out at once.
@@ -125,7 +125,8 @@ impl<R: Eprint, L: OpenListener, S> TcpDoor<R, L, S> {
     }
 }
 
-impl<R: Eprint + Clock + Wait + Copy, L: OpenListener<Stream = S>, S> Door for TcpDoor<R, L, S>
+impl<R: Eprint + Clock + Wait + Copy, L: OpenListener<Stream = S> + AsRawFd, S> Door
+    for TcpDoor<R, L, S>
 where
     S: Read + Write + OpenStream + AsRawFd + Drop,
 {
@@ -175,34 +176,31 @@ fn listen<R: Net>(
     alloc: Global,
     place: SocketAddrV4,
     access: AccessList,
-) -> io::Result<(R::Listener, SharedRoom<R::Stream>)> {
+) -> io::Result<(R::Listener, SharedRoom<R::Listener, R::Stream>)> {
     let listener = TcpListener::bind(rt, place)?;
     listener.set_nonblocking(true)?;
-    let room = WaitingRoom::new(rt, alloc, access)?;
-    room.watch(&listener)?;
+    let room = WaitingRoom::new(rt, alloc, listener.try_clone()?, access)?;
     Ok((listener, Arc::new(alloc, Mutex::new(room))?))
 }
 
 /// Waits for the room, and then in it for a connection that is ready.
-fn lead<R: Eprint + Clock + Wait, L: OpenListener<Stream = S>, S: OpenStream + AsRawFd + Drop>(
-    rt: &R,
-    alloc: Global,
-    listener: &L,
-    room: &SharedRoom<S>,
-) -> io::Result<Pending<S>> {
+fn lead<
+    R: Eprint + Clock + Wait,
+    L: OpenListener<Stream = S> + AsRawFd,
+    S: OpenStream + AsRawFd + Drop,
+>(rt: &R, alloc: Global, listener: &L, room: &SharedRoom<L, S>) -> io::Result<Pending<S>> {
     let mut guard = room.lock(rt);
     next_ready(rt, alloc, listener, &mut *guard)
 }
 
 /// The connection that has waited longest of those that are ready. What the listener has is taken in first.
-fn next_ready<R: Eprint + Clock, L: OpenListener<Stream = S>, S: OpenStream + AsRawFd + Drop>(
-    rt: &R,
-    alloc: Global,
-    listener: &L,
-    room: &mut WaitingRoom<S>,
-) -> io::Result<Pending<S>> {
-    room.hear(Some(Duration::ZERO))?;
+fn next_ready<
+    R: Eprint + Clock,
+    L: OpenListener<Stream = S> + AsRawFd,
+    S: OpenStream + AsRawFd + Drop,
+>(rt: &R, alloc: Global, listener: &L, room: &mut WaitingRoom<L, S>) -> io::Result<Pending<S>> {
     for _ in 0..u64::MAX {
+        room.hear(Some(Duration::ZERO))?;
         room.look(alloc);
         if room.takes_more() && take_one_in(rt, listener, room)? {
             continue;
@@ -217,14 +215,15 @@ fn next_ready<R: Eprint + Clock, L: OpenListener<Stream = S>, S: OpenStream + As
 }
 
 /// Takes in the next connection of the listener, and answers whether it had one. Where one is ready, that the system refuses the next is no error.
-fn take_one_in<R: Eprint + Clock, L: OpenListener<Stream = S>, S: OpenStream + AsRawFd + Drop>(
-    rt: &R,
-    listener: &L,
-    room: &mut WaitingRoom<S>,
-) -> io::Result<bool> {
+fn take_one_in<
+    R: Eprint + Clock,
+    L: OpenListener<Stream = S> + AsRawFd,
+    S: OpenStream + AsRawFd + Drop,
+>(rt: &R, listener: &L, room: &mut WaitingRoom<L, S>) -> io::Result<bool> {
     match accept_one(rt, listener, room) {
         Ok((stream, peer)) => {
             room.take_in(rt, stream, peer, ipv4_of(peer));
+            room.ask_again()?;
             Ok(true)
         }
         Err(error) if error.kind() == ErrorKind::WouldBlock => {

@@ -118,5 +118,8 @@ fn is_settled(alloc: Global, text: &[u8]) -> bool
     ensures waits { result ≡ false → IsShortRequest text.now }
 {
     let mut reader = RequestReader::new(alloc);
-    !matches!(reader.feed(text), Step::More)
+    match reader.feed(text) {
+        Step::More => false,
+        Step::Whole { .. } | Step::Bad { .. } | Step::Memory => true,
+    }
 }

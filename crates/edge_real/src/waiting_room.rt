@@ -19,14 +19,16 @@ use std::time::Duration;
 
 /// The connections that wait, and what tells of them and of the listener.
 #[derive(Drop)]
-pub struct WaitingRoom<S> {
+pub struct WaitingRoom<L, S> {
+    /// A handle of the listener that the system tells of.
+    listener: L,
     poll: Poll,
     events: Events,
     places: Vec<Option<Pending<S>>>,
     /// Where the bytes of one connection are looked at.
     scratch: Vec<u8>,
     access: AccessList,
-    /// Whether the listener may have a connection.
+    /// Whether the system told of a connection at the listener.
     is_called: bool,
 }
 
@@ -42,15 +44,25 @@ const EVENTS: usize = 128;
 /// The token of the listener. Those of the connections are their places.
 const LISTENER: Token = Token(PLACES);
 
-impl<S: Drop> WaitingRoom<S> {
-    /// An empty room. Connections of peers that these rules deny are ready at once.
-    pub fn new<R: Net>(rt: &R, alloc: Global, access: AccessList) -> io::Result<WaitingRoom<S>> {
+impl<L: AsRawFd + Drop, S: Drop> WaitingRoom<L, S> {
+    /// An empty room for the connections of this listener. Those of peers that these rules deny are ready at once.
+    pub fn new<R: Net>(
+        rt: &R,
+        alloc: Global,
+        listener: L,
+        access: AccessList,
+    ) -> io::Result<WaitingRoom<L, S>> {
         let mut places = Vec::with_capacity(alloc, PLACES)?;
         for _ in 0..PLACES {
             places.push(None)?;
         }
+        let poll = Poll::new(rt)?;
+        let descriptor = listener.as_raw_fd();
+        poll.registry()
+            .register(&mut SourceFd(&descriptor), LISTENER, Interest::READABLE)?;
         Ok(WaitingRoom {
-            poll: Poll::new(rt)?,
+            listener,
+            poll,
             events: Events::with_capacity(alloc, EVENTS)?,
             places,
             scratch: Vec::from_elem(alloc, 0u8, SCRATCH)?,
@@ -58,16 +70,21 @@ impl<S: Drop> WaitingRoom<S> {
             is_called: false,
         })
     }
+}
 
-    /// Has connections at this listener told, which doesn't wait for them.
-    pub fn watch<L: AsRawFd>(&self, listener: &L) -> io::Result<()> {
-        let descriptor = listener.as_raw_fd();
+impl<L: AsRawFd, S> WaitingRoom<L, S> {
+    /// Has the system tell again whether the listener has a connection.
+    pub fn ask_again(&mut self) -> io::Result<()> {
+        self.is_called = false;
+        let descriptor = self.listener.as_raw_fd();
         self.poll
             .registry()
-            .register(&mut SourceFd(&descriptor), LISTENER, Interest::READABLE)
+            .reregister(&mut SourceFd(&descriptor), LISTENER, Interest::READABLE)
     }
+}
 
-    /// Whether the listener may have a connection, and there is a place for it.
+impl<L, S> WaitingRoom<L, S> {
+    /// Whether the listener has a connection, and there is a place for it.
     pub fn takes_more(&self) -> bool {
         self.is_called && !(self.free_place().is_none() && self.has_ready())
     }
@@ -125,7 +142,7 @@ impl<S: Drop> WaitingRoom<S> {
     }
 }
 
-impl<S: OpenStream + AsRawFd + Drop> WaitingRoom<S> {
+impl<L, S: OpenStream + AsRawFd + Drop> WaitingRoom<L, S> {
     /// Takes in a connection of the peer with this IPv4 address. Where there is no place, the one that has waited longest is left.
     pub fn take_in<R: Eprint + Clock>(
         &mut self,
@@ -165,7 +182,7 @@ impl<S: OpenStream + AsRawFd + Drop> WaitingRoom<S> {
     }
 }
 
-impl<S: Drop> WaitingRoom<S> {
+impl<L, S: Drop> WaitingRoom<L, S> {
     /// Leaves the one that has waited longest of those that aren't ready, where there is one.
     pub fn leave_oldest<R: Eprint + Clock>(&mut self, rt: &R) -> bool {
         match self.oldest(false) {
