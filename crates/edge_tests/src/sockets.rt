@@ -125,10 +125,16 @@ fn a_client_that_sends_too_much_gets_the_whole_reply(rt: HostRuntime) -> Result<
 }
 
 /// Leaves a client that sends nothing behind its first byte and doesn't end, and answers how long that took. The client was sent these bytes.
-fn leave_silent(rt: HostRuntime, sent: &[u8]) -> Result<Duration, Fail> {
+fn leave_silent<D: Door>(
+    rt: HostRuntime,
+    door: &mut D,
+    port: u16,
+    sent: &[u8],
+) -> Result<Duration, Fail>
+where
+    D::Link: Drop,
+{
     let alloc = rt.alloc();
-    let mut door = TcpDoor::open(rt, alloc, LOCALHOST, 0, everybody(alloc));
-    let port = door.port().ok_or("port")?;
     let mut dialer = TcpDialer::new(rt);
     let name = host(alloc, b"127.0.0.1")?;
     let mut silent = dialer.dial(alloc, &name, port)?;
@@ -146,14 +152,21 @@ fn leave_silent(rt: HostRuntime, sent: &[u8]) -> Result<Duration, Fail> {
 
 #[test]
 fn a_silent_client_is_left_after_a_second(rt: HostRuntime) -> Result<(), Fail> {
-    let waited = leave_silent(rt, b"a")?;
+    let alloc = rt.alloc();
+    let mut door = TcpDoor::open(rt, alloc, LOCALHOST, 0, everybody(alloc));
+    let port = door.port().ok_or("port")?;
+    let waited = leave_silent(rt, &mut door, port, b"a")?;
     assert!(rt; Duration::from_millis(900) <= waited && waited < Duration::from_secs(20));
     Ok(())
 }
 
 #[test]
 fn a_client_that_was_sent_nothing_is_left_at_once(rt: HostRuntime) -> Result<(), Fail> {
-    assert!(rt; leave_silent(rt, b"")? < Duration::from_millis(900));
+    let alloc = rt.alloc();
+    let mut door = TcpDoor::open(rt, alloc, LOCALHOST, 0, everybody(alloc));
+    let port = door.port().ok_or("port")?;
+    let waited = leave_silent(rt, &mut door, port, b"")?;
+    assert!(rt; waited < Duration::from_millis(900));
     Ok(())
 }
 
