@@ -5,7 +5,6 @@ ghost use Rattle.edge_traits.specs.Links.{IsNew, moved_none};
 ghost use Rattle.edge_real.specs.Counts.{call_faults};
 ghost use Rattle.edge_real.specs.Views.{door_link_view, door_stream_of};
 
-use crate::exchange::Exchange;
 use crate::notices::{Visit, tell_visit};
 use crate::retrying::read_once;
 use crate::tcp::{IDLE_SECS, TcpLink};
@@ -17,14 +16,13 @@ use std::net::{OpenStream, Shutdown, SocketAddr};
 use std::rt::Clock;
 use std::time::Duration;
 
-/// A connection that a door took in. It knows its peer, when it began, and what passed.
+/// A connection that a door took in. It knows its peer, and whether a byte of it was waited for.
 #[derive(Drop)]
 pub struct DoorLink<S> {
     link: TcpLink<S>,
     peer: SocketAddr,
-    begun: Duration,
+    was_asked: bool,
     has_begun: bool,
-    exchange: Exchange,
 }
 
 impl<S: OpenStream> DoorLink<S> {
@@ -39,11 +37,10 @@ impl<S: OpenStream> DoorLink<S> {
             text: Bytes::new(alloc),
         };
         DoorLink {
-            link: TcpLink::new(stream, nobody, 0),
+            link: TcpLink::new(stream, nobody, 0, begun),
             peer,
-            begun,
+            was_asked: false,
             has_begun: false,
-            exchange: Exchange::new(),
         }
     }
 }
@@ -60,11 +57,12 @@ impl<S: Read + OpenStream + Drop> DoorLink<S> {
     pub(crate) fn end<R: Eprint + Clock>(self, rt: &R) {
         let visit = Visit {
             peer: &self.peer,
-            exchange: &self.exchange,
-            begun: &self.begun,
+            was_asked: self.was_asked,
+            exchange: self.link.taken_in(),
+            begun: self.link.begun(),
         };
         tell_visit(rt, &visit);
-        if self.exchange.was_sent {
+        if self.link.has_sent() {
             linger(rt, self.link.into_stream());
         }
     }
@@ -124,9 +122,7 @@ impl<S: Read + Write + OpenStream> Link for DoorLink<S> {
         ensures memory { result ≢ Err EdgeFault.Memory }
         ensures faults { (door_link_view self.new).faults ≡ call_faults result (door_link_view self.old).faults }
     {
-        let sent = self.link.send(piece)?;
-        self.exchange.sent(piece, sent);
-        Ok(sent)
+        self.link.send(piece)
     }
 
     fn recv(&mut self, room: &mut [u8]) -> Result<usize, EdgeFault>
@@ -139,12 +135,12 @@ impl<S: Read + Write + OpenStream> Link for DoorLink<S> {
         ensures memory { result ≢ Err EdgeFault.Memory }
         ensures faults { (door_link_view self.new).faults ≡ call_faults result (door_link_view self.old).faults }
     {
+        self.was_asked = true;
         let given = self.link.recv(room)?;
         if !self.has_begun {
             self.has_begun = true;
             self.link.wait_at_most(Duration::from_secs(IDLE_SECS));
         }
-        self.exchange.given(room, given);
         Ok(given)
     }
 }

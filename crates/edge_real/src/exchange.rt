@@ -15,7 +15,9 @@ pub struct Tokens {
     is_first: bool,
     status: Option<u32>,
     source: u64,
-    object: u64,
+    object: Option<u64>,
+    /// How many bytes passed.
+    pub bytes: u64,
 }
 
 /// How many bytes the head of a token has: its name and its number.
@@ -36,12 +38,31 @@ impl Tokens {
             is_first: false,
             status: None,
             source: 0,
-            object: 0,
+            object: None,
+            bytes: 0,
         }
     }
 
+    /// So many bytes pass, at the front of the piece.
+    pub fn pass(&mut self, piece: &[u8], count: usize) {
+        if let Some(front) = piece.get(..count) {
+            self.bytes = self.bytes.saturating_add(count as u64);
+            self.see(front);
+        }
+    }
+
+    /// Whether the last token that a reply has was seen, with all of its body.
+    pub fn is_whole_reply(&self) -> bool {
+        self.object.is_some() && self.body == 0
+    }
+
+    /// The status that was seen.
+    pub fn status(&self) -> Option<u32> {
+        self.status
+    }
+
     /// Sees these bytes pass.
-    pub fn see(&mut self, piece: &[u8]) {
+    fn see(&mut self, piece: &[u8]) {
         let mut rest = piece;
         for _ in 0..piece.len() {
             if rest.is_empty() {
@@ -109,7 +130,7 @@ impl Tokens {
                 self.body = u64::from(number);
             }
             b"DOTO" => {
-                self.object = u64::from(number);
+                self.object = Some(u64::from(number));
                 self.body = u64::from(number);
             }
             b"SERR" | b"SOUT" => self.body = u64::from(number),
@@ -124,54 +145,26 @@ fn number_of(digits: &[u8]) -> Option<u32> {
 }
 
 /// Both sides of an exchange.
-#[derive(Drop)]
-pub struct Exchange {
-    asked: Tokens,
-    answered: Tokens,
-    was_read: bool,
-    /// Whether the peer was sent a byte.
-    pub was_sent: bool,
+#[derive(Clone, Copy)]
+pub struct Exchange<'a> {
+    pub asked: &'a Tokens,
+    pub answered: &'a Tokens,
 }
 
-impl Exchange {
-    /// Before the first byte.
-    pub fn new() -> Exchange {
-        Exchange {
-            asked: Tokens::new(),
-            answered: Tokens::new(),
-            was_read: false,
-            was_sent: false,
-        }
-    }
-
-    /// So many bytes of the front were sent.
-    pub fn sent(&mut self, piece: &[u8], count: usize) {
-        self.was_sent |= count > 0;
-        if let Some(front) = piece.get(..count) {
-            self.answered.see(front);
-        }
-    }
-
-    /// So many bytes came, at the front of the room.
-    pub fn given(&mut self, room: &[u8], count: usize) {
-        self.was_read = true;
-        if let Some(front) = room.get(..count) {
-            self.asked.see(front);
+impl Exchange<'_> {
+    /// The compiler that was asked for, as far as it was seen.
+    pub fn compiler(&self) -> Shown<'_> {
+        match self.asked.compiler.get(..self.asked.named) {
+            Some(name) if !name.is_empty() => Shown(name),
+            _ => Shown(b"-"),
         }
     }
 }
 
-/// `COMPILER answered STATUS, source N, object N`, `COMPILER no reply, ..`, or `denied` where nothing was read.
-impl Display for Exchange {
+/// `COMPILER answered STATUS, source N, object N`, or `COMPILER no reply, ..`.
+impl Display for Exchange<'_> {
     fn fmt<W: fmt::Write>(&self, f: &mut Formatter<W>) -> fmt::Result {
-        if !self.was_read {
-            return f.write_str("denied");
-        }
-        let named = self.asked.compiler.get(..self.asked.named);
-        match named {
-            Some(name) if !name.is_empty() => write!(f, "{} ", Shown(name))?,
-            _ => f.write_str("- ")?,
-        }
+        write!(f, "{} ", self.compiler())?;
         match self.answered.status {
             Some(status) => write!(f, "answered {status:08x}")?,
             None => f.write_str("no reply")?,
@@ -179,7 +172,8 @@ impl Display for Exchange {
         write!(
             f,
             ", source {}, object {}",
-            self.asked.source, self.answered.object
+            self.asked.source,
+            self.answered.object.unwrap_or(0)
         )
     }
 }

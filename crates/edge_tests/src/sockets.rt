@@ -1,6 +1,6 @@
 //! Sockets, each against a peer in another thread.
 
-use edge_real::{TcpDialer, TcpDoor};
+use edge_real::{Notices, TcpDialer, TcpDoor};
 use edge_traits::{Dialer, Door, EdgeFault, Link};
 use farm_types::{Bytes, HostName};
 use std::alloc::{AllocError, Global};
@@ -46,7 +46,7 @@ fn a_dialer_and_a_door_carry_bytes_both_ways(rt: HostRuntime) -> Result<(), Fail
     let alloc = rt.alloc();
     let mut door = TcpDoor::open(rt, LOCALHOST, 0);
     let port = door.port().ok_or("port")?;
-    let mut dialer = TcpDialer::new(rt);
+    let mut dialer = TcpDialer::new(rt, Notices::Never);
     let name = host(alloc, b"localhost")?;
     let (near, far) = thread::join(
         &rt,
@@ -86,7 +86,7 @@ fn a_client_that_sends_too_much_gets_the_whole_reply(rt: HostRuntime) -> Result<
     let alloc = rt.alloc();
     let mut door = TcpDoor::open(rt, LOCALHOST, 0);
     let port = door.port().ok_or("port")?;
-    let mut dialer = TcpDialer::new(rt);
+    let mut dialer = TcpDialer::new(rt, Notices::Never);
     let name = host(alloc, b"127.0.0.1")?;
     let (given, sent) = thread::join(
         &rt,
@@ -121,7 +121,7 @@ fn leave_silent(rt: HostRuntime, sent: &[u8]) -> Result<Duration, Fail> {
     let alloc = rt.alloc();
     let mut door = TcpDoor::open(rt, LOCALHOST, 0);
     let port = door.port().ok_or("port")?;
-    let mut dialer = TcpDialer::new(rt);
+    let mut dialer = TcpDialer::new(rt, Notices::Never);
     let name = host(alloc, b"127.0.0.1")?;
     let silent = dialer.dial(alloc, &name, port)?;
     let (mut link, _) = door.accept(alloc)?;
@@ -151,7 +151,7 @@ fn a_client_that_was_sent_nothing_is_left_at_once(rt: HostRuntime) -> Result<(),
 #[test]
 fn a_host_that_is_not_there_is_a_fault(rt: HostRuntime) -> Result<(), Fail> {
     let alloc = rt.alloc();
-    let mut dialer = TcpDialer::new(rt);
+    let mut dialer = TcpDialer::new(rt, Notices::Never);
     for name in [b"127.0.0.1".as_slice(), b"red.invalid", b"\xff"] {
         let name = host(alloc, name)?;
         assert!(rt; matches!(dialer.dial(alloc, &name, 1), Err(EdgeFault::Failed)));
