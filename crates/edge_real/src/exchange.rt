@@ -3,12 +3,12 @@ use crate::notices::Shown;
 use std::fmt::{self, Display, Formatter};
 use std::str;
 
-/// What was seen of the tokens of one side. It is no reader of the protocol: what isn't a token is passed over.
+/// What was seen of the tokens of one side. It is no reader of the protocol: behind what isn't a token nothing more is seen.
 #[derive(Drop)]
 pub struct Tokens {
     head: [u8; HEAD],
     filled: usize,
-    /// How much of the body of the last token is to come.
+    /// How much of the body of the last token is to come, or all that comes, behind what isn't a token.
     body: u64,
     compiler: [u8; NAME],
     named: usize,
@@ -118,6 +118,7 @@ impl Tokens {
         let head = self.head;
         let (name, digits) = head.split_at(4);
         let Some(number) = number_of(digits) else {
+            self.body = u64::MAX;
             return;
         };
         match name {
@@ -135,7 +136,8 @@ impl Tokens {
             }
             b"SERR" | b"SOUT" => self.body = u64::from(number),
             b"STAT" => self.status = Some(number),
-            _ => {}
+            b"DIST" | b"ARGC" | b"DONE" => {}
+            _ => self.body = u64::MAX,
         }
     }
 }
