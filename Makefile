@@ -1,5 +1,5 @@
-# Everything that a machine with the toolchain needs: `make demo` runs the main job, `make test` passes the tests, and
-# `make install` puts the programs in place.
+# Everything that a machine with the toolchain needs: `make demo` runs the main job, `make build` proves and builds the programs, `make test` passes
+# the tests, and `make install` puts the programs in place.
 
 PREFIX ?= /usr/local
 PROGRAMS = farm farmd scc farm_jobs
@@ -11,7 +11,8 @@ defaults = $(DESTDIR)/etc/default
 
 .PHONY: bench bench-jobs bench-wire build checks demo dist gate install test test-all uninstall
 
-# The farm whole: farm with two farmds on loopback, of which one is killed in the middle of a build.
+# The farm whole: farm with two farmds on loopback, of which one is killed in the middle of a build. Where no proved programs are, they are built for
+# this run alone, without proofs.
 demo:
 	tests/demo
 

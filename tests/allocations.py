@@ -39,7 +39,7 @@ def rehearsed(usual):
             return USUAL
         if seen.returncode == 105 and usual.startswith(seen.stdout) and seen.stderr == b"farm: no memory\n":
             return WANTING
-        words_lost = seen.returncode == 101 and seen.stderr == b"farm: bad words at word 0\n"
+        words_lost = seen.returncode == 101 and b"farm: bad words at word 0\n" in seen.stderr
         return OWN if words_lost or seen.returncode == 1 and b"error:" in seen.stderr.lower() else None
 
     return end

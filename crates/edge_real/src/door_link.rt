@@ -5,8 +5,7 @@ ghost use Rattle.edge_traits.specs.Links.{IsNew, moved_none};
 ghost use Rattle.edge_real.specs.Counts.{call_faults};
 ghost use Rattle.edge_real.specs.Views.{door_link_view, door_stream_of};
 
-use crate::exchange::Exchange;
-use crate::notices::{Visit, tell_visit};
+use crate::notices::{Leaving, Visit, tell_visit};
 use crate::pending::Pending;
 use crate::retrying::read_once;
 use crate::tcp::{IDLE_SECS, TcpLink};
@@ -18,16 +17,15 @@ use std::net::{OpenStream, Shutdown, SocketAddr};
 use std::rt::Clock;
 use std::time::Duration;
 
-/// A connection that a door took in. It knows its peer, when it began, and what passed.
+/// A connection that a door took in. It knows its peer, and since when the door has it.
 #[derive(Drop)]
 pub struct DoorLink<R, S> {
     rt: R,
     link: TcpLink<S>,
     peer: SocketAddr,
-    begun: Duration,
+    leaving: Leaving,
     /// The moment of the monotonic clock when the door got it.
     handed: Duration,
-    exchange: Exchange,
 }
 
 impl<R: Clock, S: OpenStream> DoorLink<R, S> {
@@ -49,11 +47,10 @@ impl<R: Clock, S: OpenStream> DoorLink<R, S> {
         };
         DoorLink {
             rt,
-            link: TcpLink::new(stream, nobody, 0),
+            link: TcpLink::new(stream, nobody, 0, begun),
             peer,
-            begun,
+            leaving,
             handed,
-            exchange: Exchange::new(leaving),
         }
     }
 
@@ -75,13 +72,16 @@ impl<R: Drop, S: Read + OpenStream + Drop> DoorLink<R, S> {
     /// A socket that is closed over unread bytes is reset, and what its peer has not read by then is lost. So where bytes were sent the sending
     /// side is shut, and what the peer still sends is read until its end, for at most `LINGER_MILLIS` in all.
     pub(crate) fn end<Q: Eprint + Clock>(self, rt: &Q) {
+        let exchange = self.link.taken_in();
         let visit = Visit {
             peer: &self.peer,
-            exchange: &self.exchange,
-            begun: &self.begun,
+            leaving: self.leaving,
+            was_given: exchange.asked.bytes > 0,
+            exchange: Some(exchange),
+            begun: self.link.begun(),
         };
         tell_visit(rt, &visit);
-        if self.exchange.was_sent {
+        if self.link.has_sent() {
             linger(rt, self.link.into_stream());
         }
     }
@@ -141,9 +141,7 @@ impl<R: Clock, S: Read + Write + OpenStream> Link for DoorLink<R, S> {
         ensures memory { result ≢ Err EdgeFault.Memory }
         ensures faults { (door_link_view self.new).faults ≡ call_faults result (door_link_view self.old).faults }
     {
-        let sent = self.link.send(piece)?;
-        self.exchange.sent(piece, sent);
-        Ok(sent)
+        self.link.send(piece)
     }
 
     fn recv(&mut self, room: &mut [u8]) -> Result<usize, EdgeFault>
@@ -162,8 +160,6 @@ impl<R: Clock, S: Read + Write + OpenStream> Link for DoorLink<R, S> {
             return Err(EdgeFault::Failed);
         }
         self.link.wait_at_most(left);
-        let given = self.link.recv(room)?;
-        self.exchange.given(room, given);
-        Ok(given)
+        self.link.recv(room)
     }
 }

@@ -3,19 +3,21 @@ use crate::notices::Shown;
 use std::fmt::{self, Display, Formatter};
 use std::str;
 
-/// What was seen of the tokens of one side. It is no reader of the protocol: what isn't a token is passed over.
+/// What was seen of the tokens of one side. It is no reader of the protocol: behind what isn't a token nothing more is seen.
 #[derive(Drop)]
 pub struct Tokens {
     head: [u8; HEAD],
     filled: usize,
-    /// How much of the body of the last token is to come.
+    /// How much of the body of the last token is to come, or all that comes, behind what isn't a token.
     body: u64,
     compiler: [u8; NAME],
     named: usize,
     is_first: bool,
     status: Option<u32>,
     source: u64,
-    object: u64,
+    object: Option<u64>,
+    /// How many bytes passed.
+    pub bytes: u64,
 }
 
 /// How many bytes the head of a token has: its name and its number.
@@ -36,12 +38,31 @@ impl Tokens {
             is_first: false,
             status: None,
             source: 0,
-            object: 0,
+            object: None,
+            bytes: 0,
         }
     }
 
+    /// So many bytes pass, at the front of the piece.
+    pub fn pass(&mut self, piece: &[u8], count: usize) {
+        if let Some(front) = piece.get(..count) {
+            self.bytes = self.bytes.saturating_add(count as u64);
+            self.see(front);
+        }
+    }
+
+    /// Whether the last token that a reply has was seen, with all of its body.
+    pub fn is_whole_reply(&self) -> bool {
+        self.object.is_some() && self.body == 0
+    }
+
+    /// The status that was seen.
+    pub fn status(&self) -> Option<u32> {
+        self.status
+    }
+
     /// Sees these bytes pass.
-    pub fn see(&mut self, piece: &[u8]) {
+    fn see(&mut self, piece: &[u8]) {
         let mut rest = piece;
         for _ in 0..piece.len() {
             if rest.is_empty() {
@@ -97,6 +118,7 @@ impl Tokens {
         let head = self.head;
         let (name, digits) = head.split_at(4);
         let Some(number) = number_of(digits) else {
+            self.body = u64::MAX;
             return;
         };
         match name {
@@ -109,12 +131,13 @@ impl Tokens {
                 self.body = u64::from(number);
             }
             b"DOTO" => {
-                self.object = u64::from(number);
+                self.object = Some(u64::from(number));
                 self.body = u64::from(number);
             }
             b"SERR" | b"SOUT" => self.body = u64::from(number),
             b"STAT" => self.status = Some(number),
-            _ => {}
+            b"DIST" | b"ARGC" | b"DONE" => {}
+            _ => self.body = u64::MAX,
         }
     }
 }
@@ -123,74 +146,27 @@ fn number_of(digits: &[u8]) -> Option<u32> {
     u32::from_str_radix(str::from_utf8(digits).ok()?, 16).ok()
 }
 
-/// Why a connection was left.
-#[derive(Clone, Copy, PartialEq, Eq)]
-pub enum Leaving {
-    /// Its door is done with it.
-    Served,
-    /// The rules deny its peer.
-    Denied,
-    /// Its request wasn't whole in time.
-    Late,
-    /// Its place was wanted for another before its request was whole.
-    Displaced,
-}
-
 /// Both sides of an exchange.
-#[derive(Drop)]
-pub struct Exchange {
-    asked: Tokens,
-    answered: Tokens,
-    leaving: Leaving,
-    /// Whether a byte of the peer's was seen.
-    was_given: bool,
-    /// Whether the peer was sent a byte.
-    pub was_sent: bool,
+#[derive(Clone, Copy)]
+pub struct Exchange<'a> {
+    pub asked: &'a Tokens,
+    pub answered: &'a Tokens,
 }
 
-impl Exchange {
-    /// Before the first byte.
-    pub fn new(leaving: Leaving) -> Exchange {
-        Exchange {
-            asked: Tokens::new(),
-            answered: Tokens::new(),
-            leaving,
-            was_given: false,
-            was_sent: false,
-        }
-    }
-
-    /// That of a connection which no door read. Its peer may have sent bytes.
-    pub fn unread(leaving: Leaving, was_given: bool) -> Exchange {
-        let mut exchange = Exchange::new(leaving);
-        exchange.was_given = was_given;
-        exchange
-    }
-
-    /// So many bytes of the front were sent.
-    pub fn sent(&mut self, piece: &[u8], count: usize) {
-        self.was_sent |= count > 0;
-        if let Some(front) = piece.get(..count) {
-            self.answered.see(front);
-        }
-    }
-
-    /// So many bytes came, at the front of the room.
-    pub fn given(&mut self, room: &[u8], count: usize) {
-        self.was_given |= count > 0;
-        if let Some(front) = room.get(..count) {
-            self.asked.see(front);
+impl Exchange<'_> {
+    /// The compiler that was asked for, as far as it was seen.
+    pub fn compiler(&self) -> Shown<'_> {
+        match self.asked.compiler.get(..self.asked.named) {
+            Some(name) if !name.is_empty() => Shown(name),
+            _ => Shown(b"-"),
         }
     }
 }
 
-impl Exchange {
-    fn fmt_served<W: fmt::Write>(&self, f: &mut Formatter<W>) -> fmt::Result {
-        let named = self.asked.compiler.get(..self.asked.named);
-        match named {
-            Some(name) if !name.is_empty() => write!(f, "{} ", Shown(name))?,
-            _ => f.write_str("- ")?,
-        }
+/// `COMPILER answered STATUS, source N, object N`, or `COMPILER no reply, ..`.
+impl Display for Exchange<'_> {
+    fn fmt<W: fmt::Write>(&self, f: &mut Formatter<W>) -> fmt::Result {
+        write!(f, "{} ", self.compiler())?;
         match self.answered.status {
             Some(status) => write!(f, "answered {status:08x}")?,
             None => f.write_str("no reply")?,
@@ -198,28 +174,8 @@ impl Exchange {
         write!(
             f,
             ", source {}, object {}",
-            self.asked.source, self.answered.object
+            self.asked.source,
+            self.answered.object.unwrap_or(0)
         )
-    }
-}
-
-/// `COMPILER answered STATUS, source N, object N`, or `COMPILER no reply, ..`, of a connection that a door read. Of another `denied`, `sent nothing`
-/// or `sent no whole request`, and `, left for another` behind that where its place was wanted.
-impl Display for Exchange {
-    fn fmt<W: fmt::Write>(&self, f: &mut Formatter<W>) -> fmt::Result {
-        if self.leaving == Leaving::Denied {
-            return f.write_str("denied");
-        }
-        if !self.was_given {
-            f.write_str("sent nothing")?;
-        } else if self.leaving == Leaving::Served {
-            self.fmt_served(f)?;
-        } else {
-            f.write_str("sent no whole request")?;
-        }
-        if self.leaving == Leaving::Displaced {
-            f.write_str(", left for another")?;
-        }
-        Ok(())
     }
 }

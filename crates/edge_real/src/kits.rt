@@ -1,6 +1,7 @@
 ghost use Rattle.std.specs.Prelude.{◌≡◌, IfOk, All, vec_len, string_bytes};
 ghost use Rattle.edge_real.specs.Kits.{IsSystemKit};
 
+use crate::notices::Notices;
 use crate::{ChildStation, DiskFiles, TcpDialer, WallClock};
 use edge_traits::Kit;
 use object_delivery::FileKeeper;
@@ -18,12 +19,18 @@ pub type SystemKit<R> = Kit<TcpDialer<R>, ChildStation<R>, FileKeeper<DiskFiles<
 /// A worker's devices. What is of its own is in `folder`, and `process` is the number of this process.
 pub fn system_kit<
     R: Net + Processes + RandomSource + rt::Files<File = File> + rt::Clock + Eprint + Copy,
->(rt: R, alloc: Global, folder: &str, process: u32) -> Result<SystemKit<R>, AllocError>
+>(
+    rt: R,
+    alloc: Global,
+    notices: Notices,
+    folder: &str,
+    process: u32,
+) -> Result<SystemKit<R>, AllocError>
     ensures { IfOk result (IsSystemKit rt folder.now process) }
 {
     let staging = String::from_str(alloc, folder)?;
     Ok(Kit {
-        dialer: TcpDialer::new(rt),
+        dialer: TcpDialer::new(rt, notices),
         station: ChildStation::new(rt, String::from_str(alloc, folder)?),
         keeper: FileKeeper::new(DiskFiles::new(rt, staging, process)),
         clock: WallClock::new(rt),
@@ -36,6 +43,7 @@ pub fn system_kits<
 >(
     rt: R,
     alloc: Global,
+    notices: Notices,
     folder: &str,
     process: u32,
     count: usize,
@@ -45,7 +53,7 @@ pub fn system_kits<
 {
     let mut kits = Vec::with_capacity(alloc, count)?;
     for _ in 0..count {
-        kits.push(system_kit(rt, alloc, folder, process)?)?;
+        kits.push(system_kit(rt, alloc, notices, folder, process)?)?;
     }
     Ok(kits)
 }

@@ -33,5 +33,6 @@ pub use door::TcpDoor;
 pub use door_link::DoorLink;
 pub use environment::{command_words, current_folder, own_folder, variable};
 pub use kits::{SystemKit, system_kits};
+pub use notices::Notices;
 pub use stream::{StdSink, StdSource};
 pub use tcp::{TcpDialer, TcpLink};

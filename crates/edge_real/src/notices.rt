@@ -1,10 +1,11 @@
 // Lines on the standard error that say what came to nothing and why, and what became of a connection. One that can't be written is dropped.
 ghost use Rattle.std.specs.Prelude.{◌≡◌};
-ghost use Rattle.edge_real.specs.Notices.{stream_text};
+ghost use Rattle.std.specs.Option.{option_copied};
+ghost use Rattle.edge_real.specs.Notices.{notices_by, stream_text};
 
 use crate::exchange::Exchange;
 use edge_traits::Stream;
-use farm_types::Word;
+use farm_types::{HostName, Word};
 use httpdate::HttpDate;
 use std::fmt::{self, Display, Formatter};
 use std::io::{Eprint, Error};
@@ -70,31 +71,156 @@ fn name_of(stream: Stream) -> &'static str
     }
 }
 
+/// Why a connection was left.
+#[derive(Clone, Copy, PartialEq, Eq)]
+pub enum Leaving {
+    /// Its door is done with it.
+    Served,
+    /// The rules deny its peer.
+    Denied,
+    /// Its request wasn't whole in time.
+    Late,
+    /// Its place was wanted for another before its request was whole.
+    Displaced,
+}
+
 /// A connection that ends.
 #[derive(Drop)]
 pub struct Visit<'a> {
     pub peer: &'a SocketAddr,
-    pub exchange: &'a Exchange,
+    pub leaving: Leaving,
+    /// Whether a byte of the peer's was seen.
+    pub was_given: bool,
+    /// What passed, where a door read it.
+    pub exchange: Option<Exchange<'a>>,
     /// The moment of the monotonic clock when it began.
-    pub begun: &'a Duration,
+    pub begun: Duration,
+}
+
+/// The exchange, of a connection that a door read. Of another `denied`, `sent nothing` or `sent no whole request`, and `, left for another` behind that
+/// where its place was wanted.
+impl Display for Visit<'_> {
+    fn fmt<W: fmt::Write>(&self, f: &mut Formatter<W>) -> fmt::Result {
+        if self.leaving == Leaving::Denied {
+            return f.write_str("denied");
+        }
+        match self.exchange {
+            _ if !self.was_given => f.write_str("sent nothing")?,
+            Some(exchange) => write!(f, "{exchange}")?,
+            None => f.write_str("sent no whole request")?,
+        }
+        if self.leaving == Leaving::Displaced {
+            f.write_str(", left for another")?;
+        }
+        Ok(())
+    }
 }
 
 /// A connection ends: when, the peer, what became of it and how long it took.
 pub fn tell_visit<R: Eprint + Clock>(rt: &R, visit: &Visit<'_>) {
-    let took = rt
-        .monotonic()
-        .unwrap_or(Duration::ZERO)
-        .saturating_sub(*visit.begun);
+    let took = millis_since(rt, visit.begun);
     let seconds = rt.since_1970().unwrap_or(Duration::ZERO).as_secs();
     let Ok(date) = HttpDate::from_unix_secs(seconds) else {
         return;
     };
-    let _ = eprintln!(rt;
-        "{date} {}: {}, {} ms",
-        visit.peer,
-        visit.exchange,
-        took.as_millis()
-    );
+    let _ = eprintln!(rt; "{date} {}: {visit}, {took} ms", visit.peer);
+}
+
+fn millis_since<R: Clock>(rt: &R, begun: Duration) -> u128 {
+    let now = rt.monotonic().unwrap_or(Duration::ZERO);
+    now.saturating_sub(begun).as_millis()
+}
+
+/// What is told of exchanges with hosts.
+#[derive(Clone, Copy, Debug, PartialEq, Eq)]
+pub enum Notices {
+    /// Nothing.
+    Never,
+    /// That a host wasn't reached, and that an exchange broke off, with the system's reason.
+    Faults,
+    /// Each exchange too.
+    All,
+}
+
+impl Notices {
+    /// What `FARM_NOTICES` asks for: nothing by `0`, all by `all`, and else the faults.
+    pub fn by(value: Option<&str>) -> Notices
+        ensures { result ≡ notices_by (option_copied value.entry) }
+    {
+        match value {
+            Some("0") => Notices::Never,
+            Some("all") => Notices::All,
+            _ => Notices::Faults,
+        }
+    }
+}
+
+/// A host couldn't be reached, for the system's reason.
+pub fn tell_unreached<R: Eprint>(rt: &R, notices: Notices, host: &str, port: u16, error: &Error) {
+    if !matches!(notices, Notices::Never) {
+        let _ = eprintln!(rt; "farm: {host}:{port}: {error}");
+    }
+}
+
+/// An exchange with a host that ends.
+#[derive(Drop)]
+pub struct Parting<'a> {
+    pub host: &'a HostName,
+    pub port: u16,
+    pub exchange: Exchange<'a>,
+    /// The system's reason, where a send or a receive failed.
+    pub failure: Option<&'a Error>,
+    /// Whether the host ended the connection.
+    pub ended: bool,
+    /// The moment of the monotonic clock when it began.
+    pub begun: Duration,
+}
+
+/// An exchange ends: why it isn't whole, where it isn't, and by all notices what became of it and how long it took.
+pub fn tell_parting<R: Eprint + Clock>(rt: &R, notices: Notices, parting: &Parting<'_>) {
+    if matches!(notices, Notices::Never) {
+        return;
+    }
+    tell_broken(rt, parting);
+    if matches!(notices, Notices::All) {
+        let took = millis_since(rt, parting.begun);
+        let _ = eprintln!(rt;
+            "farm: {}:{}: {}, {took} ms",
+            Shown(parting.host.text.as_slice()),
+            parting.port,
+            parting.exchange
+        );
+    }
+}
+
+/// The status of a reply of farmd that says that the compiler isn't in its table.
+const UNKNOWN_COMPILER: u32 = 0x6e00;
+
+fn tell_broken<R: Eprint>(rt: &R, parting: &Parting<'_>) {
+    let host = Shown(parting.host.text.as_slice());
+    let port = parting.port;
+    let answered = parting.exchange.answered;
+    let _ = if let Some(error) = parting.failure {
+        eprintln!(rt; "farm: {host}:{port}: {error}")
+    } else if parting.ended && answered.bytes == 0 {
+        eprintln!(rt;
+            "farm: {host}:{port}: no reply, as of a host that denies this one or doesn't run the compiler"
+        )
+    } else if parting.ended {
+        eprintln!(rt;
+            "farm: {host}:{port}: the reply ends after {} bytes",
+            answered.bytes
+        )
+    } else if !answered.is_whole_reply() {
+        eprintln!(rt; "farm: {host}:{port}: the reply wasn't taken to its end")
+    } else if answered.status() == Some(UNKNOWN_COMPILER) {
+        eprintln!(rt;
+            "farm: {host}:{port}: the compiler {} isn't in the host's table",
+            parting.exchange.compiler()
+        )
+    } else {
+        Ok(())
+    };
 }
 
 /// An accept is made again, for the system's reason.

@@ -2,7 +2,7 @@
 ghost use Rattle.std.specs.Prelude.{◌≡◌, false};
 ghost use Rattle.wire_tokens.specs.Request.{IsShortRequest};
 
-use crate::exchange::Leaving;
+use crate::notices::Leaving;
 use crate::tcp::IDLE_SECS;
 use compile_request::{RequestReader, Step};
 use mio::event::Event;

@@ -7,16 +7,20 @@ ghost use Rattle.edge_real.specs.Counts.{call_faults};
 ghost use Rattle.edge_real.specs.Views.{link_view, with_fault, stream_of, dialer_view, counted_dialer};
 
 use crate::counting::raise;
+use crate::door_link::moment;
+use crate::exchange::{Exchange, Tokens};
+use crate::notices::{Notices, Parting, tell_parting, tell_unreached};
 use crate::retrying::{read_once, write_once};
 use edge_traits::{Dialer, EdgeFault, Link};
 use farm_types::HostName;
 use std::alloc::Global;
-use std::io::{Read, Write};
+use std::io::{Eprint, Error, Read, Write};
 use std::net::{Net, OpenStream, TcpStream, ToSocketAddrs};
+use std::rt::Clock;
 use std::str;
 use std::time::Duration;
 
-/// A connection over TCP. It shuts neither of its sides before it is given back.
+/// A connection over TCP. It shuts neither of its sides before it is given back. It knows when it began, what passed, and why a call failed.
 #[derive(Drop)]
 pub struct TcpLink<S> {
     stream: S,
@@ -25,11 +29,15 @@ pub struct TcpLink<S> {
     ended: bool,
     stopped: bool,
     faults: u64,
+    begun: Duration,
+    sent: Tokens,
+    given: Tokens,
+    failure: Option<Error>,
 }
 
 impl<S: OpenStream> TcpLink<S> {
-    /// A link on which nothing has happened yet. Small pieces are sent at once, where the system allows it.
-    pub(crate) fn new(stream: S, host: HostName, port: u16) -> TcpLink<S>
+    /// A link on which nothing has happened yet, at this moment of the monotonic clock. Small pieces are sent at once, where the system allows it.
+    pub(crate) fn new(stream: S, host: HostName, port: u16, begun: Duration) -> TcpLink<S>
         ensures fresh { IsFresh host port (link_view result) }
         ensures stream { stream_of result ≡ stream }
     {
@@ -41,11 +49,48 @@ impl<S: OpenStream> TcpLink<S> {
             ended: false,
             stopped: false,
             faults: 0,
+            begun,
+            sent: Tokens::new(),
+            given: Tokens::new(),
+            failure: None,
         }
     }
 }
 
 impl<S> TcpLink<S> {
+    /// The moment of the monotonic clock when it began.
+    pub(crate) fn begun(&self) -> Duration {
+        self.begun
+    }
+
+    /// Whether a byte was sent.
+    pub(crate) fn has_sent(&self) -> bool {
+        self.sent.bytes > 0
+    }
+
+    /// The exchange, where the peer asked.
+    pub(crate) fn taken_in(&self) -> Exchange<'_> {
+        Exchange {
+            asked: &self.given,
+            answered: &self.sent,
+        }
+    }
+
+    /// How the exchange ends, where the peer was asked.
+    fn parting(&self) -> Parting<'_> {
+        Parting {
+            host: &self.host,
+            port: self.port,
+            exchange: Exchange {
+                asked: &self.sent,
+                answered: &self.given,
+            },
+            failure: self.failure.as_ref(),
+            ended: self.ended,
+            begun: self.begun,
+        }
+    }
+
     /// Has each read from here on fail that waits for so long, where the system takes it.
     pub(crate) fn wait_at_most(&self, time: Duration)
     where
@@ -98,9 +143,11 @@ impl<S: Read + Write> Link for TcpLink<S> {
         match write_once(&mut self.stream, piece) {
             Ok(count) => {
                 self.stopped |= count == 0;
+                self.sent.pass(piece, count);
                 Ok(count)
             }
-            Err(_) => {
+            Err(error) => {
+                self.failure = Some(error);
                 raise(&mut self.faults);
                 Err(EdgeFault::Failed)
             }
@@ -120,9 +167,11 @@ impl<S: Read + Write> Link for TcpLink<S> {
         match read_once(&mut self.stream, room) {
             Ok(count) => {
                 self.ended |= count == 0;
+                self.given.pass(room, count);
                 Ok(count)
             }
-            Err(_) => {
+            Err(error) => {
+                self.failure = Some(error);
                 raise(&mut self.faults);
                 Err(EdgeFault::Failed)
             }
@@ -137,19 +186,25 @@ const DIAL_SECS: u64 = 5;
 pub const IDLE_SECS: u64 = 600;
 
 /// Dials over TCP. A name is resolved by the system, and each of its addresses is tried in turn, each for at most `DIAL_SECS`. On a link that it
-/// gives, a receive or a send that waits for `IDLE_SECS` is a fault.
+/// gives, a receive or a send that waits for `IDLE_SECS` is a fault. Why a host isn't reached, and why an exchange breaks off, stands as a line on the
+/// standard error of this process, where the notices have it.
 #[derive(Drop)]
 pub struct TcpDialer<R> {
     rt: R,
+    notices: Notices,
     faults: u64,
 }
 
-impl<R: Net> TcpDialer<R> {
+impl<R: Net + Eprint + Clock> TcpDialer<R> {
     /// A dialer without faults so far.
-    pub fn new(rt: R) -> TcpDialer<R>
+    pub fn new(rt: R, notices: Notices) -> TcpDialer<R>
         ensures { dialer_view result ≡ counted_dialer 0 }
     {
-        TcpDialer { rt, faults: 0 }
+        TcpDialer {
+            rt,
+            notices,
+            faults: 0,
+        }
     }
 
     /// A stream to the host. It takes no memory.
@@ -160,21 +215,28 @@ impl<R: Net> TcpDialer<R> {
         let Ok(text) = str::from_utf8(host.text.as_slice()) else {
             return Err(EdgeFault::Failed);
         };
-        let Ok(places) = (text, port).to_socket_addrs(&self.rt) else {
-            return Err(EdgeFault::Failed);
-        };
-        for place in places {
-            let reached = TcpStream::connect_timeout(
-                &self.rt,
-                &place,
-                Duration::from_secs(DIAL_SECS),
-            );
-            if let Ok(stream) = reached {
-                let idle = Some(Duration::from_secs(IDLE_SECS));
-                let _ = stream.set_read_timeout(idle);
-                let _ = stream.set_write_timeout(idle);
-                return Ok(stream);
+        let places = match (text, port).to_socket_addrs(&self.rt) {
+            Ok(places) => places,
+            Err(error) => {
+                tell_unreached(&self.rt, self.notices, text, port, &error);
+                return Err(EdgeFault::Failed);
             }
+        };
+        let mut refusal = None;
+        for place in places {
+            let limit = Duration::from_secs(DIAL_SECS);
+            match TcpStream::connect_timeout(&self.rt, &place, limit) {
+                Ok(stream) => {
+                    let idle = Some(Duration::from_secs(IDLE_SECS));
+                    let _ = stream.set_read_timeout(idle);
+                    let _ = stream.set_write_timeout(idle);
+                    return Ok(stream);
+                }
+                Err(error) => refusal = Some(error),
+            }
+        }
+        if let Some(error) = &refusal {
+            tell_unreached(&self.rt, self.notices, text, port, error);
         }
         Err(EdgeFault::Failed)
     }
@@ -185,11 +247,11 @@ impl<R: Net> TcpDialer<R> {
     {
         let name = host.copy()?;
         let stream = self.reach(host, port)?;
-        Ok(TcpLink::new(stream, name, port))
+        Ok(TcpLink::new(stream, name, port, moment(&self.rt)))
     }
 }
 
-impl<R: Net> Dialer for TcpDialer<R> {
+impl<R: Net + Eprint + Clock> Dialer for TcpDialer<R> {
     type Link = TcpLink<R::Stream>;
 
     ghost shows = { dialer_view };
@@ -220,6 +282,7 @@ impl<R: Net> Dialer for TcpDialer<R> {
     fn hang_up(&mut self, link: TcpLink<R::Stream>)
         ensures { dialer_view self.new ≡ dialer_view self.old }
     {
+        tell_parting(&self.rt, self.notices, &link.parting());
         drop(link);
     }
 }

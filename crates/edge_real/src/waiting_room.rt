@@ -4,8 +4,7 @@ ghost use Rattle.access_list.specs.Rules.{AreRight, decision};
 ghost use Rattle.access_list.specs.declared.decision.Decision.TheVariants as decided;
 
 use crate::door_link::moment;
-use crate::exchange::{Exchange, Leaving};
-use crate::notices::{Visit, tell_visit};
+use crate::notices::{Leaving, Visit, tell_visit};
 use crate::pending::Pending;
 use access_list::{AccessList, Decision};
 use mio::unix::SourceFd;
@@ -219,11 +218,12 @@ impl<L, S: Drop> WaitingRoom<L, S> {
         let Some(pending) = self.remove(at) else {
             return;
         };
-        let exchange = Exchange::unread(leaving, pending.was_given);
         let visit = Visit {
             peer: &pending.peer,
-            exchange: &exchange,
-            begun: &pending.begun,
+            leaving,
+            was_given: pending.was_given,
+            exchange: None,
+            begun: pending.begun,
         };
         tell_visit(rt, &visit);
     }

@@ -1,6 +1,6 @@
 //! Files of the system.
 
-use edge_real::{DiskFiles, system_kits};
+use edge_real::{DiskFiles, Notices, system_kits};
 use edge_traits::{EdgeFault, FetchFault, Keeper, is_staged};
 use farm_types::Bytes;
 use object_delivery::Files as FileCalls;
@@ -80,7 +80,7 @@ const PUTS: &[Put] = &[
 
 #[test]
 fn a_file_is_put_and_fetched(rt: HostRuntime) -> Result<(), Fail> {
-    let mut kits = system_kits(rt, rt.alloc(), ".", 9, 2)?;
+    let mut kits = system_kits(rt, rt.alloc(), Notices::Never, ".", 9, 2)?;
     assert_eq!(rt; kits.len(), 2);
     expect_fetches(
         &rt,
@@ -207,7 +207,7 @@ const LONGEST: &[u8] = &[b'l'; 255];
 
 #[test]
 fn only_a_regular_file_is_replaced(rt: HostRuntime) -> Result<(), Fail> {
-    let mut kits = system_kits(rt, rt.alloc(), ".", 4, 1)?;
+    let mut kits = system_kits(rt, rt.alloc(), Notices::Never, ".", 4, 1)?;
     assert_eq!(rt; kits.len(), 1);
     fs::create_dir(&rt, "folder")?;
     expect_puts(&rt, rt.alloc(), &mut kits[0].keeper, KEPT);

@@ -1,7 +1,7 @@
 //! Sockets, each against a peer in another thread.
 
 use access_list::{AccessList, RuleVec, parse_rule};
-use edge_real::{TcpDialer, TcpDoor};
+use edge_real::{Notices, TcpDialer, TcpDoor};
 use edge_traits::{Dialer, Door, EdgeFault, Link};
 use farm_types::{Bytes, HostName};
 use std::alloc::{AllocError, Global};
@@ -54,7 +54,7 @@ fn a_dialer_and_a_door_carry_bytes_both_ways(rt: HostRuntime) -> Result<(), Fail
     let alloc = rt.alloc();
     let mut door = TcpDoor::open(rt, alloc, LOCALHOST, 0, everybody(alloc));
     let port = door.port().ok_or("port")?;
-    let mut dialer = TcpDialer::new(rt);
+    let mut dialer = TcpDialer::new(rt, Notices::Never);
     let name = host(alloc, b"localhost")?;
     let (near, far) = thread::join(
         &rt,
@@ -94,7 +94,7 @@ fn a_client_that_sends_too_much_gets_the_whole_reply(rt: HostRuntime) -> Result<
     let alloc = rt.alloc();
     let mut door = TcpDoor::open(rt, alloc, LOCALHOST, 0, everybody(alloc));
     let port = door.port().ok_or("port")?;
-    let mut dialer = TcpDialer::new(rt);
+    let mut dialer = TcpDialer::new(rt, Notices::Never);
     let name = host(alloc, b"127.0.0.1")?;
     let (given, sent) = thread::join(
         &rt,
@@ -135,7 +135,7 @@ where
     D::Link: Drop,
 {
     let alloc = rt.alloc();
-    let mut dialer = TcpDialer::new(rt);
+    let mut dialer = TcpDialer::new(rt, Notices::Never);
     let name = host(alloc, b"127.0.0.1")?;
     let mut silent = dialer.dial(alloc, &name, port)?;
     silent.send(b"x")?;
@@ -176,7 +176,7 @@ fn a_silent_client_and_one_that_began_hold_no_door(rt: HostRuntime) -> Result<()
     let first = TcpDoor::open(rt, alloc, LOCALHOST, 0, everybody(alloc));
     let mut door = first.share();
     let port = door.port().ok_or("port")?;
-    let mut dialer = TcpDialer::new(rt);
+    let mut dialer = TcpDialer::new(rt, Notices::Never);
     let name = host(alloc, b"127.0.0.1")?;
     let silent = dialer.dial(alloc, &name, port)?;
     let mut slow = dialer.dial(alloc, &name, port)?;
@@ -208,7 +208,7 @@ fn a_denied_client_that_is_silent_is_handed_out(rt: HostRuntime) -> Result<(), F
     access.rules.try_push(rule)?;
     let mut door = TcpDoor::open(rt, alloc, LOCALHOST, 0, access);
     let port = door.port().ok_or("port")?;
-    let mut dialer = TcpDialer::new(rt);
+    let mut dialer = TcpDialer::new(rt, Notices::Never);
     let silent = dialer.dial(alloc, &host(alloc, b"127.0.0.1")?, port)?;
     let (link, peer) = door.accept(alloc)?;
     assert_eq!(rt; peer, LOCALHOST);
@@ -220,7 +220,7 @@ fn a_denied_client_that_is_silent_is_handed_out(rt: HostRuntime) -> Result<(), F
 #[test]
 fn a_host_that_is_not_there_is_a_fault(rt: HostRuntime) -> Result<(), Fail> {
     let alloc = rt.alloc();
-    let mut dialer = TcpDialer::new(rt);
+    let mut dialer = TcpDialer::new(rt, Notices::Never);
     for name in [b"127.0.0.1".as_slice(), b"red.invalid", b"\xff"] {
         let name = host(alloc, name)?;
         assert!(rt; matches!(dialer.dial(alloc, &name, 1), Err(EdgeFault::Failed)));

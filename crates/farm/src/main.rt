@@ -5,7 +5,7 @@ mod command;
 mod reasons;
 
 use command::{add_dependencies, bytes_of, compile_command, replaces_source, tell_input};
-use edge_real::{StdSink, StdSource, command_words, own_folder, system_kits, variable};
+use edge_real::{Notices, StdSink, StdSource, command_words, own_folder, system_kits, variable};
 use farm_program::farm;
 use host_turns::{spread, turned};
 use kept_input::KeptSource;
@@ -63,6 +63,12 @@ fn variables_of(rt: &HostRuntime, is_single: bool) -> Result<Vec<(String, String
     Ok(variables)
 }
 
+// What is told of exchanges with hosts.
+fn notices_of(rt: &HostRuntime) -> Result<Notices, AllocError> {
+    let value = variable(rt, "FARM_NOTICES")?;
+    Ok(Notices::by(value.as_ref().map(|value| value.as_str())))
+}
+
 // Runs `farm` on these words, the environment and the standard streams, tells in plain words what was refused, and answers the exit
 // status. It may wait for a slot.
 fn run<W: Threads + Wait + Sync>(
@@ -74,7 +80,7 @@ fn run<W: Threads + Wait + Sync>(
     let variables = variables_of(rt, compile_command(words).is_some())?;
     let folder = own_folder(rt)?;
     let process = process::id(rt.process());
-    let mut kits = system_kits(*rt, alloc, folder.as_str(), process, KITS)?;
+    let mut kits = system_kits(*rt, alloc, notices_of(rt)?, folder.as_str(), process, KITS)?;
     let mut input = KeptSource::new(alloc, StdSource::new(rt.stdin()));
     let mut out = StdSink::new(rt.stdout());
     let mut err = StdSink::new(rt.stderr());

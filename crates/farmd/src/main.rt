@@ -147,7 +147,13 @@ fn doors_of(rt: &HostRuntime) -> Result<(Vec<String>, Vec<SystemDoor>), AllocErr
         warn!(rt; "every peer is let in, since no rule says who is");
     }
     let access = access_of(rt, words.as_slice())?;
-    let doors = doors_at(rt, words.as_slice(), place, access, policy_of(words.as_slice()))?;
+    let doors = doors_at(
+        rt,
+        words.as_slice(),
+        place,
+        access,
+        policy_of(words.as_slice()),
+    )?;
     Ok((words, doors))
 }
 
@@ -158,11 +164,5 @@ fn main(rt: HostRuntime) -> ExitCode {
         return ExitCode::from(NO_MEMORY);
     };
     let mut out = StdSink::new(rt.stdout());
-    ExitCode::from(farmd(
-        &rt,
-        rt.alloc(),
-        words.as_slice(),
-        &mut doors,
-        &mut out,
-    ))
+    ExitCode::from(farmd(&rt, rt.alloc(), words.as_slice(), &mut doors, &mut out))
 }
