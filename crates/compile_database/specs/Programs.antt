@@ -64,7 +64,7 @@ pub data Reads (choice : Choice) (old new : SourceView) (sinks sinks_now : Sinks
   whole_input : (text : List ℕ) → AllRead old new text → length text < too_long → Listed choice text sinks sinks_now answer → Reads choice old new sinks sinks_now answer
   long_input : ReadTo too_long old new → Refused unreadable_text 107 sinks sinks_now answer → Reads choice old new sinks sinks_now answer
   broken_input : BrokeOff too_long old new → Refused unreadable_text 107 sinks sinks_now answer → Reads choice old new sinks sinks_now answer
-  unread : HasReadSome old new → Still old.faults new.faults → Wanted sinks sinks_now answer → Reads choice old new sinks sinks_now answer
+  unread : HasReadSome too_long old new → Still old.faults new.faults → Wanted sinks sinks_now answer → Reads choice old new sinks sinks_now answer
 
 -- The words ask for a text, which was printed; or they don't fit, at this place; or they say which entries are taken; or memory was
 -- wanting, and nothing was read.
