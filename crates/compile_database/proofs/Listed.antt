@@ -13,8 +13,9 @@ use Rattle.compile_database.specs.Refusals.{FaultRefused, ToldOrWanted, WordsRef
 use Rattle.compile_database.proofs.Telling.{told_by}
 
 -- a fault stands, and was told, or memory was wanting
-pub refused_text : {choice : Choice} {text : List ℕ} {old new : SinksView} {answer : ℕ} (fault : DatabaseFault) → FaultStands choice text fault → FaultRefused old new answer → Listed choice text old new answer
-refused_text fault stands (inl refusal) = faulty_text fault refusal.0 stands refusal.1
+pub refused_text : {choice : Choice} {text : List ℕ} {old new : SinksView} {answer : ℕ} (fault : DatabaseFault)
+    → FaultStands choice text fault → FaultRefused fault old new answer → Listed choice text old new answer
+refused_text fault stands (inl refusal) = faulty_text fault stands refusal
 refused_text fault stands (inr wanted) = unlisted wanted
 
 pub listed_by : {choice : Choice} {text text' : List ℕ} {old new : SinksView} {answer : ℕ} → text ≡ text' → Listed choice text old new answer → Listed choice text' old new answer

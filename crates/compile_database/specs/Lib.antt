@@ -11,3 +11,4 @@ pub mod Listings
 pub mod Helps
 pub mod Programs
 pub mod Refusals
+pub mod Faults

@@ -12,6 +12,7 @@ use Rattle.compile_database.specs.declared.fault.DatabaseFault.{DatabaseFault}
 use Rattle.compile_database.specs.declared.help.Ask.{Ask}
 use Rattle.compile_database.specs.Choices.{Choice}
 use Rattle.compile_database.specs.Databases.{FaultStands, ListOf}
+use Rattle.compile_database.specs.Faults.{fault_text}
 use Rattle.compile_database.specs.Helps.{asked, text_of}
 use Rattle.compile_database.specs.Words.{Chooses, said}
 
@@ -25,6 +26,9 @@ unreadable_text = codes "farm_jobs: cannot read the database\n"
 
 abbrev pub bad_words_text : ℕ → List ℕ
 bad_words_text place = codes "farm_jobs: bad words at word " ++ decimal place ++ codes "\n"
+
+abbrev pub refusal_text : DatabaseFault → List ℕ
+refusal_text fault = codes "farm_jobs: " ++ fault_text fault ++ codes "\n"
 
 -- this many bytes are too many
 abbrev pub too_long : ℕ
@@ -48,10 +52,10 @@ Refused message status sinks sinks_now answer = Ends no_memory_text (complaint m
 abbrev pub Wanted : SinksView → SinksView → ℕ → Type 0
 Wanted sinks sinks_now answer = WantOf no_memory_text [] sinks sinks_now answer
 
--- The job list of the text was printed; or the text has this fault, and a message was; or memory was wanting.
+-- The job list of the text was printed; or the text has this fault, which was told; or memory was wanting.
 pub data Listed (choice : Choice) (text : List ℕ) (sinks sinks_now : SinksView) (answer : ℕ) : Type 0 where
   printed_list : (list : List ℕ) → ListOf choice text list → Told list sinks sinks_now answer → Listed choice text sinks sinks_now answer
-  faulty_text : (fault : DatabaseFault) (message : List ℕ) → FaultStands choice text fault → Refused message 109 sinks sinks_now answer → Listed choice text sinks sinks_now answer
+  faulty_text : (fault : DatabaseFault) → FaultStands choice text fault → Refused (refusal_text fault) 109 sinks sinks_now answer → Listed choice text sinks sinks_now answer
   unlisted : Wanted sinks sinks_now answer → Listed choice text sinks sinks_now answer
 
 -- The input was read to its end, and its text was listed; or it was too long, or couldn't be read; or memory was wanting while it was read, and
@@ -60,7 +64,7 @@ pub data Reads (choice : Choice) (old new : SourceView) (sinks sinks_now : Sinks
   whole_input : (text : List ℕ) → AllRead old new text → length text < too_long → Listed choice text sinks sinks_now answer → Reads choice old new sinks sinks_now answer
   long_input : ReadTo too_long old new → Refused unreadable_text 107 sinks sinks_now answer → Reads choice old new sinks sinks_now answer
   broken_input : BrokeOff too_long old new → Refused unreadable_text 107 sinks sinks_now answer → Reads choice old new sinks sinks_now answer
-  unread : HasReadSome old new → Still old.faults new.faults → Wanted sinks sinks_now answer → Reads choice old new sinks sinks_now answer
+  unread : HasReadSome too_long old new → Still old.faults new.faults → Wanted sinks sinks_now answer → Reads choice old new sinks sinks_now answer
 
 -- The words ask for a text, which was printed; or they don't fit, at this place; or they say which entries are taken; or memory was
 -- wanting, and nothing was read.

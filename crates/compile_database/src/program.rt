@@ -64,7 +64,7 @@ fn refuse_text<O: Sink, E: Sink>(
     out: &mut O,
     err: &mut E,
 ) -> u8
-    ensures { FaultRefused (sinks_view O.shows E.shows out.old err.old)
+    ensures { FaultRefused fault (sinks_view O.shows E.shows out.old err.old)
         (sinks_view O.shows E.shows out.new err.new) result }
 {
     match format!(in alloc; "farm_jobs: {fault}\n") {

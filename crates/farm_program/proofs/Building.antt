@@ -26,7 +26,7 @@ use Rattle.stream_print.specs.Prints.{SinksView}
 use Rattle.stream_print.specs.Ends.{complaint, Ends, WantOf}
 use Rattle.farm_answers.specs.Texts.{bad_jobs_status, cannot_read_status, cannot_read_text, job_fault_text, no_memory_text}
 use Rattle.farm_program.specs.Worlds.{World}
-use Rattle.farm_program.specs.Builds.{JobsDone, input_limit, Builds, built, faulty, unread, wanted, whole_text, long_text, while_reading, after_reading, RunsText, text_ran, text_faulty, text_wanted}
+use Rattle.farm_program.specs.Builds.{JobsDone, input_limit, Builds, built, faulty, unread, wanted, whole_text, long_text, RunsText, text_ran, text_faulty, text_wanted}
 
 -- the hosts of a list are usable
 pub usable_hosts : (hosts : Hosts) → AreHosts hosts → AreUsable hosts
@@ -57,17 +57,27 @@ one_doable words some = record {
 
 -- the whole text was read, and then the rest was done
 pub read_whole : {K : Type 0} {d : Devices K} {config : JobConfig} {most : ℕ} {a b : SourceView} {old_kits new_kits : List K} {made : List Built} {old new : SinksView} {answer : ℕ} (text : List ℕ)
-    → AllRead a b text → RunsText d config most text old_kits new_kits made old new answer
+    → AllRead a b text → length text < input_limit → RunsText d config most text old_kits new_kits made old new answer
     → Builds d config most (record { source = a; kits = old_kits; sinks = old; built = [] }) (record { source = b; kits = new_kits; sinks = new; built = made }) answer
-read_whole text read (text_ran {jobs = jobs} asks done prints) = built (record { text = text; jobs = jobs; read = read; asks = asks; done = done; prints = prints })
-read_whole text read (text_faulty {line = line} {fault = fault} stands undone none ends) = faulty {line = line} {fault = fault} (whole_text read stands) (record { idle = record { undone = undone; none_built = none }; ends = ends })
-read_whole text read (text_wanted undone none want) = wanted (record { time = after_reading read; idle = record { undone = undone; none_built = none }; want = want })
+read_whole text read short (text_ran {jobs = jobs} asks done prints) =
+    built (record { text = text; jobs = jobs; read = read; asks = asks; done = done; prints = prints })
+read_whole text read short (text_faulty {line = line} {fault = fault} stands undone none ends) =
+    faulty {line = line} {fault = fault} (whole_text read stands)
+    (record { idle = record { undone = undone; none_built = none }; ends = ends })
+read_whole text read short (text_wanted undone none want) =
+    wanted (record {
+      read = record { text = text; took = read.took; within = omega (arith, short) };
+      still = read.still;
+      idle = record { undone = undone; none_built = none };
+      want = want;
+    })
 
 -- memory was wanting while it was read
 pub read_wanted : {K : Type 0} {d : Devices K} {config : JobConfig} {most : ℕ} {a b : SourceView} {kits : List K} {made : List Built} {old new : SinksView} {answer : ℕ}
-    → made ≡ [] → HasReadSome a b → Still a.faults b.faults → WantOf no_memory_text [] old new answer
+    → made ≡ [] → HasReadSome input_limit a b → Still a.faults b.faults → WantOf no_memory_text [] old new answer
     → Builds d config most (record { source = a; kits = kits; sinks = old; built = [] }) (record { source = b; kits = kits; sinks = new; built = made }) answer
-read_wanted none read still want = wanted (record { time = while_reading read still; idle = record { undone = refl; none_built = none }; want = want })
+read_wanted none read still want =
+    wanted (record { read = read; still = still; idle = record { undone = refl; none_built = none }; want = want })
 
 -- what was read is no text of jobs, so none was run
 module _ {K : Type 0} {d : Devices K} {config : JobConfig} {most : ℕ} {a b : SourceView} {kits : List K} {made : List Built} {old new : SinksView} {answer : ℕ} (none : made ≡ []) where

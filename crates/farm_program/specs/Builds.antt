@@ -54,14 +54,11 @@ pub data HasListFault (old new : SourceView) (line : ℕ) (fault : JobFault) : T
   whole_text : {text : List ℕ} → AllRead old new text → JobFaultStands text line fault → HasListFault old new line fault
   long_text : (read : ReadTo input_limit old new) → JobFaultStands read.text line fault → HasListFault old new line fault
 
--- When memory was wanting: while the input was read, and then its count stands still; or after the whole of it was read.
-pub data WantedAt (old new : SourceView) : Type 0 where
-  while_reading : HasReadSome old new → Still old.faults new.faults → WantedAt old new
-  after_reading : {text : List ℕ} → AllRead old new text → WantedAt old new
-
--- Memory was wanting before the first job began: none was run, and nothing but the notice was printed. No fault of the input is told so.
+-- Memory was wanting before the first job began: while the input was read or after that, and no more of it was read than the limit. None was run, and
+-- nothing but the notice was printed. No fault of the input is told so.
 pub record Wanted {K : Type 0} (old new : World K) (answer : ℕ) : Type 0 where
-  pub time : WantedAt old.source new.source
+  pub read : HasReadSome input_limit old.source new.source
+  pub still : Still old.source.faults new.source.faults
   pub idle : Idle old new
   pub want : WantOf no_memory_text [] old.sinks new.sinks answer
 

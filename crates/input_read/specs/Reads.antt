@@ -41,7 +41,8 @@ HasRead limit (Whole text) old new = AllRead old new text × (length text < limi
 HasRead limit TooLong old new = ReadTo limit old new
 HasRead limit Unread old new = BrokeOff limit old new
 
--- something was read, or nothing
-pub record HasReadSome (old new : SourceView) : Type 0 where
+-- something was read, within the limit, or nothing
+pub record HasReadSome (limit : ℕ) (old new : SourceView) : Type 0 where
   pub text : List ℕ
   pub took : TookIn old new text
+  pub within : length text ≤ limit

@@ -18,7 +18,7 @@ pub enum Input {
 }
 
 /// Reads the input to its end, until it has given so many bytes, or until its count rose. It wants memory only where that
-/// count stands still.
+/// count stands still, and never reads more than so many bytes.
 pub fn read_input<R: Source>(
     alloc: Global,
     source: &mut R,
@@ -27,7 +27,7 @@ pub fn read_input<R: Source>(
     requires { (R.shows source.old).ended ≡ false }
     ensures read { IfOk result (λ input. HasRead limit input (R.shows source.old) (R.shows source.new)) }
     ensures memory { OnErr result (Still (R.shows source.old).faults (R.shows source.new).faults) }
-    ensures some { HasReadSome (R.shows source.old) (R.shows source.new) }
+    ensures some { HasReadSome limit (R.shows source.old) (R.shows source.new) }
 {
     let mut room = [0; 512];
     let mut got = Bytes::new(alloc);

@@ -1,7 +1,7 @@
 -- What each job's runs left and what its exchanges were given.
-use Rattle.std.proofs.Common.{◌≡◌, inl, inr, ℕ, zero, suc, ◌+◌, ◌<◌, Bool, true, false, cond, List, [], ◌∷◌, Some, length, map, refl, sym, ap, ◌∙◌, subst, arith}
+use Rattle.std.proofs.Common.{◌≡◌, inl, inr, ℕ, zero, suc, ◌+◌, ◌<◌, Bool, true, false, cond, List, [], ◌∷◌, Some, length, map, refl, sym, ap, ◌∙◌, subst, arith, nat_eq, eq-eqb}
 use Rattle.std.specs.Prelude.{All, slice_get}
-use Rattle.std.proofs.lemmas.List.Elements.{All-nil, All-cons}
+use Rattle.std.proofs.lemmas.List.Elements.{All-nil, All-cons, All-head, All-tail}
 use Rattle.std.proofs.lemmas.Bool.{true≢false}
 use Rattle.std.proofs.lemmas.List.Sums.{sum_by-cons}
 use Rattle.std.proofs.lemmas.Option.{slice_get_cases}
@@ -19,16 +19,42 @@ use Rattle.farm_machine.specs.Weave.{Reports}
 use Rattle.course_laws.specs.Answers.{AllGiven}
 use Rattle.course_laws.specs.Laws.{is_own_end}
 use Rattle.course_laws.specs.Returns.{is_done_or_wanted}
-use Rattle.course_laws.proofs.Given.{given-split, ran-split}
-use Rattle.job_driver.specs.Works.{untimed_job, all_acts, AreReportsOf, RoseTogether, ends_so, is_station_failure, is_keeper_failure}
+use Rattle.course_laws.proofs.Given.{given-front, given-split, ran-front, ran-split}
+use Rattle.job_driver.specs.Driven.{acts_by, reports_by}
+use Rattle.job_driver.specs.Works.{untimed_job, AreReportsOf, RoseTogether, ends_so, is_station_failure, is_keeper_failure}
 
-pub given-each : (peers : Peers) (done : List DoneJob) → AllGiven peers (all_acts done) → Each (λ job. AllGiven peers (untimed job.acts)) done
-given-each peers [] all = tt
-given-each peers (job ∷ done) all = let parts = given-split peers job.acts (all_acts done) all in (parts.0, given-each peers done parts.1)
+-- what holds of all reports of a worker holds of the one at a place, where it is the worker's
+pub all-own : (P : Report → Type 0) (w : ℕ) (xs : List Report) (k : ℕ) (r : Report)
+    → All P (reports_by w xs) → slice_get xs k ≡ Some r → r.worker ≡ w → P r
+all-own P w [] k r all at by = absurd (grind (arith, at))
+all-own P w (x ∷ xs) zero r all at by = go (nat_eq x.worker w) refl all
+  where
+    same : x ≡ r
+    same = grind (arith, at)
 
-pub ran-each : (programs : Programs) (done : List DoneJob) → AllRan programs (all_acts done) → Each (λ job. AllRan programs (untimed job.acts)) done
-ran-each programs [] all = tt
-ran-each programs (job ∷ done) all = let parts = ran-split programs job.acts (all_acts done) all in (parts.0, ran-each programs done parts.1)
+    go : (b : Bool) → nat_eq x.worker w ≡ b → All P (cond b (x ∷ reports_by w xs) (reports_by w xs)) → P r
+    go true is all = subst P same (All-head P x (reports_by w xs) all)
+    go false is all = absurd (true≢false (sym (eq-eqb x.worker w (ap (λ (q : Report). q.worker) same ∙ by)) ∙ is))
+all-own P w (x ∷ xs) (suc k) r all at by = go (nat_eq x.worker w) all (λ rest. all-own P w xs k r rest at by)
+  where
+    go : (b : Bool) → All P (cond b (x ∷ reports_by w xs) (reports_by w xs)) → (All P (reports_by w xs) → P r) → P r
+    go true all more = more (All-tail P x (reports_by w xs) all)
+    go false all more = more all
+
+-- what the acts of reports keep to, those of each do
+pub given-by : (peers : Peers) (read : Reports) (rs : List Report)
+    → AllGiven peers (acts_by read rs) → All (λ r. AllGiven peers (read.acts r.number)) rs
+given-by peers read [] all = All-nil (λ r. AllGiven peers (read.acts r.number))
+given-by peers read (r ∷ rs) all =
+    All-cons (λ q. AllGiven peers (read.acts q.number)) r rs (given-front peers (read.acts r.number) (acts_by read rs) all)
+    (given-by peers read rs (given-split peers (read.acts r.number) (acts_by read rs) all).1)
+
+pub ran-by : (programs : Programs) (read : Reports) (rs : List Report)
+    → AllRan programs (acts_by read rs) → All (λ r. AllRan programs (read.acts r.number)) rs
+ran-by programs read [] all = All-nil (λ r. AllRan programs (read.acts r.number))
+ran-by programs read (r ∷ rs) all =
+    All-cons (λ q. AllRan programs (read.acts q.number)) r rs (ran-front programs (read.acts r.number) (acts_by read rs) all)
+    (ran-by programs read rs (ran-split programs (read.acts r.number) (acts_by read rs) all).1)
 
 -- what holds of the number, the acts and the end of each job of a worker holds of those that are read for its reports
 pub reports-each : (P : ℕ → List Act → End → Type 0) (w : ℕ) (read : Reports) (done : List DoneJob) (at : Places) (rs : List Report)
@@ -47,13 +73,12 @@ reports-each P w read (job ∷ done) at (r ∷ rs) all told each =
     (ap read.worker own.number ∙ first.0.0, subst (λ (xs : List Act). P r.number xs (read.ends r.number)) (sym acts) (subst (P r.number (untimed job.acts)) (sym end) same))
     (reports-each P w read done (advanced at job.acts) rs all.1 told.1 each.1)
 
--- what no report ends with no job ended with
-pub calm-each : (p : End → Bool) (w : ℕ) (done : List DoneJob) (at : Places) (rs : List Report) → AreReportsOf w at done rs → ends_so p rs ≡ 0 → Each (λ job. p job.end ≡ false) done
-calm-each p w [] at rs all none = tt
-calm-each p w (job ∷ done) at [] all none = absurd all
-calm-each p w (job ∷ done) at (r ∷ rs) all none =
+-- what no report ends with none does
+pub calm-by : (p : End → Bool) (rs : List Report) → ends_so p rs ≡ 0 → All (λ r. p r.end ≡ false) rs
+calm-by p [] none = All-nil (λ r. p r.end ≡ false)
+calm-by p (r ∷ rs) none =
     let sums : cond (p r.end) 1 0 + ends_so p rs ≡ 0 = sym (sum_by-cons (λ (q : Report). cond (p q.end) 1 0) r rs) ∙ none in
-    (ap p (sym all.0.end) ∙ first (p r.end) sums, calm-each p w done (advanced at job.acts) rs all.1 (rest (p r.end) sums))
+    All-cons (λ q. p q.end ≡ false) r rs (first (p r.end) sums) (calm-by p rs (rest (p r.end) sums))
   where
     first : (b : Bool) → cond b 1 0 + ends_so p rs ≡ 0 → b ≡ false
     first true sums = absurd (omega (arith, sums))

@@ -1,5 +1,5 @@
 -- What all workers did together.
-use Rattle.std.proofs.Common.{◌≡◌, inl, inr, ℕ, zero, suc, ◌+◌, ◌<◌, ◌≤◌, true, false, IsTrue, List, [], ◌∷◌, ◌++◌, Some, None, length, get_or, drop, map, refl, sym, ap, ◌∙◌, subst, arith}
+use Rattle.std.proofs.Common.{◌≡◌, inl, inr, ℕ, zero, suc, ◌+◌, ◌<◌, ◌≤◌, IsTrue, List, [], ◌∷◌, ◌++◌, Some, None, length, get_or, drop, map, refl, sym, ap, ◌∙◌, subst, arith}
 use Rattle.std.specs.Prelude.{All, slice_get, slice_index}
 use Rattle.std.specs.List.{sum_by, range_with_len}
 use Rattle.std.specs.List.Sorted.{IsPermutation, IsNonDecreasingBy}
@@ -17,16 +17,17 @@ use Rattle.slot_table.specs.declared.calls.SlotCall.TheVariants.{Draw}
 use Rattle.slot_table.specs.declared.calls.SlotReply.TheVariants.{Drawn}
 use Rattle.slot_table.specs.Step.{opening}
 use Rattle.slot_table.specs.Limits.{AreValid}
-use Rattle.slot_table.specs.History.{entry, IsLegal, state_after, outstanding, calls_by, jobs_drawn, count_at}
+use Rattle.slot_table.specs.History.{entry, IsLegal, state_after, outstanding, calls_by, jobs_drawn}
 use Rattle.slot_table.specs.Laws.{Agrees as SlotsAgree}
+use Rattle.slot_table.proofs.Histories.{legal-front}
 use Rattle.slot_table.proofs.Keeps.{state-agrees}
-use Rattle.edge_traits.specs.Deeds.{exchanges_in, moments_in, put, DidIn, MayAll}
+use Rattle.edge_traits.specs.Deeds.{exchanges_in, moments_in, DidIn, MayAll}
 use Rattle.farm_machine.specs.Honest.{AllRan}
 use Rattle.edge_traits.specs.Keepers.{IsIdle}
 use Rattle.edge_traits.specs.Told.{SameRelation, SameRelation3}
 use Rattle.farm_machine.specs.declared.reports.End.{End}
 use Rattle.farm_machine.specs.declared.reports.Report.{Report}
-use Rattle.farm_machine.specs.Acts.{Act, Did, Entries, deeds_of}
+use Rattle.farm_machine.specs.Acts.{Act, Entries, deeds_of}
 use Rattle.farm_machine.specs.Course.{Course}
 use Rattle.farm_machine.specs.Driver.{AllWorked, WorkersRun}
 use Rattle.farm_machine.specs.Farm.{wanted, IsOf}
@@ -35,30 +36,24 @@ use Rattle.farm_machine.specs.Moments.{AreMoments}
 use Rattle.farm_machine.specs.Numbered.{no_places, added, untimed}
 use Rattle.farm_machine.specs.Own.{DoneJob, Each, DoesJobs}
 use Rattle.farm_machine.specs.Reading.{IsReadAs, AreRead}
-use Rattle.farm_laws.proofs.Draws.{next-all}
 use Rattle.worker_laws.proofs.Drivers.{asc-legal, asc-by}
 use Rattle.worker_laws.proofs.Reported.{workers-run}
 use Rattle.job_run.proofs.Lists.{moments-append}
 use Rattle.job_run.specs.Gives.{LeavesAlone}
 use Rattle.job_run.specs.Strict.{StrictCourse}
 use Rattle.job_driver.specs.Jobs.{job_at}
-use Rattle.job_driver.specs.Works.{untimed_job, all_acts, AreReportsOf, WorkedOff, AreCaused, ends_so, is_station_failure, is_keeper_failure}
-use Rattle.course_laws.specs.Answers.{AllGiven, AnswersBy}
-use Rattle.course_laws.specs.Laws.{is_own_end}
-use Rattle.course_laws.specs.Returns.{IsCalm, is_done_or_wanted, NoneBroke, IsUnbroken}
-use Rattle.course_laws.proofs.Compilers.{put-answer, end-answer}
-use Rattle.course_laws.proofs.Fallbacks.{own as never-by-host}
-use Rattle.course_laws.proofs.Given.{given-acts, given-front, ran-front}
-use Rattle.course_laws.proofs.Unbroken.{unbroken-law}
-use Rattle.farm_laws.proofs.Up.{up-law}
-use Rattle.job_driver.specs.Driven.{Devices, reports_by, events_of, no_entries, HasAnswers, KitDid, JobsRan}
+use Rattle.job_driver.specs.Works.{untimed_job, all_acts, AreReportsOf, WorkedOff, AreCaused, CountsGoOn}
+use Rattle.course_laws.proofs.Puts.{puts-last}
+use Rattle.course_laws.proofs.Staying.{stays-here}
+use Rattle.job_driver.specs.Driven.{Devices, reports_by, events_of, acts_by, CountsOf, AreWithinLimits, KitDid, JobsRan}
+use Rattle.job_driver.proofs.Countings.{no_entries, entries-added, acts-read, counts-read}
 use Rattle.job_driver.proofs.Working.{numbers_of}
 use Rattle.job_driver.proofs.Drawing.{drawn-append}
 use Rattle.job_driver.proofs.Stepping.{numbers-drawn}
 use Rattle.job_driver.proofs.Sorting.{SameSums, up-same, up-range, up-from, sum-below}
 use Rattle.job_driver.proofs.Joining.{Joins, drawn-sums}
 use Rattle.job_driver.proofs.Rising.{Rise, rise-range, rise-drawn, Has, same-reports, rise-by, has-at, has-each, own-by, by-own}
-use Rattle.job_driver.proofs.Answering.{given-each, ran-each, reports-each, calm-each, none-together, returned-well, some-at}
+use Rattle.job_driver.proofs.Answering.{reports-each, some-at}
 use Rattle.job_driver.proofs.ReportReading.{reads-each, events-numbered, by-worker}
 
 -- a worker with the jobs that it did
@@ -154,9 +149,18 @@ module _ {K : Type 0} (d : Devices K) (l : Limits 16) (words : List (List (List 
     others = others;
   }
 
-  run : WorkersRun l jobs n (λ i. map untimed_job (done i)) H
+  pub run : WorkersRun l jobs n (λ i. map untimed_job (done i)) H
   run = workers-run 16 l jobs n (λ i. map untimed_job (done i)) H (limits-of-jobs l words config of) legal all-worked
       (λ i below. let f = facts i below in each-untimed jobs (done i) (subst (λ (ds : List DoneJob). Each (λ job. Course (jobs job.number) (untimed job.acts) job.end) ds) f.1 f.0.works.courses))
+
+  -- after legal calls no host has more slots given out than its limit
+  within : (front : List CallEntry) → IsLegal l front → AreWithinLimits l (outstanding front)
+  within front so_far =
+      let agree : SlotsAgree l (state_after l front) (outstanding front) = state-agrees 16 l front valid.entries so_far in
+      record {
+        hosts = λ host below. subst (λ (m : ℕ). m ≤ slice_index l.limit host) (agree.held host below) (agree.limit host below);
+        local = subst (λ (m : ℕ). m ≤ l.local_slots) agree.local_held agree.local_limit;
+      }
 
   drawn : (i : ℕ) → i < n → numbers_of (R i) ≡ jobs_drawn (calls_by i H)
   drawn i below =
@@ -218,7 +222,7 @@ module _ {K : Type 0} (d : Devices K) (l : Limits 16) (words : List (List (List 
             let by : (get_or (R k) at x).worker ≡ k = by-worker k g.works.done no_places (R k) g.works.reported at x below in
             subst (λ (m : ℕ). Has (get_or (R k) at x) (R m)) (sym by ∙ same) (has-at (R k) at x below)
 
-    pub kit-did : (i : ℕ) → i < n → KitDid d config.period i sorted (entries i) (calls_by i H) (V i) (N i)
+    pub kit-did : (i : ℕ) → i < n → KitDid d config.period i run.reports sorted (entries i) (calls_by i H) (V i) (N i)
     kit-did i below =
         let f = facts i below in
         let w = f.0 in
@@ -226,9 +230,12 @@ module _ {K : Type 0} (d : Devices K) (l : Limits 16) (words : List (List (List 
         let is : all_acts w.works.done ≡ acts = ap all_acts f.1 in
         record {
           acts = all_acts (done i);
+          of_jobs = acts-read i run.reports (done i) no_places (R i)
+              (subst (λ (ds : List DoneJob). AreReportsOf i no_places ds (R i)) f.1 w.works.reported) (run.reported i below)
+              ∙ ap (acts_by run.reports) (sym (own i below));
           did = subst (λ (told : List Act). DidInOf d (V i) (N i) told) is w.works.did;
           named = ap events_of (own i below) ∙ events-numbered i (done i) no_places (R i) (subst (λ (ds : List DoneJob). AreReportsOf i no_places ds (R i)) f.1 w.works.reported);
-          entries_are = refl;
+          entries_are = entries-added (all_acts (done i));
           drew = record { before = w.calls; last = w.last };
           moments = subst (λ (told : List Act). AreMoments config.period (calls_by i H) (moments_in (deeds_of told))) is (moments-last config.period i w.calls (calls_by i H) (moments_in (deeds_of (all_acts w.works.done))) w.last w.works.moments);
           leaves = subst (LeavesAlone config.period) is w.works.leaves;
@@ -240,6 +247,14 @@ module _ {K : Type 0} (d : Devices K) (l : Limits 16) (words : List (List (List 
           peers = (stays i below).peers;
           programs = (stays i below).programs;
         }
+
+    counts-of : (i : ℕ) → i < n → CountsOf jobs run.reports (reports_by i sorted) (d.shows (V i)) (d.shows (N i))
+    counts-of i below =
+        let f = facts i below in
+        subst (λ (rs : List Report). CountsOf jobs run.reports rs (d.shows (V i)) (d.shows (N i))) (sym (own i below))
+        (counts-read jobs i run.reports (done i) no_places (R i) (d.shows (V i)) (d.shows (N i))
+        (subst (λ (ds : List DoneJob). AreReportsOf i no_places ds (R i)) f.1 f.0.works.reported) (run.reported i below)
+        (subst (λ (ds : List DoneJob). CountsGoOn jobs ds (d.shows (V i)) (d.shows (N i))) f.1 f.0.works.counts))
 
     -- what holds of the acts and ends of each worker's jobs holds of those of each job
     told-each : (Q : ℕ → ℕ → List Act → End → Type 0) → ((i : ℕ) → i < n → Each (λ job. Q i job.number (untimed job.acts) job.end) (done i)) → (j : ℕ) → j < l.jobs → Q (run.reports.worker j) j (run.reports.acts j) (run.reports.ends j)
@@ -256,74 +271,11 @@ module _ {K : Type 0} (d : Devices K) (l : Limits 16) (words : List (List (List 
         by-reports : (i : ℕ) (rs : List Report) → All (λ r. (run.reports.worker r.number ≡ i) × Q i r.number (run.reports.acts r.number) (run.reports.ends r.number)) rs → All (λ r. Q (run.reports.worker r.number) r.number (run.reports.acts r.number) (run.reports.ends r.number)) rs
         by-reports i rs own at x inside = let one = own at x inside in subst (λ (k : ℕ). Q k (get_or rs at x).number (run.reports.acts (get_or rs at x).number) (run.reports.ends (get_or rs at x).number)) (sym one.0) one.1
 
-    gave-each : (j : ℕ) → j < l.jobs → IsTrue (d.shows (N (run.reports.worker j))).dialer.exchanges.known → AllGiven (d.peers (V (run.reports.worker j))) (run.reports.acts j)
-    gave-each j below = told-each (λ i k acts end. IsTrue (d.shows (N i)).dialer.exchanges.known → AllGiven (d.peers (V i)) acts) theirs j below
-      where
-        theirs : (i : ℕ) → i < n → Each (λ job. IsTrue (d.shows (N i)).dialer.exchanges.known → AllGiven (d.peers (V i)) (untimed job.acts)) (done i)
-        theirs i inside =
-            let f = facts i inside in
-            let w = f.0.works in
-            each-known (done i) (λ known. given-each (d.peers (V i)) (done i)
-            (subst (λ (ds : List DoneJob). AllGiven (d.peers (V i)) (all_acts ds)) f.1 (given-acts (d.peers (V i)) (all_acts w.done) (w.may known))))
-          where
-            each-known : (ds : List DoneJob) → (IsTrue (d.shows (N i)).dialer.exchanges.known → Each (λ job. AllGiven (d.peers (V i)) (untimed job.acts)) ds) → Each (λ job. IsTrue (d.shows (N i)).dialer.exchanges.known → AllGiven (d.peers (V i)) (untimed job.acts)) ds
-            each-known [] h = tt
-            each-known (job ∷ ds) h = (λ known. (h known).0, each-known ds (λ known. (h known).1))
-
     strict-each : (j : ℕ) → j < l.jobs → StrictCourse (jobs j) (run.reports.acts j) (run.reports.ends j)
     strict-each j below = told-each (λ i k acts end. StrictCourse (jobs k) acts end) theirs j below
       where
         theirs : (i : ℕ) → i < n → Each (λ job. StrictCourse (jobs job.number) (untimed job.acts) job.end) (done i)
         theirs i inside = let f = facts i inside in subst (λ (ds : List DoneJob). Each (λ job. StrictCourse (jobs job.number) (untimed job.acts) job.end) ds) f.1 f.0.works.strict
-
-    left-each : (j : ℕ) → j < l.jobs → AllRan (d.programs (V (run.reports.worker j))) (run.reports.acts j)
-    left-each j below = told-each (λ i k acts end. AllRan (d.programs (V i)) acts) theirs j below
-      where
-        theirs : (i : ℕ) → i < n → Each (λ job. AllRan (d.programs (V i)) (untimed job.acts)) (done i)
-        theirs i inside =
-            let f = facts i inside in
-            ran-each (d.programs (V i)) (done i) (subst (λ (ds : List DoneJob). AllRan (d.programs (V i)) (all_acts ds)) f.1 f.0.works.ran)
-
-    -- a job that no host fails
-    well-each : (j : ℕ) → j < l.jobs → is_own_end (run.reports.ends j) ≡ true → IsCalm (d.shows (V (run.reports.worker j))) (d.shows (N (run.reports.worker j))) → is_done_or_wanted (run.reports.ends j) ≡ true
-    well-each j below own calm =
-        let stands = told-each (λ i k acts end. IsCalm (d.shows (V i)) (d.shows (N i)) → (is_station_failure end ≡ false) × (is_keeper_failure end ≡ false)) theirs j below calm in
-        returned-well (run.reports.ends j) own stands.0 stands.1
-      where
-        theirs : (i : ℕ) → i < n → Each (λ job. IsCalm (d.shows (V i)) (d.shows (N i)) → (is_station_failure job.end ≡ false) × (is_keeper_failure job.end ≡ false)) (done i)
-        theirs i inside =
-            let f = facts i inside in
-            let w = f.0.works in
-            let reported = subst (λ (ds : List DoneJob). AreReportsOf i no_places ds (R i)) f.1 w.reported in
-            both (done i)
-            (λ calm. calm-each is_station_failure i (done i) no_places (R i) reported (none-together (ends_so is_station_failure (R i)) (d.shows (V i)).station.faults (d.shows (N i)).station.faults (d.shows (V i)).station.overruns (d.shows (N i)).station.overruns w.caused.station calm.station calm.station_overruns))
-            (λ calm. calm-each is_keeper_failure i (done i) no_places (R i) reported (none-together (ends_so is_keeper_failure (R i)) (d.shows (V i)).keeper.faults (d.shows (N i)).keeper.faults (d.shows (V i)).keeper.overruns (d.shows (N i)).keeper.overruns w.caused.keeper calm.keeper calm.keeper_overruns))
-          where
-            both : (ds : List DoneJob) → (IsCalm (d.shows (V i)) (d.shows (N i)) → Each (λ job. is_station_failure job.end ≡ false) ds) → (IsCalm (d.shows (V i)) (d.shows (N i)) → Each (λ job. is_keeper_failure job.end ≡ false) ds)
-                → Each (λ job. IsCalm (d.shows (V i)) (d.shows (N i)) → (is_station_failure job.end ≡ false) × (is_keeper_failure job.end ≡ false)) ds
-            both [] s k = tt
-            both (job ∷ ds) s k = (λ calm. ((s calm).0, (k calm).0), both ds (λ calm. (s calm).1) (λ calm. (k calm).1))
-
-    own-each : (j : ℕ) → j < l.jobs → 0 < l.count → ((i : ℕ) → i < l.jobs → NoneBroke (jobs i) (run.reports.acts i)) → is_own_end (run.reports.ends j) ≡ true
-    own-each j below some none =
-        (unbroken j below).own (up-law 16 l run.reports H some run.agrees (λ i inside. (unbroken i inside).asks) j below)
-      where
-        unbroken : (i : ℕ) → i < l.jobs → IsUnbroken (run.reports.acts i) (run.reports.ends i)
-        unbroken i inside = unbroken-law (jobs i) (run.reports.acts i) (run.reports.ends i) (run.courses i inside) (none i inside)
-
-    answers-each : (j : ℕ) → j < l.jobs → HasAnswers (d.peers (V (run.reports.worker j))) (d.programs (V (run.reports.worker j))) (d.shows (N (run.reports.worker j))) (jobs j) (run.reports.acts j)
-    answers-each j below before rest x known honest is =
-        let peers = d.peers (V (run.reports.worker j)) in
-        let programs = d.programs (V (run.reports.worker j)) in
-        put-answer peers programs (jobs j) before x rest (run.reports.ends j) honest
-        (given-front peers before (Did (put x) ∷ rest) (subst (AllGiven peers) is (gave-each j below known)))
-        (ran-front programs before (Did (put x) ∷ rest) (subst (AllRan programs) is (left-each j below)))
-        (subst (λ (acts : List Act). Course (jobs j) acts (run.reports.ends j)) is (run.courses j below))
-
-    answered-each : (j : ℕ) → j < l.jobs → AnswersBy (d.peers (V (run.reports.worker j))) (d.programs (V (run.reports.worker j))) (d.shows (N (run.reports.worker j))) (jobs j) (run.reports.acts j) (run.reports.ends j)
-    answered-each j below known honest =
-        end-answer (d.peers (V (run.reports.worker j))) (d.programs (V (run.reports.worker j))) (jobs j) (run.reports.acts j) (run.reports.ends j) honest
-        (gave-each j below known) (left-each j below) (run.courses j below)
 
     pub ran-all : (last : SlotState 16) (old new : List K) → last ≡ state_after l H
         → ((i : ℕ) (other : K) → i < n → (get_or old i other ≡ V i) × (get_or new i other ≡ N i))
@@ -331,46 +283,33 @@ module _ {K : Type 0} (d : Devices K) (l : Limits 16) (words : List (List (List 
         → ((place : ℕ) (other : K) → n ≤ place → place < length old → get_or new place other ≡ get_or old place other)
         → JobsRan d l jobs config.period n sorted H last old new
     ran-all last old new last_is kits same unused =
-        let agree : SlotsAgree l (state_after l H) (outstanding H) = state-agrees 16 l H valid.entries legal in
         record {
+          valid = valid;
           entries = entries;
           read = run.reports;
           are_read = are-read;
           by_workers = run.workers;
-          courses = run.courses;
           strict = strict-each;
           agrees = run.agrees;
           run = run.run;
+          delivered = λ j before rest x below is.
+              puts-last (jobs j) before x rest (run.reports.ends j)
+              (subst (λ (acts : List Act). Course (jobs j) acts (run.reports.ends j)) is (run.courses j below));
+          stays_here = λ j below here. stays-here (jobs j) (run.reports.acts j) (run.reports.ends j) here (run.courses j below);
+          never_above = λ front rest is. within front (legal-front l (opening 16) [] front rest (subst (λ (es : List CallEntry). IsLegal l es) is legal));
           back = run.back;
+          others = others;
+          counts = λ i other below.
+              let k = kits i other below in
+              subst (λ (x : K). CountsOf jobs run.reports (reports_by i sorted) (d.shows x) (d.shows (get_or new i other))) (sym k.0)
+              (subst (λ (x : K). CountsOf jobs run.reports (reports_by i sorted) (d.shows (V i)) (d.shows x)) (sym k.1)
+              (counts-of i below));
           last_is = last_is;
-          all_drawn = ap (λ (s : SlotState 16). s.next) last_is ∙ next-all l H legal run.agrees.drawn;
-          none_held = λ host below. ap (λ (s : SlotState 16). slice_index s.held host) last_is ∙ agree.held host below ∙ ap (count_at (Some host)) run.back;
-          none_local = ap (λ (s : SlotState 16). s.local_held) last_is ∙ agree.local_held ∙ ap (count_at None) run.back;
-          gave = λ j other below known.
-              let k = kits (run.reports.worker j) other (run.workers j below) in
-              subst (λ (x : K). AllGiven (d.peers x) (run.reports.acts j)) (sym k.0)
-              (gave-each j below (subst (λ (x : K). IsTrue (d.shows x).dialer.exchanges.known) k.1 known));
-          left = λ j other below.
-              let k = kits (run.reports.worker j) other (run.workers j below) in
-              subst (λ (x : K). AllRan (d.programs x) (run.reports.acts j)) (sym k.0) (left-each j below);
-          answers = λ j other below.
-              let k = kits (run.reports.worker j) other (run.workers j below) in
-              subst (λ (x : K). HasAnswers (d.peers x) (d.programs x) (d.shows (get_or new (run.reports.worker j) other)) (jobs j) (run.reports.acts j)) (sym k.0)
-              (subst (λ (x : K). HasAnswers (d.peers (V (run.reports.worker j))) (d.programs (V (run.reports.worker j))) (d.shows x) (jobs j) (run.reports.acts j)) (sym k.1) (answers-each j below));
-          answered = λ j other below.
-              let k = kits (run.reports.worker j) other (run.workers j below) in
-              subst (λ (x : K). AnswersBy (d.peers x) (d.programs x) (d.shows (get_or new (run.reports.worker j) other)) (jobs j) (run.reports.acts j) (run.reports.ends j)) (sym k.0)
-              (subst (λ (x : K). AnswersBy (d.peers (V (run.reports.worker j))) (d.programs (V (run.reports.worker j))) (d.shows x) (jobs j) (run.reports.acts j) (run.reports.ends j)) (sym k.1) (answered-each j below));
-          returns = λ j other below fallback calm.
-              let k = kits (run.reports.worker j) other (run.workers j below) in
-              well-each j below (never-by-host (jobs j) (run.reports.acts j) (run.reports.ends j) (run.courses j below) fallback) (subst (λ (x : K). IsCalm (d.shows x) (d.shows (N (run.reports.worker j)))) k.0 (subst (λ (x : K). IsCalm (d.shows (get_or old (run.reports.worker j) other)) (d.shows x)) k.1 calm));
-          returns_unbroken = λ j other below some none calm.
-              let k = kits (run.reports.worker j) other (run.workers j below) in
-              well-each j below (own-each j below some none) (subst (λ (x : K). IsCalm (d.shows x) (d.shows (N (run.reports.worker j)))) k.0 (subst (λ (x : K). IsCalm (d.shows (get_or old (run.reports.worker j) other)) (d.shows x)) k.1 calm));
           kits = λ i other below.
               let k = kits i other below in
-              subst (λ (x : K). KitDid d config.period i sorted (entries i) (calls_by i H) x (get_or new i other)) (sym k.0)
-              (subst (λ (x : K). KitDid d config.period i sorted (entries i) (calls_by i H) (V i) x) (sym k.1) (kit-did i below));
+              subst (λ (x : K). KitDid d config.period i run.reports sorted (entries i) (calls_by i H) x (get_or new i other)) (sym k.0)
+              (subst (λ (x : K). KitDid d config.period i run.reports sorted (entries i) (calls_by i H) (V i) x) (sym k.1)
+              (kit-did i below));
           same = same;
           unused = unused;
         }

@@ -9,3 +9,5 @@ pub mod ReportReading
 pub mod Answering
 pub mod Driving
 pub mod Building
+pub mod Countings
+pub mod Meaning

@@ -32,9 +32,10 @@ use Rattle.job_run.specs.JobRuns.{JobRan, AreSmall}
 use Rattle.job_run.proofs.Composing.{later-then}
 use Rattle.job_run.proofs.Lists.{slots-untimed, deeds-append, advanced-append, ran-append, ran-along, may-append, may-along, moments-append, exchanges-append, moments_in-append, leaves-append}
 use Rattle.job_run.proofs.Outstanding.{outstanding-more}
-use Rattle.job_driver.specs.Works.{untimed_job, all_acts, AreReportsOf, AreCaused, Works}
+use Rattle.job_driver.specs.Works.{untimed_job, all_acts, AreReportsOf, AreCaused, CountsTell, Works}
 use Rattle.job_driver.proofs.Working.{WorksTo, AreCounted, numbers_of, acts-more, each-more, reports-more, does-more, caused-more}
 use Rattle.job_driver.proofs.Drawing.{does-drawn, report-numbers}
+use Rattle.job_driver.proofs.Countings.{tell-untimed, counts-more}
 
 -- how far places advance
 record Grows (a b : Places) (n : ℕ) : Type 0 where
@@ -113,7 +114,13 @@ works-none {period = period} {w = w} {a = a} none blank = record {
     may = λ known. tt;
     ran = tt;
     caused = subst (λ (z : List Report). AreCaused z a a) (sym none)
-        (record { station = record { first = 0; second = 0; enough = omega arith; rose = omega arith; rose_too = omega arith }; keeper = record { first = 0; second = 0; enough = omega arith; rose = omega arith; rose_too = omega arith }; dialer = omega arith });
+        (record {
+          station = record { first = 0; second = 0; enough = omega arith; rose = omega arith; rose_too = omega arith };
+          keeper = record { first = 0; second = 0; enough = omega arith; rose = omega arith; rose_too = omega arith };
+          puts = omega arith;
+          dialer = omega arith;
+        });
+    counts = refl;
     later = record { station = omega arith; station_overruns = omega arith; keeper = omega arith; keeper_overruns = omega arith; dialer = omega arith };
   };
   places_are = refl;
@@ -129,7 +136,9 @@ pub works-more : {h : ℕ} {peers peers' : Peers} {programs programs' : Programs
     → WorksTo peers programs jobs period l w rs calls old a at
     → JobRan peers' programs' j l' w' job at at' r.events r.end mid calls' a b
     → WorksTo peers programs jobs period l w rs' calls' old b at'
-works-more {h} {peers = peers} {peers' = peers'} {programs = programs} {programs' = programs'} {jobs = jobs} {period = period} {l = l} {l' = l'} {w = w} {job = job} {rs = rs} {calls = calls} {calls' = calls'} {old = old} {a = a} {b = b} r same_l same_w is_job is_period same_peers same_programs drawn is number worker so_far did =
+works-more {h} {peers = peers} {peers' = peers'} {programs = programs} {programs' = programs'} {jobs = jobs} {j = j} {period = period} {l = l} {l' = l'}
+    {w = w} {job = job} {rs = rs} {calls = calls} {calls' = calls'} {old = old} {a = a} {b = b}
+    r same_l same_w is_job is_period same_peers same_programs drawn is number worker so_far did =
     let works = so_far.works in
     let done : List DoneJob = works.done in
     let new : DoneJob = record { number = job; acts = did.acts; end = r.end } in
@@ -163,6 +172,10 @@ works-more {h} {peers = peers} {peers' = peers'} {programs = programs} {programs
             (may-append peers xs ys (works.may (did.did.exchanges.known known)) (may-along peers' peers same_peers.back ys (did.may known)));
         ran = subst (AllRan programs) (sym acts) (ran-append programs (all_acts done) did.acts works.ran (ran-along programs' programs same_programs.back did.acts did.ran));
         caused = subst (λ (z : List Report). AreCaused z old b) (sym is) (caused-more rs r old a b works.caused did.cause did.later);
+        counts = counts-more jobs done new old a b works.counts
+            (subst (λ (k : Job). CountsTell k (untimed did.acts) r.end a b) is_job
+            (tell-untimed j did.acts r.end a b
+            (record { cause = did.cause; station = did.station; keeper = did.keeper; fetch = did.fetch; later = did.later })));
         later = later-then works.later did.later;
       };
       places_are = did.grown ∙ ap (λ (p : Places). advanced p did.acts) so_far.places_are ∙ sym (advanced-append no_places (all_acts done) did.acts) ∙ ap (advanced no_places) (sym acts);

@@ -25,7 +25,7 @@ use Rattle.farm_machine.specs.Machine.{Wants}
 use Rattle.farm_machine.specs.Numbered.{advanced, no_places}
 use Rattle.farm_machine.specs.Own.{DoneJob, Each, Serves, DoesJobs}
 use Rattle.job_run.proofs.Lists.{advanced-append}
-use Rattle.job_driver.specs.Works.{all_acts, IsReportOf, AreReportsOf, is_station_failure, is_keeper_failure, is_dial_failure, ends_so, RoseTogether, AreCaused, Works}
+use Rattle.job_driver.specs.Works.{all_acts, IsReportOf, AreReportsOf, is_station_failure, is_keeper_failure, is_put_failure, is_dial_failure, ends_so, RoseTogether, AreCaused, Works}
 
 -- what a worker did so far, and the places that come next
 pub record WorksTo {h : ℕ} (peers : Peers) (programs : Programs) (jobs : ℕ → Job) (period : ℕ) (l : Limits h) (worker : ℕ) (reports : List Report) (calls : List CallEntry) (old new : KitView) (places : Places) : Type 0 where
@@ -172,9 +172,24 @@ module _ (n n' : ℕ) (a b c : KitView) (rose : RoseBy n a.dialer.faults b.diale
   dialer-more (Failed NoHost) is cause = dialer-same is
   dialer-more (Failed Memory) is cause = dialer-same is
 
+module _ (n n' : ℕ) (a b c : KitView) (rose : RoseBy n a.keeper.faults b.keeper.faults) (later : KitLater b c) where
+  put-same : n' ≡ n + 0 → RoseBy n' a.keeper.faults c.keeper.faults
+  put-same is = rose-none n n' a.keeper.faults b.keeper.faults c.keeper.faults is rose later.keeper
+
+  pub put-more : (end : End) → n' ≡ n + cond (is_put_failure end) 1 0 → HasEndCause end b c → RoseBy n' a.keeper.faults c.keeper.faults
+  put-more (Failed Put) is cause = rose-one n n' a.keeper.faults b.keeper.faults c.keeper.faults is rose cause
+  put-more (Done status note err out by) is cause = put-same is
+  put-more (Failed Station) is cause = put-same is
+  put-more (Failed (Broke host why)) is cause = put-same is
+  put-more (Failed Fetch) is cause = put-same is
+  put-more (Failed NoHost) is cause = put-same is
+  put-more (Failed Memory) is cause = put-same is
+
 pub caused-more : (rs : List Report) (r : Report) (a b c : KitView) → AreCaused rs a b → HasEndCause r.end b c → KitLater b c → AreCaused (rs ++ r ∷ []) a c
 caused-more rs r a b c all cause later = record {
   station = station-more (ends_so is_station_failure rs) (ends_so is_station_failure (rs ++ r ∷ [])) a b c all.station later r.end (one-more is_station_failure rs r) cause;
   keeper = keeper-more (ends_so is_keeper_failure rs) (ends_so is_keeper_failure (rs ++ r ∷ [])) a b c all.keeper later r.end (one-more is_keeper_failure rs r) cause;
+  puts = put-more (ends_so is_put_failure rs) (ends_so is_put_failure (rs ++ r ∷ [])) a b c all.puts later r.end
+      (one-more is_put_failure rs r) cause;
   dialer = dialer-more (ends_so is_dial_failure rs) (ends_so is_dial_failure (rs ++ r ∷ [])) a b c all.dialer later r.end (one-more is_dial_failure rs r) cause;
 }

@@ -15,15 +15,16 @@ use Rattle.farm_machine.specs.declared.reports.End.TheVariants.{Failed}
 use Rattle.farm_machine.specs.declared.reports.Places.{Places}
 use Rattle.farm_machine.specs.declared.reports.Report.{Report}
 use Rattle.farm_machine.specs.Acts.{Act, deeds_of}
-use Rattle.farm_machine.specs.Causes.{KitLater}
+use Rattle.farm_machine.specs.Causes.{HasEndCause, StationStands, KitLater}
 use Rattle.farm_machine.specs.Course.{Course}
 use Rattle.farm_machine.specs.Farm.{wanted}
 use Rattle.farm_machine.specs.Honest.{Peers, Programs, AllRan}
-use Rattle.farm_machine.specs.Jobs.{Job}
+use Rattle.farm_machine.specs.Jobs.{Job, source_name}
 use Rattle.farm_machine.specs.Moments.{AreMoments}
 use Rattle.farm_machine.specs.Numbered.{numbered, advanced, no_places, untimed}
 use Rattle.farm_machine.specs.Own.{DoneJob, Each, DoesJobs}
 use Rattle.job_run.specs.Gives.{LeavesAlone}
+use Rattle.job_run.specs.Stands.{KeeperStands, FetchEnds}
 use Rattle.job_run.specs.Strict.{StrictCourse}
 
 -- a job without its looks at the clock, which are no acts of a course
@@ -58,6 +59,14 @@ is_keeper_failure (Failed Put) = true
 is_keeper_failure (Failed Fetch) = true
 is_keeper_failure end = false
 
+abbrev pub is_put_failure : End → Bool
+is_put_failure (Failed Put) = true
+is_put_failure end = false
+
+abbrev pub is_fetch_failure : End → Bool
+is_fetch_failure (Failed Fetch) = true
+is_fetch_failure end = false
+
 abbrev pub is_dial_failure : End → Bool
 is_dial_failure (Failed (Broke host Dial)) = true
 is_dial_failure end = false
@@ -74,17 +83,32 @@ pub record RoseTogether (number a a' b b' : ℕ) : Type 0 where
   pub rose : RoseBy first a a'
   pub rose_too : RoseBy second b b'
 
--- No more jobs failed by a device than its counts rose together.
+-- No more jobs failed by a device than its counts rose together. Puts have a bound of their own, since no overrun fails one.
 pub record AreCaused (reports : List Report) (old new : KitView) : Type 0 where
   pub station : RoseTogether (ends_so is_station_failure reports) old.station.faults new.station.faults old.station.overruns new.station.overruns
   pub keeper : RoseTogether (ends_so is_keeper_failure reports) old.keeper.faults new.keeper.faults old.keeper.overruns new.keeper.overruns
+  pub puts : RoseBy (ends_so is_put_failure reports) old.keeper.faults new.keeper.faults
   pub dialer : RoseBy (ends_so is_dial_failure reports) old.dialer.faults new.dialer.faults
+
+-- What a job did to the counts of its kit, by its end. A failure of a device goes with a rise of that device's count. Where the job ends otherwise,
+-- for want of memory too, the counts of its station stand still, and those of its keeper as `run_job` says.
+pub record CountsTell (j : Job) (acts : List Act) (end : End) (old new : KitView) : Type 0 where
+  pub cause : HasEndCause end old new
+  pub station : StationStands end old.station new.station
+  pub keeper : KeeperStands end acts old.keeper new.keeper
+  pub fetch : FetchEnds (source_name j) end acts old.keeper new.keeper
+  pub later : KitLater old new
+
+-- jobs, one after another, each from where the job before it left the kit
+abbrev pub CountsGoOn : (ℕ → Job) → List DoneJob → KitView → KitView → Type 0
+CountsGoOn jobs [] old new = new ≡ old
+CountsGoOn jobs (job ∷ done) old new = (mid : KitView) × CountsTell (jobs job.number) (untimed job.acts) job.end old mid × CountsGoOn jobs done mid new
 
 -- A worker did jobs, one after another: each is a course of its command, with each run and fetch within its bounds and no fault of an exchange
 -- told as want of memory. All that it did is one list of acts. Its deeds are the new entries
 -- of the kit's lists, and the reports' events name them, counted from 0 on. The calls are those of its jobs, and their moments are those that
 -- the clock gave. With a period a host is left alone after each exchange with which something went wrong. Peers gave what peers may give,
--- programs left what programs may leave, and counts rose with the jobs that failed.
+-- programs left what programs may leave, and counts rose with the jobs that failed, job by job.
 pub record Works {h : ℕ} (peers : Peers) (programs : Programs) (jobs : ℕ → Job) (period : ℕ) (l : Limits h) (worker : ℕ) (reports : List Report) (calls : List CallEntry) (old new : KitView) : Type 0 where
   pub done : List DoneJob
   pub reported : AreReportsOf worker no_places done reports
@@ -97,6 +121,7 @@ pub record Works {h : ℕ} (peers : Peers) (programs : Programs) (jobs : ℕ →
   pub may : IsTrue new.dialer.exchanges.known → MayAll peers (exchanges_in (deeds_of (all_acts done)))
   pub ran : AllRan programs (all_acts done)
   pub caused : AreCaused reports old new
+  pub counts : CountsGoOn jobs done old new
   pub later : KitLater old new
 
 -- the worker did jobs until a draw answered none

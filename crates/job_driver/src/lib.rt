@@ -3,6 +3,8 @@
 
 mod crew;
 mod driver;
+mod laws;
 mod worker;
 
 pub use driver::{Built, build};
+pub use laws::run_means;

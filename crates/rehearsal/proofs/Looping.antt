@@ -6,17 +6,18 @@ use Rattle.farm_types.specs.declared.ran.Ran.{Ran}
 use Rattle.edge_traits.specs.Clocks.{ClockView}
 use Rattle.edge_traits.specs.Deeds.{ran, fetched}
 use Rattle.edge_traits.specs.Keepers.{KeeperView}
-use Rattle.arg_strip.proofs.Laws.{placed_again}
+use Rattle.arg_strip.proofs.Laws.{placed_again, stripped_is_remote}
 use Rattle.farm_machine.specs.declared.reports.End.{End}
 use Rattle.farm_machine.specs.Acts.{Act, Did}
 use Rattle.farm_machine.specs.Course.{Course}
-use Rattle.farm_machine.specs.Honest.{IsHonest, object_of}
-use Rattle.farm_machine.specs.Jobs.{Job, may_be_sent}
-use Rattle.farm_machine.specs.Table.{IsSource}
+use Rattle.farm_machine.specs.Honest.{Programs, IsHonest, object_of}
+use Rattle.farm_machine.specs.Jobs.{Job, may_be_sent, request_for}
+use Rattle.farm_machine.specs.Table.{IsSource, MemoryLaw}
 use Rattle.loop_link.specs.Dialers.{held_of, DialerGives}
-use Rattle.loop_link.proofs.Honest.{honest}
+use Rattle.loop_link.proofs.Honest.{honest, fully_honest}
 use Rattle.sample_compiler.specs.Stations.{StationRan, station_files}
-use Rattle.rehearsal.specs.Loops.{LoopKit, IsLoop, LoopLaw}
+use Rattle.job_driver.proofs.Meaning.{means}
+use Rattle.rehearsal.specs.Loops.{LoopKit, IsLoop, loop_kits, LoopLaw, HonestLoopLaw}
 
 -- a job that has a source may be sent
 has_sent : (j : Job) (acts more : List Act) (end : End) (source : List ℕ) → Course j (acts ++ more) end → IsSource acts source → may_be_sent j ≡ true
@@ -29,8 +30,9 @@ has_sent j (a ∷ acts) more end source (c, next, from) is = absurd is
 pub whole-object : (r : Ran) → r.status ≡ 0 → object_of r ≡ r.object
 whole-object r good = ap (λ (s : ℕ). if s == 0 then r.object else []) good
 
-pub loop-law : {K C : Type 0} (keeper : K → KeeperView) (clock : C → ClockView) → LoopLaw keeper clock
-loop-law {K = K} {C = C} keeper clock l jobs period workers reports history last old new loops enough run j other before rest x below is =
+pub loop-law : {K C : Type 0} (memory : MemoryLaw) (keeper : K → KeeperView) (clock : C → ClockView) → LoopLaw keeper clock
+loop-law {K = K} {C = C} memory keeper clock l jobs period workers reports history last old new loops enough run j other before
+    rest x below is =
     let worker = run.read.worker j in
     let kit : LoopKit K C = slice_index_or old worker other in
     let one = run.by_workers j below in
@@ -38,9 +40,11 @@ loop-law {K = K} {C = C} keeper clock l jobs period workers reports history last
     let files = station_files kit.station in
     let peers = DialerGives (λ s. StationRan (station_files s)) kit.dialer in
     let own : IsHonest peers (StationRan files) = subst (λ held. IsHonest peers (StationRan held)) loop.same (honest (held_of kit.dialer).table.rows (StationRan (station_files (held_of kit.dialer).station)) loop.names) in
-    let answer = run.answers j other below before rest x refl own is in
+    let run_means = means memory (loop_kits keeper clock) l jobs period workers reports history last old new run in
+    let answer = run_means.honest_objects j other below before rest x refl own is in
     let left = answer.compiles.run in
-    let sent = has_sent (jobs j) before _ (run.read.ends j) answer.source (subst (λ acts. Course (jobs j) acts (run.read.ends j)) is (run.courses j below)) answer.source_is in
+    let sent = has_sent (jobs j) before _ (run.read.ends j) answer.source
+    (subst (λ acts. Course (jobs j) acts (run.read.ends j)) is (run_means.courses j below)) answer.source_is in
     let good : left.status ≡ 0 = sym answer.compiles.status ∙ answer.status in
     record {
       source = answer.source;
@@ -50,3 +54,8 @@ loop-law {K = K} {C = C} keeper clock l jobs period workers reports history last
       status = good;
       object = answer.object ∙ answer.compiles.object ∙ whole-object left good;
     }
+
+pub honest-loop : (programs : Programs) → HonestLoopLaw programs
+honest-loop programs table j program names sent named source asked given o used may spelled begins =
+    fully_honest table programs names asked given (request_for j source) o used program may spelled begins
+    (stripped_is_remote j.words sent) named

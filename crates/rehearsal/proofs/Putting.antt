@@ -11,18 +11,6 @@ use Rattle.farm_machine.specs.Acts.{Act, Did, Met, Entries, Reads, ReadsAll, dee
 use Rattle.farm_machine.specs.Numbered.{added}
 use Rattle.rehearsal.specs.Counts.{put_place, named_put, last_put}
 
--- the puts that some acts add
-pub added-puts : (es : Entries) (acts : List Act) → (added es acts).puts ≡ es.puts ++ puts_in (deeds_of acts)
-added-puts es [] = sym (append-nil es.puts)
-added-puts es (Did (ran x) ∷ acts) = added-puts (record es { runs = es.runs ++ x ∷ [] }) acts ∙ ap (λ ps. es.puts ++ ps) (sym (flat_map-cons put_of (ran x) (deeds_of acts)))
-added-puts es (Did (fetched x) ∷ acts) = added-puts (record es { fetches = es.fetches ++ x ∷ [] }) acts ∙ ap (λ ps. es.puts ++ ps) (sym (flat_map-cons put_of (fetched x) (deeds_of acts)))
-added-puts es (Did (exchanged x) ∷ acts) = added-puts (record es { exchanges = es.exchanges ++ x ∷ [] }) acts ∙ ap (λ ps. es.puts ++ ps) (sym (flat_map-cons put_of (exchanged x) (deeds_of acts)))
-added-puts es (Did (put x) ∷ acts) =
-    added-puts (record es { puts = es.puts ++ x ∷ [] }) acts ∙ append_assoc es.puts (x ∷ []) (puts_in (deeds_of acts))
-    ∙ ap (λ ps. es.puts ++ ps) (sym (flat_map-cons put_of (put x) (deeds_of acts)))
-added-puts es (Did (timed moment) ∷ acts) = added-puts es acts ∙ ap (λ ps. es.puts ++ ps) (sym (flat_map-cons put_of (timed moment) (deeds_of acts)))
-added-puts es (Met x ∷ acts) = added-puts es acts
-
 -- the last of some events, behind another one
 last_later : (e f : Event) (events : List Event) → last_put (e ∷ f ∷ events) ≡ last_put (f ∷ events)
 last_later e f events = ap (λ k. named_put (slice_get (e ∷ f ∷ events) k)) (let step : length (e ∷ f ∷ events) - 1 ≡ suc (length (f ∷ events) - 1) = omega arith in step)

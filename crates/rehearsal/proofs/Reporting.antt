@@ -18,10 +18,13 @@ use Rattle.farm_machine.specs.Acts.{Act, ReadsAll, deeds_of}
 use Rattle.farm_machine.specs.Course.{Course}
 use Rattle.farm_machine.specs.Honest.{AllRan, IsHonest}
 use Rattle.farm_machine.specs.Jobs.{Job, job_of}
+use Rattle.farm_machine.specs.Table.{MemoryLaw}
 use Rattle.course_laws.specs.Laws.{PutLaw}
 use Rattle.course_laws.specs.Answers.{IsAnswered}
-use Rattle.job_driver.specs.Driven.{Devices, JobsRan, IsCalm, no_entries, is_done_or_wanted}
+use Rattle.job_driver.specs.Driven.{Devices, JobsRan, IsCalm, is_done_or_wanted}
 use Rattle.job_driver.specs.Jobs.{job_at}
+use Rattle.job_driver.specs.Means.{RunMeans}
+use Rattle.job_driver.proofs.Meaning.{means}
 use Rattle.loop_link.specs.Dialers.{DialerGives}
 use Rattle.sample_compiler.specs.Samples.{SampleOf}
 use Rattle.sample_compiler.specs.Stations.{StationRan, station_files}
@@ -30,7 +33,6 @@ use Rattle.rehearsal.specs.Counts.{RehearsalKit, puts_at, puts_of, last_put, len
 use Rattle.rehearsal.specs.Devices.{compiler_files}
 use Rattle.rehearsal.specs.Rehearsals.{rehearsal_config, loop_devices, IsFresh, object_len, EndsAs}
 use Rattle.rehearsal.proofs.OneJob.{RunLaws, LeftAs, left-as, len-is}
-use Rattle.rehearsal.proofs.Putting.{added-puts}
 
 -- the job was done as the compiler leaves it, and its object has this length
 pub record Counted (n job : ℕ) (puts : ℕ → List Put) (report : Report) : Type 0 where
@@ -51,9 +53,13 @@ still rose = omega (arith, rose)
 calm : (old new : RehearsalKit) → IsCalm (loop_devices.shows old) (loop_devices.shows new)
 calm old new = record { station = still; station_overruns = still; keeper = still; keeper_overruns = still }
 
-module _ (laws : RunLaws) (put_law : PutLaw) (n : ℕ) (most : n ≤ 512) (l : Limits 16) (all : l.jobs ≡ n) (workers : ℕ) (reports : List Report)
+module _ (laws : RunLaws) (put_law : PutLaw) (memory : MemoryLaw) (n : ℕ) (most : n ≤ 512)
+    (l : Limits 16) (all : l.jobs ≡ n) (workers : ℕ) (reports : List Report)
     (history : List CallEntry) (last : SlotState 16) (old new : List RehearsalKit) (fresh : All (IsFresh (files_of n)) old) (enough : workers ≤ length old)
     (ran : JobsRan loop_devices l (job_at (jobs_of n) rehearsal_config) 60 workers reports history last old new) (other : RehearsalKit) where
+  run : RunMeans loop_devices l (job_at (jobs_of n) rehearsal_config) workers reports ran.read last old new
+  run = means memory loop_devices l (job_at (jobs_of n) rehearsal_config) 60 workers reports history last old new ran
+
   abbrev job_number : ℕ → Job
   job_number j = job_of (job_words (j + 1)) rehearsal_config
 
@@ -71,7 +77,6 @@ module _ (laws : RunLaws) (put_law : PutLaw) (n : ℕ) (most : n ≤ 512) (l : L
       ap puts_at (slice_get-get_or new worker other within)
       ∙ did.did.puts.grew refl
       ∙ ap (λ (ps : List Put). ps ++ puts_in (deeds_of did.acts)) (fresh_kit worker below).none_put
-      ∙ sym (added-puts no_entries did.acts)
       ∙ ap (λ es. es.puts) (sym did.entries_are)
 
   answered : (j : ℕ) → j < n → IsAnswered (StationRan (files_of n)) (job_number j) (ran.read.acts j) (ran.read.ends j)
@@ -83,15 +88,15 @@ module _ (laws : RunLaws) (put_law : PutLaw) (n : ℕ) (most : n ≤ 512) (l : L
       let honest : IsHonest peers (StationRan (compiler_files (slice_index_or old worker other).station)) = subst (λ files. IsHonest peers (StationRan files)) (sym kit.station) kit.honest in
       subst (λ job. IsAnswered (StationRan (files_of n)) job (ran.read.acts j) (ran.read.ends j)) (job_is j below)
       (subst (λ files. IsAnswered (StationRan files) (job_at (jobs_of n) rehearsal_config j) (ran.read.acts j) (ran.read.ends j)) kit.station
-      (ran.answered j other within refl (inl (honest, refl, refl))))
+      (run.honest_ends j other within refl (inl (honest, refl, refl))))
 
   left : (j : ℕ) → j < n → LeftAs n (j + 1) (ran.read.acts j) (ran.read.ends j)
   left j below =
       let within : j < l.jobs = omega (arith, below, all) in
       let kit = fresh_kit (ran.read.worker j) (ran.by_workers j within) in
       left-as laws n (j + 1) rehearsal_config most (omega arith) (omega (arith, below)) (ran.read.acts j) (ran.read.ends j)
-      (subst (λ job. Course job (ran.read.acts j) (ran.read.ends j)) (job_is j below) (ran.courses j within))
-      (subst (λ files. AllRan (StationRan files) (ran.read.acts j)) kit.station (ran.left j other within))
+      (subst (λ job. Course job (ran.read.acts j) (ran.read.ends j)) (job_is j below) (run.courses j within))
+      (subst (λ files. AllRan (StationRan files) (ran.read.acts j)) kit.station (run.may_leave j other within))
       (answered j below)
 
   by_end : (j : ℕ) (report : Report) (end : End) → j < n → report.end ≡ end → report.worker ≡ ran.read.worker j
@@ -114,7 +119,8 @@ module _ (laws : RunLaws) (put_law : PutLaw) (n : ℕ) (most : n ≤ 512) (l : L
       let within : j < l.jobs = omega (arith, below, all) in
       let is = ran.are_read.each j report there in
       record {
-        returned = ap is_done_or_wanted is.end ∙ ran.returns j other within refl (calm (slice_index_or old (ran.read.worker j) other) (slice_index_or new (ran.read.worker j) other));
+        returned = ap is_done_or_wanted is.end
+            ∙ run.returns j other within refl (calm (slice_index_or old (ran.read.worker j) other) (slice_index_or new (ran.read.worker j) other));
         counted = by_end j report (ran.read.ends j) below is.end is.worker is.acts
-            (subst (λ job. Course job (ran.read.acts j) (ran.read.ends j)) (job_is j below) (ran.courses j within)) (left j below);
+            (subst (λ job. Course job (ran.read.acts j) (ran.read.ends j)) (job_is j below) (run.courses j within)) (left j below);
       }

@@ -1,5 +1,5 @@
 -- What jobs put over loops to the sample compiler, without a word on honesty.
-use Rattle.std.specs.Prelude.{ℕ, ◌≡◌, ◌<◌, ◌≤◌, List, [], ◌∷◌, ◌++◌, length, All, slice_index_or}
+use Rattle.std.specs.Prelude.{ℕ, ◌≡◌, true, Some, ◌<◌, ◌≤◌, List, [], ◌∷◌, ◌++◌, length, All, slice_index_or}
 use Rattle.slot_table.specs.declared.calls.CallEntry.{CallEntry}
 use Rattle.slot_table.specs.declared.limits.Limits.{Limits}
 use Rattle.slot_table.specs.declared.state.SlotState.{SlotState}
@@ -11,12 +11,16 @@ use Rattle.edge_traits.specs.Deeds.{put}
 use Rattle.edge_traits.specs.Keepers.{KeeperView}
 use Rattle.farm_machine.specs.declared.reports.Report.{Report}
 use Rattle.farm_machine.specs.Acts.{Act, Did}
-use Rattle.farm_machine.specs.Jobs.{Job, compile_command}
+use Rattle.farm_machine.specs.Honest.{Programs}
+use Rattle.farm_machine.specs.Jobs.{Job, may_be_sent, request_for, compile_command}
 use Rattle.farm_machine.specs.Table.{IsSource}
 use Rattle.job_driver.specs.Driven.{Devices, devices, JobsRan}
 use Rattle.loop_link.specs.declared.dialer.LoopDialer.{LoopDialer}
 use Rattle.loop_link.specs.Dialers.{dialer_state, dialer_shows, held_of, DialerGives}
-use Rattle.loop_link.specs.Replies.{AreOwnNames}
+use Rattle.loop_link.specs.Replies.{AreOwnNames, Gives}
+use Rattle.course_laws.specs.Answers.{IsFullyHonestTo}
+use Rattle.daemon_service.specs.declared.compilers.Compiler.{Compiler}
+use Rattle.daemon_service.specs.Replies.{program_of, first_word}
 use Rattle.sample_compiler.specs.declared.station.SampleStation.{SampleStation}
 use Rattle.sample_compiler.specs.Stations.{StationRan, station_files, station_shows}
 use Rattle.file_map.specs.FileMaps.{Files}
@@ -57,3 +61,9 @@ LoopLaw {K = K} {C = C} keeper clock = (l : Limits 16) (jobs : ℕ → Job) (per
     (old new : List (LoopKit K C)) → All IsLoop old → workers ≤ length old
     → (ran : JobsRan (loop_kits keeper clock) l jobs period workers reports history last old new)
     → AllCompilers l jobs ran.read.worker ran.read.acts old
+
+-- A loop over a table of own names is fully honest to each job that may be sent and whose compiler the table names, with fallback and retry on or off.
+abbrev pub HonestLoopLaw : Programs → Type 0
+HonestLoopLaw ran = (table : List Compiler) (j : Job) (program : List ℕ)
+    → AreOwnNames table → may_be_sent j ≡ true → program_of table (first_word (request_for j []).words) ≡ Some program
+    → IsFullyHonestTo (Gives table ran) ran j

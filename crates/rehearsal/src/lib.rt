@@ -11,7 +11,7 @@ mod station;
 
 pub use keeper::StillKeeper;
 pub use kits::{RehearsalKit, compiler_table};
-pub use laws::loops_answer_as_the_compiler;
+pub use laws::{loops_answer_as_the_compiler, loops_are_fully_honest};
 pub use numbers::Count;
 pub use run::{Rehearsed, rehearse};
 pub use station::StillStation;

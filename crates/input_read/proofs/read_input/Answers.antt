@@ -1,4 +1,5 @@
-use Rattle.std.proofs.Common.{refl}
+use Rattle.std.proofs.Common.{refl, arith}
+use Rattle.std.proofs.lemmas.Grind.{common_steps}
 use Rattle.input_read.proofs.ReadLemmas.{TookIn-join}
 use Rattle.input_read.proofs.read_input.Goals as goal
 
@@ -6,4 +7,8 @@ pub returns-in_err-try_extend-in-Ok-clause-some :
     goal.returns-in_err-try_extend-in-Ok-clause-some
 returns-in_err-try_extend-in-Ok-clause-some g c =
     let read = c.in-Ok.ensures in
-    record { text = _; took = TookIn-join c.reading.invariant.took read.read read.left read.cause.later refl }
+    record {
+      text = _;
+      took = TookIn-join c.reading.invariant.took read.read read.left read.cause.later refl;
+      within = grind (arith, common_steps, c.reading.invariant.within);
+    }

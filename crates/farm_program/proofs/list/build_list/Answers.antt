@@ -6,7 +6,7 @@ use Rattle.farm_program.proofs.list.build_list.Goals as goal
 pub returns-in-Ok-Whole : goal.returns-in-Ok-Whole
 returns-in-Ok-Whole g c =
     let read : HasRead 16777217 (Whole c.in-Ok-Whole.text) (g.R.Source.shows c.args.input.now) (g.R.Source.shows c.read_input.new.source) = rw c.in-Ok-Whole.field-0-is at c.in-Ok-Whole.ensures.read in
-    read_whole c.in-Ok-Whole.text read.0 c.build_text.ensures
+    read_whole c.in-Ok-Whole.text read.0 read.1 c.build_text.ensures
 
 pub returns-in-Ok-TooLong : goal.returns-in-Ok-TooLong
 returns-in-Ok-TooLong g c =
