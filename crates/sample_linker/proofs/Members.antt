@@ -1,43 +1,23 @@
 -- Items among items by their names, and definitions in an order that an image may have.
-use Rattle.std.proofs.Common.{◌≡◌, ℕ, zero, suc, ◌<◌, Bool, true, false, cond, List, [], ◌∷◌, ◌++◌, length, map, get_or, Option, Some, None}
-use Rattle.std.proofs.Common.{Result, Ok, refl, ap, sym, ◌∙◌, subst, ◌⊎◌, inl, inr, ⊎_elim, append_assoc, arith}
-use Rattle.std.specs.Prelude.{All, MatchOption, MatchResult, MatchBool, ◌||◌}
+use Rattle.std.proofs.Common.{◌≡◌, ℕ, zero, suc, ◌<◌, Bool, true, false, cond, List, [], ◌∷◌, ◌++◌, length, get_or, Option, Some, None}
+use Rattle.std.proofs.Common.{refl, ap, sym, ◌∙◌, subst, ◌⊎◌, inl, inr, ⊎_elim, append_assoc, arith}
+use Rattle.std.specs.Prelude.{All, ◌||◌}
 use Rattle.std.specs.List.{Contains}
 use Rattle.std.specs.Str.{bytes_eq}
 use Rattle.std.proofs.lemmas.Bool.{or_cases}
 use Rattle.std.proofs.lemmas.List.{append-nil}
-use Rattle.std.proofs.lemmas.List.Elements.{All-contains, All-head, All-tail}
+use Rattle.std.proofs.lemmas.List.Elements.{All-contains}
 use Rattle.std.specs.Cmp.Lexicographic.{same_text}
 use Rattle.std.proofs.lemmas.List.Folds.{list_any-append}
 use Rattle.sample_lang.specs.declared.program.Part.{Part}
 use Rattle.sample_lang.specs.declared.program.Part.TheVariants.{Number, Name, Add, Sub, Mul}
 use Rattle.sample_lang.specs.declared.program.Item.{Item}
-use Rattle.sample_lang.specs.declared.program.Item.TheVariants.{Extern, Def}
+use Rattle.sample_lang.specs.declared.program.Item.TheVariants.{Def}
 use Rattle.sample_lang.specs.Names.{is_named, name_of, code_of, HaveNames}
-use Rattle.sample_lang.specs.Sources.{SourceOf}
-use Rattle.sample_lang.specs.Values.{Numbers, HasValue, ItemsHold}
-use Rattle.sample_lang.proofs.CodeValues.{forms_items, items_forms}
-use Rattle.sample_lang.proofs.Deciding.{one_source}
-use Rattle.sample_linker.specs.declared.kind.Kind.TheVariants.{Object, Image}
-use Rattle.sample_linker.specs.declared.faults.LinkFault.{LinkFault}
-use Rattle.sample_linker.specs.declared.faults.LinkFault.TheVariants.{BadObject, Doubled, Unresolved, Circular}
-use Rattle.sample_linker.specs.declared.faults.Linked.{Linked}
-use Rattle.sample_linker.specs.declared.faults.Linked.TheVariants as linked
-use Rattle.sample_linker.specs.declared.running.RunFault.TheVariants.{BadImage, NoMain}
-use Rattle.sample_linker.specs.declared.running.Value.{Value}
-use Rattle.sample_linker.specs.declared.running.Value.TheVariants as values
-use Rattle.sample_compiler.specs.Objects.{object_of}
-use Rattle.sample_linker.specs.Files.{file_items, then_file, objects_items}
-use Rattle.sample_linker.specs.Right.{AreRightItems}
-use Rattle.sample_linker.specs.Orders.{Uses, LeadTo, GoRound, IsNext, IsImageOrder}
-use Rattle.sample_linker.specs.Links.{definitions, doubled, unresolved, image_of, OrderedTo, ItemsLinkTo}
-use Rattle.sample_linker.specs.Values.{main_name, MainIs, ItemsHaveValue, IsValue}
-use Rattle.sample_linker.specs.Sources.{AreSources, FitsText, FitsTexts, FitsSources, UsesItself, CanLink, FitOnce, MainFits, Promised}
-use Rattle.sample_linker.specs.Sources.{together, LinksSources}
-use Rattle.sample_linker.proofs.Spelling.{file_reads}
-use Rattle.sample_linker.proofs.SourceItems.{source_says}
-use Rattle.sample_linker.proofs.Numbers.{agree_at, holding_small, holding_agree, ItemsHold-append, last_named, same_bytes}
-use Rattle.sample_linker.proofs.Placed.{image_says, definitions_right, order_right, order_declared, order_holds}
+use Rattle.sample_linker.specs.Orders.{Uses, LeadTo, IsNext, IsImageOrder}
+use Rattle.sample_linker.specs.Links.{doubled}
+use Rattle.sample_linker.specs.Sources.{UsesItself}
+use Rattle.sample_linker.proofs.Numbers.{last_named, same_bytes}
 
 pub unlike : {P : Type 0} → true ≡ false → P
 unlike h = cc

@@ -1,8 +1,8 @@
 -- Names that lead to one another.
-use Rattle.std.proofs.Common.{◌≡◌, ℕ, zero, suc, ◌+◌, ◌<◌, ◌≤◌, Bool, true, false, List, [], ◌∷◌, ◌++◌, length, map, take, drop, get_or}
+use Rattle.std.proofs.Common.{◌≡◌, ℕ, zero, suc, ◌+◌, ◌<◌, ◌≤◌, Bool, true, false, List, [], ◌∷◌, ◌++◌, length, take, drop, get_or}
 use Rattle.std.proofs.Common.{Option, Some, None, refl, ap, sym, ◌∙◌, subst, ⊎_elim, arith}
 use Rattle.std.specs.Prelude.{All, IfSome, IfNone, unwrap_or, ◌||◌}
-use Rattle.std.specs.List.{Contains, IsDistinct, list_any, list_all, position_from}
+use Rattle.std.specs.List.{Contains, IsDistinct, list_any, list_all}
 use Rattle.std.specs.Option.{is_some}
 use Rattle.std.specs.Str.{bytes_eq}
 use Rattle.std.specs.Cmp.Lexicographic.{same_text}
@@ -31,7 +31,7 @@ use Rattle.sample_linker.specs.Reads.{Lists}
 use Rattle.sample_linker.specs.Runs.{number_in}
 use Rattle.sample_linker.specs.Tables.{place_in}
 use Rattle.sample_linker.specs.Waits.{At, Settled, PlacedSo}
-use Rattle.sample_linker.proofs.Places.{bytes_laws, any_place, at_name, item_of, place_is, named_any, indexes_named}
+use Rattle.sample_linker.proofs.Places.{bytes_laws, at_name, item_of, place_is, named_any, indexes_named}
 use Rattle.sample_linker.proofs.Members.{have_part}
 use Rattle.sample_linker.proofs.Soundness.{have_known}
 use Rattle.sample_linker.proofs.TableLemmas.{bytes_turn}

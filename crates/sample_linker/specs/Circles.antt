@@ -1,5 +1,5 @@
 -- Where the definitions that are left lead.
-use Rattle.std.specs.Prelude.{ℕ, ◌≡◌, List, true, false, length, drop, get_or, ◌<◌, ◌≤◌, IfSome}
+use Rattle.std.specs.Prelude.{ℕ, ◌≡◌, List, true, false, length, drop, get_or, ◌<◌, ◌≤◌}
 use Rattle.std.specs.List.{Contains, IsDistinct, list_all, list_any}
 use Rattle.std.specs.Str.{bytes_eq}
 use Rattle.std.specs.Option.{is_some}

@@ -1,8 +1,7 @@
 -- Who waits for whom, while definitions are placed.
 use Rattle.std.specs.Global.{Global}
 use Rattle.std.specs.Prelude.{ℕ, ◌≡◌, ◌<◌, ◌⊎◌, List, [], ◌∷◌, ◌++◌, length, get_or, true, false, Some, Vec}
-use Rattle.std.specs.List.{Contains, list_all}
-use Rattle.sample_lang.specs.declared.program.Part.{Part}
+use Rattle.std.specs.List.{Contains}
 use Rattle.sample_lang.specs.declared.program.Part.TheVariants.{Name}
 use Rattle.sample_lang.specs.declared.program.Item.{Item}
 use Rattle.sample_lang.specs.Names.{is_named, name_of, code_of}

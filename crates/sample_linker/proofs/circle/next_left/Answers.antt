@@ -1,7 +1,6 @@
-use Rattle.std.proofs.Common.{◌≡◌, ◌<◌, ℕ, length, get_or, sym, ap, subst, ◌∙◌, rules}
+use Rattle.std.proofs.Common.{◌≡◌, ◌<◌, length, get_or, sym, ap, subst, ◌∙◌, rules}
 use Rattle.std.specs.Prelude.{unwrap_or}
-use Rattle.sample_lang.specs.Names.{code_of}
-use Rattle.sample_linker.proofs.Rounds.{Stands, Lacks, left_stands, step_lacks, step_uses}
+use Rattle.sample_linker.proofs.Rounds.{left_stands, step_lacks, step_uses}
 use Rattle.sample_linker.proofs.circle.next_left.Goals as goal
 
 pub offset_bounds-defined-place : goal.offset_bounds-defined-place

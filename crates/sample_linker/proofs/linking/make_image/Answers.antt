@@ -1,4 +1,4 @@
-use Rattle.std.proofs.Common.{◌≡◌, ap, sym, subst, ◌∙◌}
+use Rattle.std.proofs.Common.{◌≡◌, sym, subst, ◌∙◌}
 use Rattle.sample_linker.specs.Circles.{AllUsed}
 use Rattle.sample_linker.specs.Links.{definitions, unresolved}
 use Rattle.sample_linker.specs.Reads.{Lists}

@@ -1,5 +1,4 @@
-use Rattle.std.proofs.Common.{◌≡◌, ℕ, subst, sym, ◌∙◌}
-use Rattle.std.proofs.lemmas.List.Elements.{All-contains}
+use Rattle.std.proofs.Common.{subst, ◌∙◌}
 use Rattle.sample_linker.specs.Waits.{Settled}
 use Rattle.sample_linker.proofs.Sets.{all_above}
 use Rattle.sample_linker.proofs.ordering.place_all.Goals as goal

@@ -1,6 +1,5 @@
-use Rattle.std.proofs.Common.{◌≡◌, ◌<◌, List, [], length, ap, inl, inr, arith}
+use Rattle.std.proofs.Common.{[], ap, inl, inr, arith}
 use Rattle.std.specs.Option.{is_some}
-use Rattle.sample_lang.specs.declared.program.Item.{Item}
 use Rattle.sample_linker.proofs.Steps.{placed_none}
 use Rattle.sample_linker.proofs.Used.{all_own, place_below}
 use Rattle.sample_linker.proofs.Rounds.{Halted, left_at, order_at}

@@ -1,11 +1,11 @@
-use Rattle.std.proofs.Common.{◌≡◌, ◌<◌, ◌≤◌, ◌∷◌, List, ℕ, length, get_or, true, false, ap, sym, subst, ◌∙◌, arith}
+use Rattle.std.proofs.Common.{◌≡◌, ◌<◌, length, false, ap, sym, subst, ◌∙◌, arith}
 use Rattle.std.proofs.lemmas.Bool.Decides.{nat_tests}
 use Rattle.std.specs.Option.{is_some}
 use Rattle.sample_lang.specs.declared.program.Item.{Item}
 use Rattle.sample_lang.specs.Names.{is_named, name_of}
 use Rattle.sample_linker.specs.Tables.{place_in}
 use Rattle.sample_linker.specs.Waits.{At, Settled, PlacedSo}
-use Rattle.sample_linker.proofs.Steps.{settled_past, settled_done, look_waits, look_places}
+use Rattle.sample_linker.proofs.Steps.{look_waits, look_places}
 use Rattle.sample_linker.proofs.placing.look_at.Goals as goal
 
 pub returns-in_ok-let_wait-in-Some-clause-steps : goal.returns-in_ok-let_wait-in-Some-clause-steps
