@@ -14,8 +14,9 @@ use edge_memory::{MemClock, MemKeeper, MemSource};
 use edge_traits::{CallNumbers, Kit};
 use farm_program::{Ended, farm};
 use farm_types::Bytes;
+use job_driver::run_means;
 use loop_link::LoopDialer;
-use rehearsal::{compiler_table, loops_answer_as_the_compiler};
+use rehearsal::{compiler_table, loops_answer_as_the_compiler, loops_are_fully_honest};
 use sample_compiler::SampleStation;
 use std::alloc::{AllocError, Global};
 use std::process::Abort;
@@ -104,6 +105,10 @@ fn expect_object<R: Abort>(rt: &R, alloc: Global, kit: &mut LoopKit) -> Result<(
 #[test]
 fn a_build_over_loops_puts_what_the_compiler_leaves(rt: HostRuntime) -> Result<(), Fail> {
     let mut kits = one_kit(rt.alloc())?;
+    for kit in kits.iter() {
+        run_means(&kit.dialer, &kit.station, &kit.keeper, &kit.clock);
+        loops_are_fully_honest(&kit.station);
+    }
     assert_eq!(rt; status_of(&rt, rt.alloc(), &mut kits)?, 0);
     for kit in kits.iter_mut() {
         expect_object(&rt, rt.alloc(), kit)?;
