@@ -7,8 +7,8 @@ use Rattle.farm_machine.specs.declared.reports.Why5.TheVariants.{Station, Memory
 use Rattle.farm_machine.specs.declared.reports.End.{End}
 use Rattle.farm_machine.specs.declared.reports.End.TheVariants.{Done, Failed}
 use Rattle.farm_machine.specs.Acts.{TakesLocal, GivesLocal, Act, Did, Met, deeds_of}
-use Rattle.farm_machine.specs.Jobs.{Job, may_be_sent}
-use Rattle.farm_machine.specs.Course.{Start, LentInPlace, RanInPlace, Over, From}
+use Rattle.farm_machine.specs.Jobs.{Job}
+use Rattle.farm_machine.specs.Course.{LentInPlace, RanInPlace, Over, From}
 use Rattle.course_laws.specs.Laws.{StaysHereLaw}
 use Rattle.course_laws.proofs.Tables.{along, over}
 

@@ -1,5 +1,5 @@
 //! A cell and one caller's pass, as grants.
-ghost use Rattle.std.specs.Prelude.{◌≡◌, false};
+ghost use Rattle.std.specs.Prelude.{◌≡◌};
 ghost use Rattle.farm_cell.specs.Passes.{IsPassOf, limits_of, number_of, mine_of};
 ghost use Rattle.farm_cell.specs.Held.{cell_of, pass_of, place_of};
 
@@ -28,6 +28,10 @@ impl<'a, R: Wait> Held<'a, R> {
 }
 
 impl<'a, R: Wait> Grants for Held<'a, R> {
+    ghost use Rattle.std.specs.Prelude.{false, refl};
+    ghost use Rattle.std.proofs.Common.{◌∙◌, ap};
+    ghost use Rattle.farm_cell.specs.Held.{Stays};
+
     type Home = Cell<16, 34>;
 
     ghost home = { λ h. cell_of h };
@@ -40,13 +44,31 @@ impl<'a, R: Wait> Grants for Held<'a, R> {
 
     ghost limits = { λ h. limits_of (cell_of h) };
 
-    ghost number = { λ h. number_of (pass_of h) };
+    ghost caller_number = { λ h. number_of (pass_of h) };
+
+    ghost follows = { λ a b. Stays a b };
 
     ghost mine = { λ h. mine_of (pass_of h) };
 
     ghost alone = { false };
 
     ghost spare = { λ h. 0 };
+
+    ghost follows_itself = { λ h. record { cell = refl; place = refl; number = refl } };
+
+    ghost follows_on = { λ a b c first second. record {
+      cell = second.cell ∙ first.cell;
+      place = second.place ∙ first.place;
+      number = second.number ∙ first.number;
+    } };
+
+    ghost home_stays = { λ a b same. same.cell };
+
+    ghost place_stays = { λ a b same. same.place };
+
+    ghost limits_stay = { λ a b same. ap limits_of same.cell };
+
+    ghost caller_stays = { λ a b same. same.number };
 
     fn caller(&self) -> u32 {
         self.pass.number

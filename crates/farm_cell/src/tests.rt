@@ -514,8 +514,7 @@ fn work_once<G: Grants>(rt: &impl Abort, grants: &mut G)
     requires ready { G.ready grants.old }
     requires shared { G.alone ≡ false }
     ensures ready { G.ready grants.new }
-    ensures home { G.home grants.new ≡ G.home grants.old }
-    ensures place { G.place grants.new ≡ G.place grants.old }
+    ensures follows { G.follows grants.old grants.new }
 {
     let _job = grants.draw();
     match grants.take(0, Mask::all(1), 5) {

@@ -16,3 +16,6 @@ pub mod ExampleRun
 pub mod Causes
 pub mod CheckRuns
 pub mod Checking
+pub mod Devices
+pub mod Usable
+pub mod TableCourse

@@ -51,18 +51,24 @@ not-run station.Failed why is = inl is
 not-run (station.TooMuch stream bytes) why is = inl is
 not-run station.Memory why is = inr is
 
-pub over-not-run : (fault : StationFault) (why : Why5) → why ≡ station_failure fault → (Over (Failed why) ≡ Over (Failed Station)) ⊎ (Over (Failed why) ≡ Over (Failed Memory))
-over-not-run fault why is = elim (not-run fault why is) [ inl e ↦ inl (ap (λ (w : Why5). Over (Failed w)) e) | inr e ↦ inr (ap (λ (w : Why5). Over (Failed w)) e) ]
+pub over-not-run : (fault : StationFault) (why : Why5) → why ≡ station_failure fault
+    → (Over (Failed why) ≡ Over (Failed Station)) ⊎ (Over (Failed why) ≡ Over (Failed Memory))
+over-not-run fault why is =
+    elim (not-run fault why is) [ inl e ↦ inl (ap (λ (w : Why5). Over (Failed w)) e) | inr e ↦ inr (ap (λ (w : Why5). Over (Failed w)) e) ]
 
-pub not-run-cause : (bounds : Bounds) (fault : StationFault) (why : Why5) (old new : KitView) → why ≡ station_failure fault → RunFault bounds old.station new.station fault → HasEndCause (Failed why) old new
+pub not-run-cause : (bounds : Bounds) (fault : StationFault) (why : Why5) (old new : KitView) → why ≡ station_failure fault
+    → RunFault bounds old.station new.station fault → HasEndCause (Failed why) old new
 not-run-cause bounds station.Failed why old new is rose = subst (λ (w : Why5). HasEndCause (Failed w) old new) (sym is) (inl rose)
-not-run-cause bounds (station.TooMuch stream bytes) why old new is over = subst (λ (w : Why5). HasEndCause (Failed w) old new) (sym is) (inr over.rose)
+not-run-cause bounds (station.TooMuch stream bytes) why old new is over =
+    subst (λ (w : Why5). HasEndCause (Failed w) old new) (sym is) (inr over.rose)
 not-run-cause bounds station.Memory why old new is free = subst (λ (w : Why5). HasEndCause (Failed w) old new) (sym is) tt
 
 -- where it wanted memory, no count of the station rose
-pub not-run-stands : (bounds : Bounds) (fault : StationFault) (why : Why5) (old new : StationView) → why ≡ station_failure fault → RunFault bounds old new fault → StationStands (Failed why) old new
+pub not-run-stands : (bounds : Bounds) (fault : StationFault) (why : Why5) (old new : StationView) → why ≡ station_failure fault
+    → RunFault bounds old new fault → StationStands (Failed why) old new
 not-run-stands bounds station.Failed why old new is rose = subst (λ (w : Why5). StationStands (Failed w) old new) (sym is) tt
-not-run-stands bounds (station.TooMuch stream bytes) why old new is rose = subst (λ (w : Why5). StationStands (Failed w) old new) (sym is) tt
+not-run-stands bounds (station.TooMuch stream bytes) why old new is rose =
+    subst (λ (w : Why5). StationStands (Failed w) old new) (sym is) tt
 not-run-stands bounds station.Memory why old new is none = subst (λ (w : Why5). StationStands (Failed w) old new) (sym is) none
 
 -- no run is a fetch
@@ -77,23 +83,32 @@ not-fetched fetch.Absent why is = inl is
 not-fetched (fetch.TooMuch bytes) why is = inl is
 not-fetched fetch.Memory why is = inr is
 
-pub not-fetched-cause : (path : List ℕ) (bound : ℕ) (fault : FetchFault) (why : Why5) (old new : KitView) → why ≡ fetch_failure fault → FetchCause path bound old.keeper new.keeper fault → HasEndCause (Failed why) old new
+pub not-fetched-cause : (path : List ℕ) (bound : ℕ) (fault : FetchFault) (why : Why5) (old new : KitView) → why ≡ fetch_failure fault
+    → FetchCause path bound old.keeper new.keeper fault → HasEndCause (Failed why) old new
 not-fetched-cause path bound fetch.Failed why old new is rose = subst (λ (w : Why5). HasEndCause (Failed w) old new) (sym is) (inl rose)
-not-fetched-cause path bound fetch.Absent why old new is gone = subst (λ (w : Why5). HasEndCause (Failed w) old new) (sym is) (inr gone.rose)
-not-fetched-cause path bound (fetch.TooMuch bytes) why old new is long = subst (λ (w : Why5). HasEndCause (Failed w) old new) (sym is) (inr long.rose)
+not-fetched-cause path bound fetch.Absent why old new is gone =
+    subst (λ (w : Why5). HasEndCause (Failed w) old new) (sym is) (inr gone.rose)
+not-fetched-cause path bound (fetch.TooMuch bytes) why old new is long =
+    subst (λ (w : Why5). HasEndCause (Failed w) old new) (sym is) (inr long.rose)
 not-fetched-cause path bound fetch.Memory why old new is free = subst (λ (w : Why5). HasEndCause (Failed w) old new) (sym is) tt
 
 -- where the fetch wanted memory, the keeper's counts stand still
-pub not-fetched-stands : (path : List ℕ) (bound : ℕ) (fault : FetchFault) (why : Why5) (acts : List Act) (old new : KeeperView) → why ≡ fetch_failure fault → FetchCause path bound old new fault → KeeperStands (Failed why) acts old new
+pub not-fetched-stands : (path : List ℕ) (bound : ℕ) (fault : FetchFault) (why : Why5) (acts : List Act) (old new : KeeperView)
+    → why ≡ fetch_failure fault → FetchCause path bound old new fault → KeeperStands (Failed why) acts old new
 not-fetched-stands path bound fetch.Failed why acts old new is rose = subst (λ (w : Why5). KeeperStands (Failed w) acts old new) (sym is) tt
 not-fetched-stands path bound fetch.Absent why acts old new is gone = subst (λ (w : Why5). KeeperStands (Failed w) acts old new) (sym is) tt
-not-fetched-stands path bound (fetch.TooMuch bytes) why acts old new is long = subst (λ (w : Why5). KeeperStands (Failed w) acts old new) (sym is) tt
-not-fetched-stands path bound fetch.Memory why acts old new is free = subst (λ (w : Why5). KeeperStands (Failed w) acts old new) (sym is) (record { faults = λ none. let e = free.faults in omega (arith, e); overruns = free.overruns })
+not-fetched-stands path bound (fetch.TooMuch bytes) why acts old new is long =
+    subst (λ (w : Why5). KeeperStands (Failed w) acts old new) (sym is) tt
+not-fetched-stands path bound fetch.Memory why acts old new is free =
+    subst (λ (w : Why5). KeeperStands (Failed w) acts old new) (sym is)
+    (record { faults = λ none. let e = free.faults in omega (arith, e); overruns = free.overruns })
 
 -- where the fetch was of the job's source, the job ends by that fetch
-pub fetch-ends : (name path : List ℕ) (fault : FetchFault) (why : Why5) (acts : List Act) (old new : KeeperView) → name ≡ path → why ≡ fetch_failure fault → FetchCause path 41943040 old new fault → FetchEnds name (Failed why) acts old new
+pub fetch-ends : (name path : List ℕ) (fault : FetchFault) (why : Why5) (acts : List Act) (old new : KeeperView) → name ≡ path
+    → why ≡ fetch_failure fault → FetchCause path 41943040 old new fault → FetchEnds name (Failed why) acts old new
 fetch-ends name path fault why acts old new named is cause =
-    subst (λ (p : List ℕ). FetchEnds p (Failed why) acts old new) (sym named) (subst (λ (w : Why5). FetchEnds path (Failed w) acts old new) (sym is) (go fault cause))
+    subst (λ (p : List ℕ). FetchEnds p (Failed why) acts old new) (sym named)
+    (subst (λ (w : Why5). FetchEnds path (Failed w) acts old new) (sym is) (go fault cause))
   where
     go : (f : FetchFault) → FetchCause path 41943040 old new f → FetchEnds path (Failed (fetch_failure f)) acts old new
     go fetch.Failed c = λ none. (fetch.Failed, refl, c)
@@ -110,16 +125,20 @@ pub not-put-unfetched : (fault : EdgeFault) (why : Why5) → why ≡ put_failure
 not-put-unfetched edge.Failed why is e = cc
 not-put-unfetched edge.Memory why is e = cc
 
-pub not-put-cause : (fault : EdgeFault) (why : Why5) (old new : KitView) → why ≡ put_failure fault → (fault ≡ edge.Failed → Rose old.keeper.faults new.keeper.faults) → HasEndCause (Failed why) old new
+pub not-put-cause : (fault : EdgeFault) (why : Why5) (old new : KitView) → why ≡ put_failure fault
+    → (fault ≡ edge.Failed → Rose old.keeper.faults new.keeper.faults) → HasEndCause (Failed why) old new
 not-put-cause edge.Failed why old new is rose = subst (λ (w : Why5). HasEndCause (Failed w) old new) (sym is) (rose refl)
 not-put-cause edge.Memory why old new is free = subst (λ (w : Why5). HasEndCause (Failed w) old new) (sym is) tt
 
 -- where the put wanted memory, no more than a removal failed, and no put is an overrun
-pub not-put-stands : (fault : EdgeFault) (why : Why5) (acts : List Act) (old new : KeeperView) → why ≡ put_failure fault → (fault ≡ edge.Memory → IsRemoval old.faults new.faults) → Still old.overruns new.overruns → KeeperStands (Failed why) acts old new
+pub not-put-stands : (fault : EdgeFault) (why : Why5) (acts : List Act) (old new : KeeperView) → why ≡ put_failure fault
+    → (fault ≡ edge.Memory → IsRemoval old.faults new.faults) → Still old.overruns new.overruns → KeeperStands (Failed why) acts old new
 not-put-stands edge.Failed why acts old new is removal still = subst (λ (w : Why5). KeeperStands (Failed w) acts old new) (sym is) still
-not-put-stands edge.Memory why acts old new is removal still = subst (λ (w : Why5). KeeperStands (Failed w) acts old new) (sym is) (record { faults = λ none. removal refl; overruns = still })
+not-put-stands edge.Memory why acts old new is removal still =
+    subst (λ (w : Why5). KeeperStands (Failed w) acts old new) (sym is) (record { faults = λ none. removal refl; overruns = still })
 
-pub broken-cause : (host : ℕ) (cause : Cause) (old new : KitView) → LandedCause (LandedBroke cause) old.dialer.faults new.dialer.faults → HasEndCause (Failed (Broke host cause)) old new
+pub broken-cause : (host : ℕ) (cause : Cause) (old new : KitView) → LandedCause (LandedBroke cause) old.dialer.faults new.dialer.faults
+    → HasEndCause (Failed (Broke host cause)) old new
 broken-cause host Dial old new rose = rose
 broken-cause host CutSend old new rose = tt
 broken-cause host Recv old new rose = tt
@@ -133,22 +152,32 @@ for-here j source note at (inl e) = subst (λ (a : At). Next j a (Met TakesLocal
 for-here j source note at (inr (past, e)) = subst (λ (a : At). Next j a (Met TakesLocal) (LentHere source note)) (sym e) (past, refl)
 
 -- the give of a local slot, by the caller and the job that it was taken for
-pub local-given : (w w' job job' : ℕ) (es es' : List CallEntry) → w' ≡ w → job' ≡ job → es' ≡ es ++ entry w' (GiveLocal job') Given ∷ [] → es' ≡ es ++ entry w (GiveLocal job) Given ∷ []
-local-given w w' job job' es es' same_w same_job is = is ∙ ap (λ (u : ℕ). es ++ entry u (GiveLocal job') Given ∷ []) same_w ∙ ap (λ (k : ℕ). es ++ entry w (GiveLocal k) Given ∷ []) same_job
+pub local-given : {w w' job job' : ℕ} (es : List CallEntry) {es' : List CallEntry} → w' ≡ w → job' ≡ job
+    → es' ≡ es ++ entry w' (GiveLocal job') Given ∷ [] → es' ≡ es ++ entry w (GiveLocal job) Given ∷ []
+local-given {w = w} {w' = w'} {job = job} {job' = job'} es {es' = es'} same_w same_job is =
+    is ∙ ap (λ (u : ℕ). es ++ entry u (GiveLocal job') Given ∷ []) same_w ∙ ap (λ (k : ℕ). es ++ entry w (GiveLocal k) Given ∷ []) same_job
 
-pub borrowed-given : (w job refused : ℕ) (es es1 es2 : List CallEntry) (e : CallEntry) → es1 ≡ es ++ borrowed w job refused → es2 ≡ es1 ++ e ∷ [] → es2 ≡ es ++ (borrowed w job refused ++ e ∷ [])
-borrowed-given w job refused es es1 es2 e first second = second ∙ ap (λ (xs : List CallEntry). xs ++ e ∷ []) first ∙ append_assoc es (borrowed w job refused) (e ∷ [])
+pub borrowed-given : (w job refused : ℕ) (es : List CallEntry) {es1 es2 : List CallEntry} (e : CallEntry)
+    → es1 ≡ es ++ borrowed w job refused → es2 ≡ es1 ++ e ∷ [] → es2 ≡ es ++ (borrowed w job refused ++ e ∷ [])
+borrowed-given w job refused es {es1 = es1} {es2 = es2} e first second =
+    second ∙ ap (λ (xs : List CallEntry). xs ++ e ∷ []) first ∙ append_assoc es (borrowed w job refused) (e ∷ [])
 
 -- the same where a slot of an entry that is this machine was lent
-pub over-lent : (local : Bool) (why : Why5) → local ≡ true → (Over (Failed why) ≡ Over (Failed Station)) ⊎ (Over (Failed why) ≡ Over (Failed Memory)) → ((local ≡ true) × (Over (Failed why) ≡ Over (Failed Station))) ⊎ (Over (Failed why) ≡ Over (Failed Memory))
+pub over-lent : (local : Bool) (why : Why5) → local ≡ true
+    → (Over (Failed why) ≡ Over (Failed Station)) ⊎ (Over (Failed why) ≡ Over (Failed Memory))
+    → ((local ≡ true) × (Over (Failed why) ≡ Over (Failed Station))) ⊎ (Over (Failed why) ≡ Over (Failed Memory))
 over-lent local why here (inl e) = inl (here, e)
 over-lent local why here (inr e) = inr e
 
-pub done-cause : (end : End) (status : ℕ) (note err out : List ℕ) (by : By) (old new : KitView) → end ≡ Done status note err out by → HasEndCause end old new
-done-cause end status note err out by old new is = subst (λ (e : End). HasEndCause e old new) (sym is) tt
+pub done-cause : {end : End} {status : ℕ} {note err out : List ℕ} {by : By} (old new : KitView) → end ≡ Done status note err out by
+    → HasEndCause end old new
+done-cause {end = end} {status = status} {note = note} {err = err} {out = out} {by = by} old new is =
+    subst (λ (e : End). HasEndCause e old new) (sym is) tt
 
-pub done-unfetched : (name : List ℕ) (acts : List Act) (k k' : KeeperView) (end : End) (status : ℕ) (note err out : List ℕ) (by : By) → end ≡ Done status note err out by → FetchEnds name end acts k k'
-done-unfetched name acts k k' end status note err out by is = subst (λ (e : End). FetchEnds name e acts k k') (sym is) tt
+pub done-unfetched : (name : List ℕ) (acts : List Act) (k k' : KeeperView) {end : End} {status : ℕ} {note err out : List ℕ} {by : By}
+    → end ≡ Done status note err out by → FetchEnds name end acts k k'
+done-unfetched name acts k k' {end = end} {status = status} {note = note} {err = err} {out = out} {by = by} is =
+    subst (λ (e : End). FetchEnds name e acts k k') (sym is) tt
 
 -- a host that is known by another name
 pub gave-as : (host other : ℕ) (es es' : List Event) → host ≡ other → es' ≡ es ++ Gave host ∷ [] → es' ≡ es ++ Gave other ∷ []
@@ -157,32 +186,65 @@ gave-as host other es es' same is = is ∙ ap (λ (h : ℕ). es ++ Gave h ∷ []
 pub took-as : (host other : ℕ) (es es' : List Event) → host ≡ other → es' ≡ es ++ Took host ∷ [] → es' ≡ es ++ Took other ∷ []
 took-as host other es es' same is = is ∙ ap (λ (h : ℕ). es ++ Took h ∷ []) same
 
-pub gave-bad-as : (host other until : ℕ) (es es' : List Event) → host ≡ other → es' ≡ es ++ GaveBad host until ∷ [] → es' ≡ es ++ GaveBad other until ∷ []
+pub gave-bad-as : (host other until : ℕ) (es es' : List Event) → host ≡ other → es' ≡ es ++ GaveBad host until ∷ []
+    → es' ≡ es ++ GaveBad other until ∷ []
 gave-bad-as host other until es es' same is = is ∙ ap (λ (h : ℕ). es ++ GaveBad h until ∷ []) same
 
 -- what is so of the request that was made and of the host that was asked is so of the job's
-pub begun-as : (j : Job) (source : List ℕ) (host : ℕ) (q : Request) (h : Host) (x : Exchange) → request_for j source ≡ q → host_at j host ≡ h → IsBegun x q h → IsBegun x (request_for j source) (host_at j host)
-begun-as j source host q h x same_q same_h is = subst (λ (r : Request). IsBegun x r (host_at j host)) (sym same_q) (subst (λ (k : Host). IsBegun x q k) (sym same_h) is)
+pub begun-as : (j : Job) (source : List ℕ) (host : ℕ) (q : Request) (h : Host) (x : Exchange) → request_for j source ≡ q
+    → host_at j host ≡ h → IsBegun x q h → IsBegun x (request_for j source) (host_at j host)
+begun-as j source host q h x same_q same_h is =
+    subst (λ (r : Request). IsBegun x r (host_at j host)) (sym same_q) (subst (λ (k : Host). IsBegun x q k) (sym same_h) is)
 
-pub whole-as : (j : Job) (source : List ℕ) (host : ℕ) (q : Request) (h : Host) (x : Exchange) (o : Outcome) → request_for j source ≡ q → host_at j host ≡ h → IsWhole x q h o → IsWhole x (request_for j source) (host_at j host) o
-whole-as j source host q h x o same_q same_h is = subst (λ (r : Request). IsWhole x r (host_at j host) o) (sym same_q) (subst (λ (k : Host). IsWhole x q k o) (sym same_h) is)
+pub whole-as : (j : Job) (source : List ℕ) (host : ℕ) (q : Request) (h : Host) (x : Exchange) (o : Outcome) → request_for j source ≡ q
+    → host_at j host ≡ h → IsWhole x q h o → IsWhole x (request_for j source) (host_at j host) o
+whole-as j source host q h x o same_q same_h is =
+    subst (λ (r : Request). IsWhole x r (host_at j host) o) (sym same_q) (subst (λ (k : Host). IsWhole x q k o) (sym same_h) is)
 
-pub broken-as : (j : Job) (source : List ℕ) (host : ℕ) (q : Request) (h : Host) (x : Exchange) (cause : Cause) → request_for j source ≡ q → host_at j host ≡ h → IsBroken x q h cause → IsBroken x (request_for j source) (host_at j host) cause
-broken-as j source host q h x cause same_q same_h is = subst (λ (r : Request). IsBroken x r (host_at j host) cause) (sym same_q) (subst (λ (k : Host). IsBroken x q k cause) (sym same_h) is)
+pub broken-as : (j : Job) (source : List ℕ) (host : ℕ) (q : Request) (h : Host) (x : Exchange) (cause : Cause) → request_for j source ≡ q
+    → host_at j host ≡ h → IsBroken x q h cause → IsBroken x (request_for j source) (host_at j host) cause
+broken-as j source host q h x cause same_q same_h is =
+    subst (λ (r : Request). IsBroken x r (host_at j host) cause) (sym same_q) (subst (λ (k : Host). IsBroken x q k cause) (sym same_h) is)
 
 -- memory was wanting before the dial had succeeded, or after it
-pub undialed : (may : List ℕ → List ℕ → Type 0) (q : Request) (host : Host) (old new : Told (List Exchange)) (dialed : Bool) → dialed ≡ false → AttemptAdds may q host (AttemptMemory dialed) old new → Grew old new []
-undialed may q host old new dialed is adds = elim dialed as (λ d. d ≡ false → AttemptAdds may q host (AttemptMemory d) old new → Grew old new []) [ true ↦ λ i a. absurd (cc) | false ↦ λ i a. a ] is adds
+pub undialed : (may : List ℕ → List ℕ → Type 0) (q : Request) (host : Host) (old new : Told (List Exchange)) (dialed : Bool)
+    → dialed ≡ false → AttemptAdds may q host (AttemptMemory dialed) old new → Grew old new []
+undialed may q host old new dialed is adds =
+    elim dialed as (λ d. d ≡ false → AttemptAdds may q host (AttemptMemory d) old new → Grew old new []) [
+      | true ↦ λ i a. absurd (cc)
+      | false ↦ λ i a. a
+    ] is adds
 
 pub unasked : (dialed : Bool) (old new : KeeperView) → dialed ≡ false → IsUnasked (LandedMemory dialed) old new → new ≡ old
-unasked dialed old new is same = elim dialed as (λ d. d ≡ false → IsUnasked (LandedMemory d) old new → new ≡ old) [ true ↦ λ i s. absurd (cc) | false ↦ λ i s. s ] is same
+unasked dialed old new is same =
+    elim dialed as (λ d. d ≡ false → IsUnasked (LandedMemory d) old new → new ≡ old) [
+      | true ↦ λ i s. absurd (cc)
+      | false ↦ λ i s. s
+    ] is same
 
-pub dialed_once : (may : List ℕ → List ℕ → Type 0) (q : Request) (host : Host) (old new : Told (List Exchange)) (dialed : Bool) → dialed ≡ true → AttemptAdds may q host (AttemptMemory dialed) old new → Adds may old new (λ x. IsBegun x q host × IsUnhurt x)
-dialed_once may q host old new dialed is adds = elim dialed as (λ d. d ≡ true → AttemptAdds may q host (AttemptMemory d) old new → Adds may old new (λ x. IsBegun x q host × IsUnhurt x)) [ true ↦ λ i a. record { entry = a.entry; grew = a.grew; is = (a.is.0.0, record { dialed = a.is.0.1; faults = a.is.1.faults refl; stopped = a.is.1.stopped; ended = a.is.1.ended }); may = a.may } | false ↦ λ i a. absurd (cc) ] is adds
+pub dialed_once : (may : List ℕ → List ℕ → Type 0) (q : Request) (host : Host) (old new : Told (List Exchange)) (dialed : Bool)
+    → dialed ≡ true → AttemptAdds may q host (AttemptMemory dialed) old new → Adds may old new (λ x. IsBegun x q host × IsUnhurt x)
+dialed_once may q host old new dialed is adds =
+    elim dialed as (λ d. d ≡ true → AttemptAdds may q host (AttemptMemory d) old new → Adds may old new
+    (λ x. IsBegun x q host × IsUnhurt x)) [
+      | true ↦
+          λ i a. record {
+            entry = a.entry;
+            grew = a.grew;
+            is =
+                (a.is.0.0, record { dialed = a.is.0.1; faults = a.is.1.faults refl; stopped = a.is.1.stopped; ended = a.is.1.ended });
+            may = a.may;
+          }
+      | false ↦ λ i a. absurd (cc)
+    ] is adds
 
 -- the period of a back-off by another name
-pub alone-noted : (host moment period other : ℕ) (es es' : List Event) → other ≡ period → es' ≡ es ++ GaveBad host (bad_until moment period) ∷ [] → es' ≡ es ++ GaveBad host (bad_until moment other) ∷ []
+pub alone-noted : (host moment period other : ℕ) (es es' : List Event) → other ≡ period
+    → es' ≡ es ++ GaveBad host (bad_until moment period) ∷ [] → es' ≡ es ++ GaveBad host (bad_until moment other) ∷ []
 alone-noted host moment period other es es' same is = is ∙ ap (λ (p : ℕ). es ++ GaveBad host (bad_until moment p) ∷ []) (sym same)
 
-pub alone-called : (w host job moment period other : ℕ) (es es' : List CallEntry) → other ≡ period → es' ≡ es ++ entry w (GiveBadCall host job (bad_until moment period)) Given ∷ [] → es' ≡ es ++ entry w (GiveBadCall host job (bad_until moment other)) Given ∷ []
-alone-called w host job moment period other es es' same is = is ∙ ap (λ (p : ℕ). es ++ entry w (GiveBadCall host job (bad_until moment p)) Given ∷ []) (sym same)
+pub alone-called : (w host job moment period other : ℕ) (es es' : List CallEntry) → other ≡ period
+    → es' ≡ es ++ entry w (GiveBadCall host job (bad_until moment period)) Given ∷ []
+    → es' ≡ es ++ entry w (GiveBadCall host job (bad_until moment other)) Given ∷ []
+alone-called w host job moment period other es es' same is =
+    is ∙ ap (λ (p : ℕ). es ++ entry w (GiveBadCall host job (bad_until moment p)) Given ∷ []) (sym same)

@@ -12,26 +12,29 @@ use Rattle.remote_transfer.specs.declared.answers.Landing.TheVariants as landing
 use Rattle.remote_transfer.specs.Landings.{IsLanding}
 use Rattle.job_run.specs.declared.step.Step.{Step}
 use Rattle.job_run.specs.declared.step.Step.TheVariants as step
-use Rattle.job_run.specs.declared.exchanging.Answer.{Answer}
-use Rattle.job_run.specs.Stages.{IsAtKeeper, HasObject, CanDeliver, AnswerIdle, StepIdle, answer_by, step_after}
+use Rattle.job_run.specs.Stages.{HasObject, CanDeliver, StepIdle, step_after}
 
--- what a whole reply leaves
-pub answer-idle : (o : Outcome) (where_is : Landing) (path object : List ℕ) (before : ℕ) (keeper : KeeperView) (r : Answer) → r ≡ answer_by o where_is → IsLanding where_is o path object before keeper → AnswerIdle r keeper
-answer-idle o where_is path object before keeper r is lands = subst (λ (a : Answer). AnswerIdle a keeper) (sym is) (go where_is lands)
+-- what follows from a whole reply
+pub whole-idle : (config : JobConfig) (host : ℕ) (o : Outcome) (where_is : Landing) (path object : List ℕ) (before : ℕ)
+    (keeper : KeeperView) (s : Step)
+    → s ≡ step_after config host o where_is → IsLanding where_is o path object before keeper → StepIdle s keeper
+whole-idle config host o where_is path object before keeper s is lands =
+    subst (λ (t : Step). StepIdle t keeper) (sym is) (go where_is lands)
   where
-    go : (w : Landing) → IsLanding w o path object before keeper → AnswerIdle (answer_by o w) keeper
-    go landing.Pending h = tt
+    other : (o.status ≢ 0 → IsIdle keeper)
+        → StepIdle (cond (not (nat_eq o.status 0) && (config.fallback && config.retry)) step.Here (step.Compiled (Remote host) o)) keeper
+    other idle = each (nat_eq o.status 0) refl (config.fallback && config.retry)
+      where
+        each : (done : Bool) → nat_eq o.status 0 ≡ done → (again : Bool)
+            → StepIdle (cond (not done && again) step.Here (step.Compiled (Remote host) o)) keeper
+        each true e again = tt
+        each false e true = idle (eqb-false o.status 0 e)
+        each false e false = tt
+
+    go : (w : Landing) → IsLanding w o path object before keeper → StepIdle (step_after config host o w) keeper
+    go landing.Pending h = other (λ failed. absurd (failed h.0))
     go landing.Lost h = h.1
-    go landing.Nothing h = tt
-
--- what follows from it
-pub whole-idle : (config : JobConfig) (host : ℕ) (o : Outcome) (path object : List ℕ) (keeper : KeeperView) (s : Step) → s ≡ step_after config host o → IsAtKeeper o path object keeper → StepIdle s keeper
-whole-idle config host o path object keeper s is held = subst (λ (t : Step). StepIdle t keeper) (sym is) (go (nat_eq o.status 0) refl (config.fallback && config.retry))
-  where
-    go : (done : Bool) → nat_eq o.status 0 ≡ done → (again : Bool) → StepIdle (cond (not done && again) step.Here (step.Compiled (Remote host) o)) keeper
-    go true e again = tt
-    go false e true = held.idle (eqb-false o.status 0 e)
-    go false e false = tt
+    go landing.Nothing h = other (λ failed. h.1)
 
 pub idle-step : (s : Step) (keeper : KeeperView) → IsIdle keeper → StepIdle s keeper
 idle-step step.Here keeper idle = idle
@@ -39,17 +42,20 @@ idle-step (step.Compiled by o) keeper idle = tt
 idle-step (step.Failed why) keeper idle = idle
 
 -- an object that is where it is to be can be delivered
-pub can-deliver : (by : By) (o : Outcome) (path object : List ℕ) (keeper : KeeperView) → HasObject by o path object keeper → CanDeliver by o keeper
+pub can-deliver : (by : By) (o : Outcome) (path object : List ℕ) (keeper : KeeperView) → HasObject by o path object keeper
+    → CanDeliver by o keeper
 can-deliver Cpp o path object keeper held = held.1
 can-deliver (Remote host) o path object keeper held = (λ well. is-there keeper path object (held.pending well), held.idle)
 can-deliver Here o path object keeper held = held.1
 can-deliver InPlace o path object keeper held = held.1
 
 -- a host's object is pending, and any other isn't
-pub can-commit : (by : By) (host : ℕ) (o : Outcome) (keeper : KeeperView) → by ≡ Remote host → o.status ≡ 0 → CanDeliver by o keeper → IsPending keeper
+pub can-commit : (by : By) (host : ℕ) (o : Outcome) (keeper : KeeperView) → by ≡ Remote host → o.status ≡ 0 → CanDeliver by o keeper
+    → IsPending keeper
 can-commit by host o keeper is well can = (subst (λ (b : By). CanDeliver b o keeper) is can).0 well
 
-pub has-pending : (by : By) (host : ℕ) (o : Outcome) (path object : List ℕ) (keeper : KeeperView) → by ≡ Remote host → o.status ≡ 0 → HasObject by o path object keeper → HasPending keeper path object
+pub has-pending : (by : By) (host : ℕ) (o : Outcome) (path object : List ℕ) (keeper : KeeperView) → by ≡ Remote host → o.status ≡ 0
+    → HasObject by o path object keeper → HasPending keeper path object
 has-pending by host o path object keeper is well held = (subst (λ (b : By). HasObject b o path object keeper) is held).pending well
 
 pub none-pending : (by : By) (o : Outcome) (keeper : KeeperView) → o.status ≢ 0 → CanDeliver by o keeper → IsIdle keeper

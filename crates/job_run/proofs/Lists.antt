@@ -59,8 +59,10 @@ advanced-append at (Met x ∷ xs) ys = advanced-append at xs ys
 pub numbered-append : (at : Places) (xs ys : List Act) → numbered at (xs ++ ys) ≡ numbered at xs ++ numbered (advanced at xs) ys
 numbered-append at [] ys = refl
 numbered-append at (Did (ran x) ∷ xs) ys = ap (λ es. event.Ran at.runs ∷ es) (numbered-append (record at { runs = at.runs + 1 }) xs ys)
-numbered-append at (Did (fetched x) ∷ xs) ys = ap (λ es. event.Fetched at.fetches ∷ es) (numbered-append (record at { fetches = at.fetches + 1 }) xs ys)
-numbered-append at (Did (exchanged x) ∷ xs) ys = ap (λ es. event.Exchanged at.exchanges ∷ es) (numbered-append (record at { exchanges = at.exchanges + 1 }) xs ys)
+numbered-append at (Did (fetched x) ∷ xs) ys =
+    ap (λ es. event.Fetched at.fetches ∷ es) (numbered-append (record at { fetches = at.fetches + 1 }) xs ys)
+numbered-append at (Did (exchanged x) ∷ xs) ys =
+    ap (λ es. event.Exchanged at.exchanges ∷ es) (numbered-append (record at { exchanges = at.exchanges + 1 }) xs ys)
 numbered-append at (Did (put x) ∷ xs) ys = ap (λ es. event.Put at.puts ∷ es) (numbered-append (record at { puts = at.puts + 1 }) xs ys)
 numbered-append at (Did (timed x) ∷ xs) ys = numbered-append at xs ys
 numbered-append at (Met (Takes host) ∷ xs) ys = ap (λ es. event.Took host ∷ es) (numbered-append at xs ys)
@@ -96,7 +98,8 @@ pub may-along : (p q : Peers) → ((a b : List ℕ) → p a b → q a b) → (xs
 may-along p q along [] h = tt
 may-along p q along (x ∷ xs) h = (λ e. along x.sent x.given (h.0 e), may-along p q along xs h.1)
 
-pub moments-append : (period : ℕ) (xs ys : List CallEntry) (ms ns : List ℕ) → AreMoments period xs ms → AreMoments period ys ns → AreMoments period (xs ++ ys) (ms ++ ns)
+pub moments-append : (period : ℕ) (xs ys : List CallEntry) (ms ns : List ℕ) → AreMoments period xs ms → AreMoments period ys ns
+    → AreMoments period (xs ++ ys) (ms ++ ns)
 moments-append period [] ys ms ns h k = subst (λ (zs : List ℕ). AreMoments period ys (zs ++ ns)) (sym h) k
 moments-append period (e ∷ xs) ys ms ns (first, more, of, rest, is) k =
     (first, more ++ ns, of, moments-append period xs ys more ns rest k, ap (λ (zs : List ℕ). zs ++ ns) is ∙ append_assoc first more ns)
@@ -105,17 +108,23 @@ pub reach-append : (j : Job) (xs ys : List Act) (a b c : At) → StrictReach j a
 reach-append j [] ys a b c h k = subst (λ (at : At). StrictReach j at ys c) (sym h) k
 reach-append j (x ∷ xs) ys a b c (d, next, strict, more) k = (d, next, strict, reach-append j xs ys d b c more k)
 
-pub serves-append : (wants : Wants) (w j : ℕ) (past xs ys : List SlotEvent) (es fs : List CallEntry) → Serves wants w j past xs es → Serves wants w j (past ++ xs) ys fs → Serves wants w j past (xs ++ ys) (es ++ fs)
+pub serves-append : (wants : Wants) (w j : ℕ) (past xs ys : List SlotEvent) (es fs : List CallEntry) → Serves wants w j past xs es
+    → Serves wants w j (past ++ xs) ys fs → Serves wants w j past (xs ++ ys) (es ++ fs)
 serves-append wants w j past [] ys [] fs h k = subst (λ (p : List SlotEvent). Serves wants w j p ys fs) (append-nil past) k
 serves-append wants w j past [] ys (e ∷ es) fs h k = absurd h
 serves-append wants w j past (x ∷ xs) ys [] fs h k = absurd h
-serves-append wants w j past (x ∷ xs) ys (e ∷ es) fs h k =
-    (h.0, go (job_call_of e) h.1 (λ m. serves-append wants w j (past ++ x ∷ []) xs ys es fs m (subst (λ (p : List SlotEvent). Serves wants w j p ys fs) (sym (append_assoc past (x ∷ []) xs)) k)) (λ r. serves-append wants w j past (x ∷ xs) ys es fs r k))
+serves-append wants w j past (x ∷ xs) ys (e ∷ es) fs h k = (
+  h.0,
+  go (job_call_of e) h.1 (λ m. serves-append wants w j (past ++ x ∷ []) xs ys es fs m
+      (subst (λ (p : List SlotEvent). Serves wants w j p ys fs) (sym (append_assoc past (x ∷ []) xs)) k))
+      (λ r. serves-append wants w j past (x ∷ xs) ys es fs r k),
+)
   where
     go : (a : JobCall) → ServedBy wants j past x a (Serves wants w j (past ++ x ∷ []) xs es) (Serves wants w j past (x ∷ xs) es)
         → (Serves wants w j (past ++ x ∷ []) xs es → Serves wants w j (past ++ x ∷ []) (xs ++ ys) (es ++ fs))
         → (Serves wants w j past (x ∷ xs) es → Serves wants w j past (x ∷ (xs ++ ys)) (es ++ fs))
-        → ServedBy wants j past x a (Serves wants w j (past ++ x ∷ []) (xs ++ ys) (es ++ fs)) (Serves wants w j past (x ∷ (xs ++ ys)) (es ++ fs))
+        → ServedBy wants j past x a (Serves wants w j (past ++ x ∷ []) (xs ++ ys) (es ++ fs))
+        (Serves wants w j past (x ∷ (xs ++ ys)) (es ++ fs))
     go (Adds i mask y) p met refused = (p.0, p.1, p.2, met p.3)
     go (Waits i mask kind) p met refused = (p.0, p.1, p.2, refused p.3)
     go (Draws job) p met refused = absurd p

@@ -1,5 +1,5 @@
 -- Waits for slots, and what they leave outstanding.
-use Rattle.std.proofs.Common.{◌≡◌, ℕ, ◌+◌, ◌*◌, ◌≤◌, Bool, true, false, ◌||◌, cond, List, [], ◌∷◌, ◌++◌, Some, None, map, replicate, refl, sym, ap, ◌∙◌, append_assoc, arith, true≢false}
+use Rattle.std.proofs.Common.{◌≡◌, ℕ, ◌+◌, ◌*◌, ◌<◌, ◌≤◌, Bool, true, false, ◌||◌, cond, List, [], ◌∷◌, ◌++◌, Some, None, map, replicate, refl, sym, ap, ◌∙◌, append_assoc, arith, true≢false}
 use Rattle.std.proofs.lemmas.List.{replicate_more, map-append}
 use Rattle.slot_table.specs.declared.mask.Mask.{Mask}
 use Rattle.slot_table.specs.declared.calls.CallEntry.{CallEntry}
@@ -16,7 +16,8 @@ use Rattle.job_run.specs.Waits.{refused_local, borrowed, refused_take, asked}
 use Rattle.job_run.specs.Worlds.{HasSpare, Spent}
 
 -- what one more call leaves outstanding
-pub outstanding-more : (es es' : List CallEntry) (e : CallEntry) → es' ≡ es ++ e ∷ [] → outstanding es' ≡ outstanding_then (outstanding es) e
+pub outstanding-more : (es es' : List CallEntry) (e : CallEntry) → es' ≡ es ++ e ∷ []
+    → outstanding es' ≡ outstanding_then (outstanding es) e
 outstanding-more es es' e is = ap outstanding is ∙ outstanding_from-append [] es (e ∷ [])
 
 -- a grant of this holding, and of no other, is outstanding
@@ -27,42 +28,71 @@ given-all : (x : Holding) → without x (x ∷ []) ≡ []
 given-all x = ap (λ (b : Bool). cond b [] (x ∷ [])) (holding_eq-refl x)
 
 -- a give of the one slot that is outstanding
-pub gave-local : (w job : ℕ) (es es' : List CallEntry) → outstanding es ≡ holding w job None ∷ [] → es' ≡ es ++ entry w (GiveLocal job) Given ∷ [] → outstanding es' ≡ []
-gave-local w job es es' held is = outstanding-more es es' (entry w (GiveLocal job) Given) is ∙ ap (without (holding w job None)) held ∙ given-all (holding w job None)
+pub gave-local : (w job : ℕ) (es : List CallEntry) {es' : List CallEntry} → outstanding es ≡ holding w job None ∷ []
+    → es' ≡ es ++ entry w (GiveLocal job) Given ∷ [] → outstanding es' ≡ []
+gave-local w job es {es' = es'} held is =
+    outstanding-more es es' (entry w (GiveLocal job) Given) is ∙ ap (without (holding w job None)) held ∙ given-all (holding w job None)
 
-pub gave-host : (w job host : ℕ) (es es' : List CallEntry) → outstanding es ≡ holding w job (Some host) ∷ [] → es' ≡ es ++ entry w (Give host job) Given ∷ [] → outstanding es' ≡ []
-gave-host w job host es es' held is = outstanding-more es es' (entry w (Give host job) Given) is ∙ ap (without (holding w job (Some host))) held ∙ given-all (holding w job (Some host))
+pub gave-host : (w job host : ℕ) (es : List CallEntry) {es' : List CallEntry} → outstanding es ≡ holding w job (Some host) ∷ []
+    → es' ≡ es ++ entry w (Give host job) Given ∷ [] → outstanding es' ≡ []
+gave-host w job host es {es' = es'} held is =
+    outstanding-more es es' (entry w (Give host job) Given) is ∙ ap (without (holding w job (Some host))) held
+    ∙ given-all (holding w job (Some host))
 
-pub gave-bad : (w job host until : ℕ) (es es' : List CallEntry) → outstanding es ≡ holding w job (Some host) ∷ [] → es' ≡ es ++ entry w (GiveBad host job until) Given ∷ [] → outstanding es' ≡ []
-gave-bad w job host until es es' held is = outstanding-more es es' (entry w (GiveBad host job until) Given) is ∙ ap (without (holding w job (Some host))) held ∙ given-all (holding w job (Some host))
+pub gave-bad : (w job host until : ℕ) (es : List CallEntry) {es' : List CallEntry} → outstanding es ≡ holding w job (Some host) ∷ []
+    → es' ≡ es ++ entry w (GiveBad host job until) Given ∷ [] → outstanding es' ≡ []
+gave-bad w job host until es {es' = es'} held is =
+    outstanding-more es es' (entry w (GiveBad host job until) Given) is ∙ ap (without (holding w job (Some host))) held
+    ∙ given-all (holding w job (Some host))
 
 -- the calls of a wait for a local slot, one more each time
-pub got-local : (w w' job : ℕ) (old mid new : List CallEntry) (n : ℕ) → w' ≡ w → mid ≡ old ++ replicate n (refused_local w job) → new ≡ mid ++ entry w' (TakeLocal job) (Local true) ∷ [] → (m : ℕ) × (new ≡ old ++ borrowed w job m)
-got-local w w' job old mid new n same is more =
-    (n, more ∙ ap (λ (u : ℕ). mid ++ entry u (TakeLocal job) (Local true) ∷ []) same ∙ ap (λ (es : List CallEntry). es ++ entry w (TakeLocal job) (Local true) ∷ []) is ∙ append_assoc old (replicate n (refused_local w job)) (entry w (TakeLocal job) (Local true) ∷ []))
+pub got-local : {w w' : ℕ} (job : ℕ) (old : List CallEntry) {mid new : List CallEntry} (n : ℕ) → w' ≡ w
+    → mid ≡ old ++ replicate n (refused_local w job) → new ≡ mid ++ entry w' (TakeLocal job) (Local true) ∷ []
+    → (m : ℕ) × (new ≡ old ++ borrowed w job m)
+got-local {w = w} {w' = w'} job old {mid = mid} {new = new} n same is more = (
+  n,
+  more ∙ ap (λ (u : ℕ). mid ++ entry u (TakeLocal job) (Local true) ∷ []) same
+      ∙ ap (λ (es : List CallEntry). es ++ entry w (TakeLocal job) (Local true) ∷ []) is
+      ∙ append_assoc old (replicate n (refused_local w job)) (entry w (TakeLocal job) (Local true) ∷ []),
+)
 
-pub refused-more : (w w' job : ℕ) (old mid new : List CallEntry) (n : ℕ) → w' ≡ w → mid ≡ old ++ replicate n (refused_local w job) → new ≡ mid ++ refused_local w' job ∷ [] → (m : ℕ) × (new ≡ old ++ replicate m (refused_local w job))
-refused-more w w' job old mid new n same is more =
-    (n + 1, more ∙ ap (λ (u : ℕ). mid ++ refused_local u job ∷ []) same ∙ ap (λ (es : List CallEntry). es ++ refused_local w job ∷ []) is ∙ append_assoc old (replicate n (refused_local w job)) (refused_local w job ∷ []) ∙ ap (λ (es : List CallEntry). old ++ es) (replicate_more n (refused_local w job)))
+pub refused-more : {w w' : ℕ} (job : ℕ) (old : List CallEntry) {mid new : List CallEntry} (n : ℕ) → w' ≡ w
+    → mid ≡ old ++ replicate n (refused_local w job) → new ≡ mid ++ refused_local w' job ∷ []
+    → (m : ℕ) × (new ≡ old ++ replicate m (refused_local w job))
+refused-more {w = w} {w' = w'} job old {mid = mid} {new = new} n same is more = (
+  n + 1,
+  more ∙ ap (λ (u : ℕ). mid ++ refused_local u job ∷ []) same ∙ ap (λ (es : List CallEntry). es ++ refused_local w job ∷ []) is
+      ∙ append_assoc old (replicate n (refused_local w job)) (refused_local w job ∷ [])
+      ∙ ap (λ (es : List CallEntry). old ++ es) (replicate_more n (refused_local w job)),
+)
 
 -- the calls of a wait for a host, with the moments that the clock gave
 abbrev pub Waited : ℕ → ℕ → Mask → List CallEntry → List CallEntry → Told (List ℕ) → Told (List ℕ) → Type 0
-Waited w job mask old now before moments = (refused : List ℕ) × (now ≡ old ++ map (refused_take w job mask) refused) × Grew before moments refused
+Waited w job mask old now before moments =
+    (refused : List ℕ) × (now ≡ old ++ map (refused_take w job mask) refused) × Grew before moments refused
 
-pub waited-more : (w w' job : ℕ) (mask : Mask) (old mid new : List CallEntry) (a b c d : Told (List ℕ)) (now : ℕ) → w' ≡ w → Waited w job mask old mid a b → Grew b c (now ∷ []) → Grew c d [] → new ≡ mid ++ refused_take w' job mask now ∷ [] → Waited w job mask old new a d
-waited-more w w' job mask old mid new a b c d now same (refused, is, grew) looked paused more = (
-  refused ++ now ∷ [],
-  more ∙ ap (λ (u : ℕ). mid ++ refused_take u job mask now ∷ []) same ∙ ap (λ (es : List CallEntry). es ++ refused_take w job mask now ∷ []) is
-      ∙ append_assoc old (map (refused_take w job mask) refused) (refused_take w job mask now ∷ []) ∙ ap (λ (es : List CallEntry). old ++ es) (sym (map-append (refused_take w job mask) refused (now ∷ []))),
-  Grew-join grew (Grew-join looked paused refl) refl,
-)
+pub waited-more : {w w' : ℕ} (job : ℕ) (mask : Mask) (old : List CallEntry) {mid new : List CallEntry} {a b c d : Told (List ℕ)} (now : ℕ)
+    → w' ≡ w → Waited w job mask old mid a b → Grew b c (now ∷ []) → Grew c d [] → new ≡ mid ++ refused_take w' job mask now ∷ []
+    → Waited w job mask old new a d
+waited-more {w = w} {w' = w'} job mask old {mid = mid} {new = new} {a = a} {b = b} {c = c} {d = d} now same (refused, is, grew) looked
+    paused more = (
+      refused ++ now ∷ [],
+      more ∙ ap (λ (u : ℕ). mid ++ refused_take u job mask now ∷ []) same
+          ∙ ap (λ (es : List CallEntry). es ++ refused_take w job mask now ∷ []) is
+          ∙ append_assoc old (map (refused_take w job mask) refused) (refused_take w job mask now ∷ [])
+          ∙ ap (λ (es : List CallEntry). old ++ es) (sym (map-append (refused_take w job mask) refused (now ∷ []))),
+      Grew-join grew (Grew-join looked paused refl) refl,
+    )
 
-pub got-host : (w w' job : ℕ) (mask : Mask) (old mid new : List CallEntry) (a b c : Told (List ℕ)) (now : ℕ) (reply : SlotReply) → w' ≡ w → Waited w job mask old mid a b → Grew b c (now ∷ []) → new ≡ mid ++ entry w' (Take job mask now) reply ∷ []
+pub got-host : {w w' : ℕ} (job : ℕ) (mask : Mask) (old : List CallEntry) {mid new : List CallEntry} {a b c : Told (List ℕ)} (now : ℕ)
+    (reply : SlotReply)
+    → w' ≡ w → Waited w job mask old mid a b → Grew b c (now ∷ []) → new ≡ mid ++ entry w' (Take job mask now) reply ∷ []
     → (refused : List ℕ) × (at : ℕ) × (new ≡ old ++ asked w job mask refused at reply) × Grew a c (refused ++ at ∷ [])
-got-host w w' job mask old mid new a b c now reply same (refused, is, grew) looked more = (
+got-host {w = w} {w' = w'} job mask old {mid = mid} {new = new} {a = a} {b = b} {c = c} now reply same (refused, is, grew) looked more = (
   refused,
   now,
-  more ∙ ap (λ (u : ℕ). mid ++ entry u (Take job mask now) reply ∷ []) same ∙ ap (λ (es : List CallEntry). es ++ entry w (Take job mask now) reply ∷ []) is
+  more ∙ ap (λ (u : ℕ). mid ++ entry u (Take job mask now) reply ∷ []) same
+      ∙ ap (λ (es : List CallEntry). es ++ entry w (Take job mask now) reply ∷ []) is
       ∙ append_assoc old (map (refused_take w job mask) refused) (entry w (Take job mask now) reply ∷ []),
   Grew-join grew looked refl,
 )
@@ -81,24 +111,47 @@ pub spent-none : (alone : Bool) (left spare : ℕ) → Spent alone left spare le
 spent-none alone left spare = record { alone_spent = λ e. omega arith; shared = λ e. refl; fell = omega arith }
 
 -- a call and an event
-pub spent-one : (alone : Bool) (left left' spare spare' : ℕ) → left' + 1 ≡ left → spare' + cost alone ≡ spare → Spent alone left spare left' spare'
-spent-one true left left' spare spare' one paid = record { alone_spent = λ e. omega (arith, one, paid); shared = λ e. absurd (true≢false e); fell = omega (arith, one) }
-spent-one false left left' spare spare' one paid = record { alone_spent = λ e. absurd (true≢false (sym e)); shared = λ e. omega (arith, paid); fell = omega (arith, one) }
+pub spent-one : (alone : Bool) (left left' spare spare' : ℕ) → left' + 1 ≡ left → spare' + cost alone ≡ spare
+    → Spent alone left spare left' spare'
+spent-one true left left' spare spare' one paid =
+    record { alone_spent = λ e. omega (arith, one, paid); shared = λ e. absurd (true≢false e); fell = omega (arith, one) }
+spent-one false left left' spare spare' one paid =
+    record { alone_spent = λ e. absurd (true≢false (sym e)); shared = λ e. omega (arith, paid); fell = omega (arith, one) }
+
+-- a call, or two, with at least as many events
+pub spent-call : {alone : Bool} {left left' spare spare' : ℕ} → left' < left → spare' + cost alone ≡ spare
+    → Spent alone left spare left' spare'
+spent-call {alone = true} {left = left} {left' = left'} {spare = spare} {spare' = spare'} less paid =
+    record { alone_spent = λ e. omega (arith, less, paid); shared = λ e. absurd (true≢false e); fell = omega (arith, less) }
+spent-call {alone = false} {left = left} {left' = left'} {spare = spare} {spare' = spare'} less paid =
+    record { alone_spent = λ e. absurd (true≢false (sym e)); shared = λ e. omega (arith, paid); fell = omega (arith, less) }
+
+pub spent-two : {alone : Bool} {left left' spare : ℕ} (mid : ℕ) {spare' : ℕ} → left' + 2 ≤ left → mid + cost alone ≡ spare
+    → spare' + cost alone ≡ mid → Spent alone left spare left' spare'
+spent-two {alone = true} {left = left} {left' = left'} {spare = spare} mid {spare' = spare'} less paid paid_too =
+    record { alone_spent = λ e. omega (arith, less, paid, paid_too); shared = λ e. absurd (true≢false e); fell = omega (arith, less) }
+spent-two {alone = false} {left = left} {left' = left'} {spare = spare} mid {spare' = spare'} less paid paid_too =
+    record { alone_spent = λ e. absurd (true≢false (sym e)); shared = λ e. omega (arith, paid, paid_too); fell = omega (arith, less) }
 
 -- an event and no call
 pub spent-left : (alone : Bool) (left left' spare : ℕ) → left' ≤ left → Spent alone left spare left' spare
 spent-left alone left left' spare less = record { alone_spent = λ e. omega (arith, less); shared = λ e. refl; fell = less }
 
-pub spent-then : (alone : Bool) (left left1 left2 spare spare1 spare2 : ℕ) → Spent alone left spare left1 spare1 → Spent alone left1 spare1 left2 spare2 → Spent alone left spare left2 spare2
-spent-then alone left left1 left2 spare spare1 spare2 first second = record {
-  alone_spent = λ e. let a : spare + left1 ≤ spare1 + left = first.alone_spent e in let b : spare1 + left2 ≤ spare2 + left1 = second.alone_spent e in omega (arith, a, b);
-  shared = λ e. second.shared e ∙ first.shared e;
-  fell = let a : left1 ≤ left = first.fell in let b : left2 ≤ left1 = second.fell in omega (arith, a, b);
-}
+pub spent-then : {alone : Bool} {left left1 left2 spare spare1 spare2 : ℕ} → Spent alone left spare left1 spare1
+    → Spent alone left1 spare1 left2 spare2 → Spent alone left spare left2 spare2
+spent-then {alone = alone} {left = left} {left1 = left1} {left2 = left2} {spare = spare} {spare1 = spare1} {spare2 = spare2} first second =
+    record {
+      alone_spent = λ e. let a : spare + left1 ≤ spare1 + left = first.alone_spent e
+          in let b : spare1 + left2 ≤ spare2 + left1 = second.alone_spent e in omega (arith, a, b);
+      shared = λ e. second.shared e ∙ first.shared e;
+      fell = let a : left1 ≤ left = first.fell in let b : left2 ≤ left1 = second.fell in omega (arith, a, b);
+    }
 
 -- what is left is still enough
-pub spare-then : (alone : Bool) (left left' spare spare' : ℕ) → Spent alone left spare left' spare' → HasSpare alone left spare → HasSpare alone left' spare'
-spare-then alone left left' spare spare' spent has e = let a : spare + left' ≤ spare' + left = spent.alone_spent e in let b : left ≤ spare = has e in omega (arith, a, b)
+pub spare-then : (alone : Bool) (left left' spare spare' : ℕ) → Spent alone left spare left' spare' → HasSpare alone left spare
+    → HasSpare alone left' spare'
+spare-then alone left left' spare spare' spent has e =
+    let a : spare + left' ≤ spare' + left = spent.alone_spent e in let b : left ≤ spare = has e in omega (arith, a, b)
 
 -- at the start, and at the end
 pub spare-first : (alone : Bool) (spare : ℕ) → 64 * cost alone ≤ spare → HasSpare alone 64 spare

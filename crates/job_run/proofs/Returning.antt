@@ -59,14 +59,17 @@ down-by (GiveLocal job) (Local given) = tt
 down-by (GiveLocal job) Given = tt
 
 -- a job of whose calls none was answered so doesn't find hosts down
-pub none-down : (wants : Wants) (worker j : ℕ) (past xs : List SlotEvent) (es : List CallEntry) → Serves wants worker j past xs es → NoneIsDown es → finds_down xs ≡ false
+pub none-down : (wants : Wants) (worker j : ℕ) (past xs : List SlotEvent) (es : List CallEntry) → Serves wants worker j past xs es
+    → NoneIsDown es → finds_down xs ≡ false
 none-down wants worker j past [] es serves none = refl
 none-down wants worker j past (x ∷ xs) [] serves none = absurd serves
 none-down wants worker j past (x ∷ xs) (e ∷ es) serves none =
     let rest = All-tail (λ e. e.reply ≢ Down) e es none in
-    go (job_call_of e) serves.1 (down-by e.call e.reply) (λ s. none-down wants worker j (past ++ x ∷ []) xs es s rest) (λ s. none-down wants worker j past (x ∷ xs) es s rest)
+    go (job_call_of e) serves.1 (down-by e.call e.reply) (λ s. none-down wants worker j (past ++ x ∷ []) xs es s rest)
+    (λ s. none-down wants worker j past (x ∷ xs) es s rest)
   where
-    met : (i : ℕ) (mask : Option Mask) (y : SlotEvent) → IsDownBy (Adds i mask y) e.reply → finds_down xs ≡ false → finds_down (y ∷ xs) ≡ false
+    met : (i : ℕ) (mask : Option Mask) (y : SlotEvent) → IsDownBy (Adds i mask y) e.reply → finds_down xs ≡ false
+        → finds_down (y ∷ xs) ≡ false
     met i mask (Takes host) by more = more
     met i mask (Gives host) by more = more
     met i mask (GivesBad host until) by more = more
@@ -74,9 +77,12 @@ none-down wants worker j past (x ∷ xs) (e ∷ es) serves none =
     met i mask TakesLocal by more = more
     met i mask GivesLocal by more = more
 
-    go : (a : JobCall) → ServedBy wants j past x a (Serves wants worker j (past ++ x ∷ []) xs es) (Serves wants worker j past (x ∷ xs) es) → IsDownBy a e.reply
-        → (Serves wants worker j (past ++ x ∷ []) xs es → finds_down xs ≡ false) → (Serves wants worker j past (x ∷ xs) es → finds_down (x ∷ xs) ≡ false) → finds_down (x ∷ xs) ≡ false
-    go (Adds i mask y) served by now later = subst (λ (z : SlotEvent). finds_down (z ∷ xs) ≡ false) served.2 (met i mask y by (now served.3))
+    go : (a : JobCall) → ServedBy wants j past x a (Serves wants worker j (past ++ x ∷ []) xs es) (Serves wants worker j past (x ∷ xs) es)
+        → IsDownBy a e.reply
+        → (Serves wants worker j (past ++ x ∷ []) xs es → finds_down xs ≡ false)
+        → (Serves wants worker j past (x ∷ xs) es → finds_down (x ∷ xs) ≡ false) → finds_down (x ∷ xs) ≡ false
+    go (Adds i mask y) served by now later =
+        subst (λ (z : SlotEvent). finds_down (z ∷ xs) ≡ false) served.2 (met i mask y by (now served.3))
     go (Waits i mask kind) served by now later = later served.3
     go (Draws o) served by now later = absurd served
     go Mismatched served by now later = absurd served

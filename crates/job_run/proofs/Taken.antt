@@ -31,7 +31,8 @@ or-swap false false = refl
 
 took-append : (k : ℕ) (past ys : List SlotEvent) → took k (past ++ ys) ≡ (took k past || took k ys)
 took-append k [] ys = refl
-took-append k (Takes host ∷ past) ys = ap (λ (b : Bool). nat_eq host k || b) (took-append k past ys) ∙ sym (or-assoc (nat_eq host k) (took k past) (took k ys))
+took-append k (Takes host ∷ past) ys =
+    ap (λ (b : Bool). nat_eq host k || b) (took-append k past ys) ∙ sym (or-assoc (nat_eq host k) (took k past) (took k ys))
 took-append k (Gives host ∷ past) ys = took-append k past ys
 took-append k (GivesBad host until ∷ past) ys = took-append k past ys
 took-append k (FindsDown ∷ past) ys = took-append k past ys
@@ -59,18 +60,23 @@ taken-after_preprocessor r past h = go (nat_eq r.status 0)
     go true = h
     go false = tt
 
-taken-after_whole : (j : Job) (host : ℕ) (source note : List ℕ) (o : Outcome) (past : List SlotEvent) → HasTaken past (after_whole j host source note o)
+taken-after_whole : (j : Job) (host : ℕ) (source note : List ℕ) (o : Outcome) (past : List SlotEvent)
+    → HasTaken past (after_whole j host source note o)
 taken-after_whole j host source note o past = go (nat_eq o.status 0) (j.config.fallback && j.config.retry)
   where
-    go : (a b : Bool) → HasTaken past (cond a (Finish (Remote host) note o) (cond b (Locally source note) (Over (Done o.status note o.err o.out (Remote host)))))
+    go : (a b : Bool)
+        → HasTaken past
+        (cond a (Finish (Remote host) note o) (cond b (Locally source note) (Over (Done o.status note o.err o.out (Remote host)))))
     go true b = tt
     go false true = tt
     go false false = tt
 
-taken-after_broken : (j : Job) (host : ℕ) (cause : Cause) (source note : List ℕ) (tried : List Tried) (past : List SlotEvent) → ((k : ℕ) → took k past ≡ (nat_eq host k || is_tried k tried)) → HasTaken past (after_broken j host cause source note tried)
+taken-after_broken : (j : Job) (host : ℕ) (cause : Cause) (source note : List ℕ) (tried : List Tried) (past : List SlotEvent)
+    → ((k : ℕ) → took k past ≡ (nat_eq host k || is_tried k tried)) → HasTaken past (after_broken j host cause source note tried)
 taken-after_broken j host cause source note tried past h = go (nat_lt (length tried + 1) j.config.tries)
   where
-    go : (b : Bool) → HasTaken past (cond b (Send source note (tried_too host cause tried)) (or_here j source note (Failed (Broke host cause))))
+    go : (b : Bool)
+        → HasTaken past (cond b (Send source note (tried_too host cause tried)) (or_here j source note (Failed (Broke host cause))))
     go true = h
     go false = taken-or_here j source note (Failed (Broke host cause)) past
 
@@ -88,33 +94,54 @@ either : (past : List SlotEvent) (c a b : At) → (c ≡ a) ⊎ (c ≡ b) → Ha
 either past c a b (inl e) ta tb = at-taken past c a e ta
 either past c a b (inr e) ta tb = at-taken past c b e tb
 
-taken-met : (j : Job) (at c : At) (x : SlotEvent) (past : List SlotEvent) → Next j at (Met x) c → HasTaken past at → HasTaken (past ++ x ∷ []) c
+taken-met : (j : Job) (at c : At) (x : SlotEvent) (past : List SlotEvent) → Next j at (Met x) c → HasTaken past at
+    → HasTaken (past ++ x ∷ []) c
 taken-met j Start c TakesLocal past h t = at-taken (past ++ TakesLocal ∷ []) c LentInPlace h.1 tt
 taken-met j LentInPlace c GivesLocal past h t = either (past ++ GivesLocal ∷ []) c (Over (Failed Station)) (Over (Failed Memory)) h tt tt
-taken-met j (RanInPlace r) c GivesLocal past h t = either (past ++ GivesLocal ∷ []) c (Over (Done r.status [] r.err r.out InPlace)) (Over (Failed Memory)) h tt tt
-taken-met j (Send source note tried) c FindsDown past h t = at-taken (past ++ FindsDown ∷ []) c (or_here j source note (Failed (no_host tried))) h.1 (taken-or_here j source note (Failed (no_host tried)) (past ++ FindsDown ∷ []))
-taken-met j (Send source note tried) c (Takes host) past h t = at-taken (past ++ Takes host ∷ []) c (Lent host source note tried) h.3 (λ k. took-append k past (Takes host ∷ []) ∙ or-swap (took k past) (nat_eq host k) ∙ ap (λ (b : Bool). nat_eq host k || b) (t k))
+taken-met j (RanInPlace r) c GivesLocal past h t =
+    either (past ++ GivesLocal ∷ []) c (Over (Done r.status [] r.err r.out InPlace)) (Over (Failed Memory)) h tt tt
+taken-met j (Send source note tried) c FindsDown past h t =
+    at-taken (past ++ FindsDown ∷ []) c (or_here j source note (Failed (no_host tried))) h.1
+    (taken-or_here j source note (Failed (no_host tried)) (past ++ FindsDown ∷ []))
+taken-met j (Send source note tried) c (Takes host) past h t =
+    at-taken (past ++ Takes host ∷ []) c (Lent host source note tried) h.3
+    (λ k. took-append k past (Takes host ∷ []) ∙ or-swap (took k past) (nat_eq host k) ∙ ap (λ (b : Bool). nat_eq host k || b) (t k))
 taken-met j (Send source note tried) c TakesLocal past h t = at-taken (past ++ TakesLocal ∷ []) c (LentHere source note) h.1 tt
-taken-met j (Lent host source note tried) c (Gives k) past h t = elim h.1 [ inl e ↦ at-taken (past ++ Gives k ∷ []) c (Over (Failed Station)) e.1 tt | inr e ↦ at-taken (past ++ Gives k ∷ []) c (Over (Failed Memory)) e tt ]
-taken-met j (RanThere host note r) c (Gives k) past h t = either (past ++ Gives k ∷ []) c (Finish Here note (outcome_of r)) (Over (Failed Memory)) h.1 tt tt
+taken-met j (Lent host source note tried) c (Gives k) past h t =
+    elim h.1 [
+      | inl e ↦ at-taken (past ++ Gives k ∷ []) c (Over (Failed Station)) e.1 tt
+      | inr e ↦ at-taken (past ++ Gives k ∷ []) c
+          (Over (Failed Memory)) e tt
+    ]
+taken-met j (RanThere host note r) c (Gives k) past h t =
+    either (past ++ Gives k ∷ []) c (Finish Here note (outcome_of r)) (Over (Failed Memory)) h.1 tt tt
 taken-met j (Sent host source note tried x) c (Gives k) past h t =
     elim h.1 [
-      | inl whole ↦ at-taken (past ++ Gives k ∷ []) c (after_whole j host source note whole.0) whole.2 (taken-after_whole j host source note whole.0 (past ++ Gives k ∷ []))
+      | inl whole ↦ at-taken (past ++ Gives k ∷ []) c (after_whole j host source note whole.0) whole.2
+          (taken-after_whole j host source note whole.0 (past ++ Gives k ∷ []))
       | inr more ↦ elim more [
-        | inl broken ↦ at-taken (past ++ Gives k ∷ []) c (after_broken j host broken.0 source note tried) broken.3 (taken-after_broken j host broken.0 source note tried (past ++ Gives k ∷ []) (λ i. stays i past (Gives k) refl ∙ t i))
+        | inl broken ↦ at-taken (past ++ Gives k ∷ []) c (after_broken j host broken.0 source note tried) broken.3
+            (taken-after_broken j host broken.0 source note tried (past ++ Gives k ∷ []) (λ i. stays i past (Gives k) refl ∙ t i))
         | inr e ↦ at-taken (past ++ Gives k ∷ []) c (Over (Failed Memory)) e tt
       ]
     ]
 taken-met j (Sent host source note tried x) c (GivesBad k until) past h t =
-    at-taken (past ++ GivesBad k until ∷ []) c (after_broken j host h.2.0 source note tried) h.2.4 (taken-after_broken j host h.2.0 source note tried (past ++ GivesBad k until ∷ []) (λ i. stays i past (GivesBad k until) refl ∙ t i))
+    at-taken (past ++ GivesBad k until ∷ []) c (after_broken j host h.2.0 source note tried) h.2.4
+    (taken-after_broken j host h.2.0 source note tried (past ++ GivesBad k until ∷ [])
+    (λ i. stays i past (GivesBad k until) refl ∙ t i))
 taken-met j (Locally source note) c TakesLocal past h t = at-taken (past ++ TakesLocal ∷ []) c (LentHere source note) h tt
-taken-met j (LentHere source note) c GivesLocal past h t = either (past ++ GivesLocal ∷ []) c (Over (Failed Station)) (Over (Failed Memory)) h tt tt
-taken-met j (RanHere note r) c GivesLocal past h t = either (past ++ GivesLocal ∷ []) c (Finish Here note (outcome_of r)) (Over (Failed Memory)) h tt tt
+taken-met j (LentHere source note) c GivesLocal past h t =
+    either (past ++ GivesLocal ∷ []) c (Over (Failed Station)) (Over (Failed Memory)) h tt tt
+taken-met j (RanHere note r) c GivesLocal past h t =
+    either (past ++ GivesLocal ∷ []) c (Finish Here note (outcome_of r)) (Over (Failed Memory)) h tt tt
 taken-met j at c x past h t = absurd h
 
 -- along acts
-pub taken-reach : (j : Job) (xs : List Act) (past : List SlotEvent) (at c : At) → StrictReach j at xs c → HasTaken past at → HasTaken (past ++ slots_of xs) c
-taken-reach j [] past at c e t = subst (λ (p : List SlotEvent). HasTaken p c) (sym (append-nil past)) (subst (λ (b : At). HasTaken past b) e t)
+pub taken-reach : (j : Job) (xs : List Act) (past : List SlotEvent) (at c : At) → StrictReach j at xs c → HasTaken past at
+    → HasTaken (past ++ slots_of xs) c
+taken-reach j [] past at c e t =
+    subst (λ (p : List SlotEvent). HasTaken p c) (sym (append-nil past)) (subst (λ (b : At). HasTaken past b) e t)
 taken-reach j (Did d ∷ xs) past at c (b, next, strict, more) t = taken-reach j xs past b c more (taken-did j at b d past next t)
 taken-reach j (Met x ∷ xs) past at c (b, next, strict, more) t =
-    subst (λ (p : List SlotEvent). HasTaken p c) (append_assoc past (x ∷ []) (slots_of xs)) (taken-reach j xs (past ++ x ∷ []) b c more (taken-met j at b x past next t))
+    subst (λ (p : List SlotEvent). HasTaken p c) (append_assoc past (x ∷ []) (slots_of xs))
+    (taken-reach j xs (past ++ x ∷ []) b c more (taken-met j at b x past next t))

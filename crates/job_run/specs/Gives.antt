@@ -13,14 +13,16 @@ use Rattle.farm_machine.specs.declared.reports.Event.TheVariants.{Gave, GaveBad}
 use Rattle.farm_machine.specs.Acts.{Gives, Act, Did, Met}
 
 -- with no period it was given back as any other
-pub record GavePlainly (period caller job host : ℕ) (mine mine' : List CallEntry) (events events' : List Event) (moments moments' : Told (List ℕ)) : Type 0 where
+pub record GavePlainly (period caller job host : ℕ) (mine mine' : List CallEntry) (events events' : List Event)
+    (moments moments' : Told (List ℕ)) : Type 0 where
   pub none : period ≡ 0
   pub called : mine' ≡ mine ++ entry caller (Give host job) Given ∷ []
   pub noted : events' ≡ events ++ Gave host ∷ []
   pub looked : Grew moments moments' []
 
 -- with one the host is left alone from a moment that the clock gave
-pub record GaveAlone (period caller job host : ℕ) (mine mine' : List CallEntry) (events events' : List Event) (moments moments' : Told (List ℕ)) : Type 0 where
+pub record GaveAlone (period caller job host : ℕ) (mine mine' : List CallEntry) (events events' : List Event)
+    (moments moments' : Told (List ℕ)) : Type 0 where
   pub some : 0 < period
   pub moment : ℕ
   pub within : moment < 2 ^ 64
@@ -30,18 +32,21 @@ pub record GaveAlone (period caller job host : ℕ) (mine mine' : List CallEntry
 
 abbrev pub GaveBroken : ℕ → ℕ → ℕ → ℕ → List CallEntry → List CallEntry → List Event → List Event → Told (List ℕ) → Told (List ℕ) → Type 0
 GaveBroken period caller job host mine mine' events events' moments moments' =
-    GavePlainly period caller job host mine mine' events events' moments moments' ⊎ GaveAlone period caller job host mine mine' events events' moments moments'
+    GavePlainly period caller job host mine mine' events events' moments moments'
+    ⊎ GaveAlone period caller job host mine mine' events events' moments moments'
 
 -- ---- which slots may be given back plainly
 
--- Nothing went wrong with the exchange, as far as it went: there was a link, which had no fault, took all that it was offered and didn't end.
+-- Nothing went wrong with the exchange, as far as it went: there was a link, which had no fault, took all that it was offered and didn't
+-- end.
 pub record IsUnhurt (x : Exchange) : Type 0 where
   pub dialed : x.dialed ≡ true
   pub faults : x.faults ≡ 0
   pub stopped : x.stopped ≡ false
   pub ended : x.ended ≡ false
 
--- these acts begin, looks at the clock left out, with a plain give only where nothing went wrong with the exchange before them, or there is no period
+-- these acts begin, looks at the clock left out, with a plain give only where nothing went wrong with the exchange before them, or there is
+-- no period
 abbrev pub GivesAfter : ℕ → Exchange → List Act → Type 0
 GivesAfter period x [] = ⊥
 GivesAfter period x (Did (timed moment) ∷ acts) = GivesAfter period x acts

@@ -10,7 +10,7 @@ use Rattle.farm_machine.specs.declared.reports.End.{End}
 use Rattle.farm_machine.specs.declared.reports.Places.{Places}
 use Rattle.farm_machine.specs.Acts.{Act, slots_of, deeds_of}
 use Rattle.farm_machine.specs.Causes.{HasEndCause, StationStands, KitLater}
-use Rattle.farm_machine.specs.Course.{Course}
+use Rattle.farm_machine.specs.TableCourse.{IsOfTable}
 use Rattle.farm_machine.specs.Farm.{wanted}
 use Rattle.farm_machine.specs.Honest.{Peers, Programs, AllRan}
 use Rattle.farm_machine.specs.Jobs.{Job, source_name}
@@ -27,38 +27,44 @@ use Rattle.job_run.specs.Stands.{KeeperStands, FetchEnds}
 abbrev pub NoneIsDown : List CallEntry → Type 0
 NoneIsDown calls = All (λ e. e.reply ≢ Down) calls
 
--- All that the job did, looks at the clock included, is one list of acts. Its deeds are the new entries of the kit's lists; its events name them,
--- numbered on from the places, which have grown by them; without looks at the clock it is a course, with this end. Its slot events are the new calls
--- on the slots, with the refused takes before each, and the moments that these calls name are those that the clock gave. With a period a host is
--- left alone after each exchange with which something went wrong, also where the job then ends for want of memory; and with or without one want of
--- memory stands in place of no host's answer where something went wrong with the exchange. Each run and each fetch is within its bounds. A failure
--- of a device goes with a rise of that device's count, and where the job didn't end by a failed run no count of the station rose. Where it didn't
--- end by a failed fetch, the keeper's overruns stand still. Where it made no exchange and didn't end by a failed fetch or a failed put, the keeper's
--- faults do so too, but for one of a removal where memory was wanting; where it ended by a failed fetch, that was one of its own source, within the
--- bound. Peers gave what peers may give, and programs left what programs may leave. Where station and keeper did nothing wrong the job is done, or
--- memory was wanting, if fallback is on, or if none of its exchanges broke and it found no hosts down. Over honest peers a job that was compiled
--- ends with an outcome that a compiler may answer.
-pub record JobRan {h : ℕ} (peers : Peers) (programs : Programs) (j : Job) (l : Limits h) (caller number : ℕ) (at next : Places) (events : List Event) (end : End) (mine_old mine_new : List CallEntry) (old new : KitView) : Type 0 where
+-- What a job did. All of it, looks at the clock included, is one list of acts.
+pub record JobRan {h : ℕ} (peers : Peers) (programs : Programs) (j : Job) (l : Limits h) (caller number : ℕ) (at next : Places)
+    (events : List Event) (end : End) (mine_old mine_new : List CallEntry) (old new : KitView) : Type 0 where
   pub acts : List Act
-  pub calls : List CallEntry
+  -- Its deeds are the new entries of the kit's lists; its events name them, numbered on from the places, which have grown by them.
   pub did : DidIn old new (deeds_of acts)
   pub named : events ≡ numbered at acts
   pub grown : next ≡ advanced at acts
-  pub course : Course j (untimed acts) end
+  -- Without looks at the clock it is a course of the table with this end, in which each run and each fetch is within its bounds, and want
+  -- of memory stands in place of no host's answer where something went wrong with the exchange.
+  pub course : IsOfTable j (untimed acts) end
   pub strict : StrictCourse j (untimed acts) end
+  -- Its slot events are the new calls on the slots, with the refused takes before each, and the moments that these calls name are those
+  -- that the clock gave. With a period a host is left alone after each exchange with which something went wrong, also where the job then
+  -- ends for want of memory.
+  pub calls : List CallEntry
   pub mine : mine_new ≡ mine_old ++ calls
   pub serves : Serves (wanted l) caller number [] (slots_of acts) calls
   pub moments : AreMoments j.config.period calls (moments_in (deeds_of acts))
   pub leaves : LeavesAlone j.config.period acts
+  -- A failure of a device goes with a rise of that device's count, and no count falls.
   pub cause : HasEndCause end old new
+  pub later : KitLater old new
+  -- Where the job didn't end by a failed run no count of the station rose. Where it didn't end by a failed fetch the keeper's overruns
+  -- stand still; where it made no exchange and didn't end by a failed put either, its faults do so too, but for one of a removal where
+  -- memory was wanting.
   pub station : StationStands end old.station new.station
   pub keeper : KeeperStands end acts old.keeper new.keeper
+  -- where it made no exchange and ended by a failed fetch, that was one of its own source, within the bound
   pub fetch : FetchEnds (source_name j) end acts old.keeper new.keeper
-  pub later : KitLater old new
+  -- peers gave what peers may give, and programs left what programs may leave
   pub may : IsTrue new.dialer.exchanges.known → MayAll peers (exchanges_in (deeds_of acts))
   pub ran : AllRan programs acts
+  -- Where station and keeper did nothing wrong the job is done, or memory was wanting, if fallback is on, or if none of its exchanges broke
+  -- and it found no hosts down.
   pub returns : j.config.fallback ≡ true → IsCalm old new → is_done_or_wanted end ≡ true
   pub returns_unbroken : NoneIsDown calls → NoneBroke j (untimed acts) → IsCalm old new → is_done_or_wanted end ≡ true
+  -- over honest peers a job that was compiled ends with an outcome that a compiler may answer
   pub answered : AnswersBy peers programs new j (untimed acts) end
 
 -- each next place is so small that a job's events can't pass the greatest

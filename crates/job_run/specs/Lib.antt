@@ -6,3 +6,5 @@ pub mod Gives
 pub mod Strict
 pub mod Stages
 pub mod Stands
+pub mod Events
+pub mod Seen

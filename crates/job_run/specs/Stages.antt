@@ -4,7 +4,6 @@ use Rattle.slot_table.specs.declared.limits.Limits.{Limits}
 use Rattle.slot_table.specs.declared.mask.Mask.{Mask}
 use Rattle.slot_table.specs.Mask.{in_mask}
 use Rattle.farm_types.specs.declared.ran.Outcome.{Outcome}
-use Rattle.edge_traits.specs.Causes.{Rose}
 use Rattle.edge_traits.specs.declared.faults.FetchFault.{FetchFault}
 use Rattle.edge_traits.specs.Keepers.{KeeperView, IsIdle, IsPending, HasPending, put_entries, Fetched, FetchCause}
 use Rattle.edge_traits.specs.FileMaps.{files_after}
@@ -16,17 +15,15 @@ use Rattle.farm_types.specs.declared.jobs.JobConfig.{JobConfig}
 use Rattle.farm_machine.specs.declared.reports.By.{By}
 use Rattle.farm_machine.specs.declared.reports.By.TheVariants.{Remote, Here}
 use Rattle.farm_machine.specs.declared.reports.Why5.{Why5}
-use Rattle.farm_machine.specs.declared.reports.Why5.TheVariants.{Memory, Broke}
+use Rattle.farm_machine.specs.declared.reports.Why5.TheVariants.{Put as NotPut, Broke}
 use Rattle.farm_machine.specs.declared.reports.End.TheVariants.{Done, Failed}
 use Rattle.farm_machine.specs.Causes.{HasEndCause}
-use Rattle.farm_machine.specs.Course.{Tried, is_tried, no_host, or_here, after_broken, after_whole, At, Start, Send, Locally, Finish, Over}
+use Rattle.farm_machine.specs.Course.{Tried, is_tried, no_host, or_here, after_broken, At, Start, Send, Locally, Finish, Over}
 use Rattle.farm_machine.specs.Jobs.{Job, CanRequest, output_name}
-use Rattle.job_run.specs.declared.exchanging.Answer.{Answer}
-use Rattle.job_run.specs.declared.exchanging.Answer.TheVariants as answer
 use Rattle.job_run.specs.declared.preparing.Prepared.{Prepared}
 use Rattle.job_run.specs.declared.preparing.Prepared.TheVariants as prepared
-use Rattle.job_run.specs.declared.sending.Asked.{Asked}
-use Rattle.job_run.specs.declared.sending.Asked.TheVariants as asked
+use Rattle.job_run.specs.declared.step.Asked.{Asked}
+use Rattle.job_run.specs.declared.step.Asked.TheVariants as asked
 use Rattle.job_run.specs.declared.step.Step.{Step}
 use Rattle.job_run.specs.declared.step.Step.TheVariants as step
 use Rattle.job_run.specs.Failures.{fetch_failure}
@@ -40,7 +37,8 @@ PreparedIs j l caller number old new (prepared.Over end) = Ended j l caller numb
 -- the whole file is there, within the bound, and no note; or the job has failed by the fault of a fetch within the bound
 abbrev pub FetchedIs : List ℕ → ℕ → KeeperView → KeeperView → Prepared → Type 0
 FetchedIs name bound old new (prepared.Ready source note) = Fetched name bound new source × (note ≡ [])
-FetchedIs name bound old new (prepared.Over end) = (fault : FetchFault) × FetchCause name bound old new fault × (end ≡ Failed (fetch_failure fault))
+FetchedIs name bound old new (prepared.Over end) =
+    (fault : FetchFault) × FetchCause name bound old new fault × (end ≡ Failed (fetch_failure fault))
 
 -- the job is to be compiled here: where it stands for that, or where its request is past the limits
 abbrev pub IsForHere : Job → List ℕ → List ℕ → At → Type 0
@@ -71,36 +69,18 @@ pub record HasPut {T E : Type 0} (path object : List ℕ) (old new : KeeperView)
   pub files : Became old.files new.files (files_after old.files.value path object result)
   pub puts : Grew old.puts new.puts (put_entries path object result)
 
--- what a whole reply is, by where its object is
-abbrev pub answer_by : Outcome → Landing → Answer
-answer_by o landing.Lost = answer.Lost
-answer_by o other = answer.Whole o
-
--- no put is pending but that of a whole reply
-abbrev pub AnswerIdle : Answer → KeeperView → Type 0
-AnswerIdle (answer.Whole o) keeper = Unit {0}
-AnswerIdle other keeper = IsIdle keeper
-
--- what follows from an exchange
-abbrev pub AnswerIs : {h : ℕ} → Job → Limits h → ℕ → ℕ → World → World → At → ℕ → List ℕ → List ℕ → List Tried → Answer → Type 0
-AnswerIs j l caller number old new at host source note tried (answer.Whole o) =
-    (object : List ℕ) × WentOn j l caller number old new at (after_whole j host source note (with_object o object)) × IsAtKeeper o (output_name j) object new.kit.keeper
-AnswerIs j l caller number old new at host source note tried answer.Lost =
-    (o : Outcome) × (o.status ≡ 0) × WentOn j l caller number old new at (Finish (Remote host) note o) × Rose old.kit.keeper.faults new.kit.keeper.faults
-AnswerIs j l caller number old new at host source note tried (answer.Broke cause) =
-    WentOn j l caller number old new at (after_broken j host cause source note tried) × HasEndCause (Failed (Broke host cause)) old.kit new.kit
-AnswerIs j l caller number old new at host source note tried answer.Memory = WentOn j l caller number old new at (Over (Failed Memory))
-
 -- Where a job stands that was compiled: an object of status 0 is to be put; another status of a host's is the job's.
 abbrev pub compiled_at : By → List ℕ → Outcome → At
-compiled_at (Remote host) note o = cond (nat_eq o.status 0) (Finish (Remote host) note o) (Over (Done o.status note o.err o.out (Remote host)))
+compiled_at (Remote host) note o =
+    cond (nat_eq o.status 0) (Finish (Remote host) note o) (Over (Done o.status note o.err o.out (Remote host)))
 compiled_at by note o = Finish by note o
 
 -- what the job does next
 abbrev pub StepIs : {h : ℕ} → Job → Limits h → ℕ → ℕ → World → World → At → List ℕ → List ℕ → Step → Type 0
 StepIs j l caller number old new at source note step.Here = WentOn j l caller number old new at (Locally source note)
 StepIs j l caller number old new at source note (step.Compiled by o) =
-    (object : List ℕ) × WentOn j l caller number old new at (compiled_at by note (with_object o object)) × HasObject by o (output_name j) object new.kit.keeper
+    (object : List ℕ) × WentOn j l caller number old new at (compiled_at by note (with_object o object)) × HasObject by o
+    (output_name j) object new.kit.keeper
 StepIs j l caller number old new at source note (step.Failed why) = Ended j l caller number old new at (Failed why)
 
 -- no put is pending but that of a compile
@@ -110,32 +90,31 @@ StepIdle other keeper = IsIdle keeper
 
 -- the same of a source that stands to be sent, where a request past the limits is for here
 abbrev pub SentIs : {h : ℕ} → Job → Limits h → ℕ → ℕ → World → World → List ℕ → List ℕ → Step → Type 0
-SentIs j l caller number old new source note step.Here = (at : At) × IsForHere j source note at × WentOn j l caller number old new (Send source note []) at
+SentIs j l caller number old new source note step.Here =
+    (at : At) × IsForHere j source note at × WentOn j l caller number old new (Send source note []) at
 SentIs j l caller number old new source note (step.Compiled by o) =
-    (object : List ℕ) × WentOn j l caller number old new (Send source note []) (compiled_at by note (with_object o object)) × HasObject by o (output_name j) object new.kit.keeper
+    (object : List ℕ) × WentOn j l caller number old new (Send source note []) (compiled_at by note (with_object o object))
+    × HasObject by o (output_name j) object new.kit.keeper
 SentIs j l caller number old new source note (step.Failed why) = Ended j l caller number old new (Send source note []) (Failed why)
 
--- what follows from a host's outcome
-abbrev pub step_after : JobConfig → ℕ → Outcome → Step
-step_after config host o = cond (not (nat_eq o.status 0) && (config.fallback && config.retry)) step.Here (step.Compiled (Remote host) o)
-
--- what follows from a compile in a slot of an entry that is this machine
-abbrev pub step_of : Result Outcome Why5 → Step
-step_of (Ok o) = step.Compiled Here o
-step_of (Err why) = step.Failed why
+-- what follows from a host's whole reply, by where its object is
+abbrev pub step_after : JobConfig → ℕ → Outcome → Landing → Step
+step_after config host o landing.Lost = step.Failed NotPut
+step_after config host o other =
+    cond (not (nat_eq o.status 0) && (config.fallback && config.retry)) step.Here (step.Compiled (Remote host) o)
 
 -- the mask has the entries that were not tried
 abbrev pub HasUntried : {h : ℕ} → Limits h → Mask → List Tried → Type 0
 HasUntried l mask tried = (i : ℕ) → in_mask mask i ≡ (nat_lt i l.count && not (is_tried i tried))
 
--- what came of one try: all hosts that are left are down; the job goes on; or the exchange broke
-abbrev pub AskedIs : {h : ℕ} → Job → Limits h → ℕ → ℕ → World → World → List ℕ → List ℕ → List Tried → Asked → Type 0
-AskedIs j l caller number old new source note tried asked.Down =
-    WentOn j l caller number old new (Send source note tried) (or_here j source note (Failed (no_host tried)))
-AskedIs j l caller number old new source note tried (asked.Over next) = StepIs j l caller number old new (Send source note tried) source note next
-AskedIs j l caller number old new source note tried (asked.Broke host cause) =
-    (host < l.count) × WentOn j l caller number old new (Send source note tried) (after_broken j host cause source note tried)
-    × HasEndCause (Failed (Broke host cause)) old.kit new.kit
+-- what came of one try, from where the job stood: all hosts that are left are down; the job goes on; or the exchange broke
+abbrev pub AskedIs : {h : ℕ} → Job → Limits h → ℕ → ℕ → World → World → At → List ℕ → List ℕ → List Tried → Asked → Type 0
+AskedIs j l caller number old new at source note tried asked.Down =
+    WentOn j l caller number old new at (or_here j source note (Failed (no_host tried)))
+AskedIs j l caller number old new at source note tried (asked.Over next) = StepIs j l caller number old new at source note next
+AskedIs j l caller number old new at source note tried (asked.Broke host cause) =
+    (host < l.count) × WentOn j l caller number old new at (after_broken j host cause source note tried) × HasEndCause
+    (Failed (Broke host cause)) old.kit new.kit
 
 abbrev pub AskedIdle : Asked → KeeperView → Type 0
 AskedIdle (asked.Over next) keeper = StepIdle next keeper
@@ -144,5 +123,6 @@ AskedIdle other keeper = IsIdle keeper
 -- an outcome that is the job's, or the job has failed
 abbrev pub CompiledIs : {h : ℕ} → Job → Limits h → ℕ → ℕ → World → World → At → List ℕ → Result (By × Outcome) Why5 → Type 0
 CompiledIs j l caller number old new at note (Ok made) =
-    (object : List ℕ) × WentOn j l caller number old new at (compiled_at made.0 note (with_object made.1 object)) × HasObject made.0 made.1 (output_name j) object new.kit.keeper
+    (object : List ℕ) × WentOn j l caller number old new at (compiled_at made.0 note (with_object made.1 object))
+    × HasObject made.0 made.1 (output_name j) object new.kit.keeper
 CompiledIs j l caller number old new at note (Err why) = Ended j l caller number old new at (Failed why)

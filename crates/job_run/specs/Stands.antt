@@ -24,18 +24,18 @@ pub record KeepsOrRemoves (acts : List Act) (old new : KeeperView) : Type 0 wher
   pub faults : HasNoExchange acts → IsRemoval old.faults new.faults
   pub overruns : Still old.overruns new.overruns
 
--- Where a job ends otherwise than by a failed fetch, the keeper's overruns stand still: no file was missing or too long. Where it made no exchange
--- and ends otherwise than by a failed fetch or a failed put, the keeper's faults stand still. At an end for want of memory they rose by one at most:
--- what was being written couldn't be removed. A failed fetch or put may raise a count by any number, so a body that tells it as want of memory, or
--- makes it again, has no proof over every keeper.
+-- Where a job ends otherwise than by a failed fetch, the keeper's overruns stand still: no file was missing or too long. Where it made no
+-- exchange and ends otherwise than by a failed fetch or a failed put, the keeper's faults stand still. At an end for want of memory they
+-- rose by one at most: what was being written couldn't be removed. A failed fetch or put may raise a count by any number, so a body that
+-- tells it as want of memory, or makes it again, has no proof over every keeper.
 abbrev pub KeeperStands : End → List Act → KeeperView → KeeperView → Type 0
 KeeperStands (Failed Fetch) acts old new = Unit {0}
 KeeperStands (Failed NotPut) acts old new = Still old.overruns new.overruns
 KeeperStands (Failed Memory) acts old new = KeepsOrRemoves acts old new
 KeeperStands end acts old new = KeepsStill acts old new
 
--- A job that made no exchange and ends by a failed fetch asked for this file within 41,943,040 bytes: the fetch failed, or the file isn't there or
--- is longer than that.
+-- A job that made no exchange and ends by a failed fetch asked for this file within 41,943,040 bytes: the fetch failed, or the file isn't
+-- there or is longer than that.
 abbrev pub FetchEnds : List ℕ → End → List Act → KeeperView → KeeperView → Type 0
 FetchEnds name (Failed Fetch) acts old new =
     HasNoExchange acts → (fault : FetchFault) × (fetch_failure fault ≡ Fetch) × FetchCause name 41943040 old new fault

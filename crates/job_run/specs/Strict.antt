@@ -1,5 +1,5 @@
 -- Courses in which each run and each fetch is within its bounds, and want of memory hides no fault of an exchange.
-use Rattle.std.specs.Prelude.{◌≡◌, ℕ, ◌≤◌, List, [], ◌∷◌, length}
+use Rattle.std.specs.Prelude.{◌≡◌, ◌≤◌, List, [], ◌∷◌, length}
 use Rattle.edge_traits.specs.Deeds.{ran, fetched}
 use Rattle.edge_traits.specs.Stations.{IsWithin}
 use Rattle.child_runner.specs.Runs.{preprocessor_bounds, compile_bounds, in_place_bounds}
@@ -11,9 +11,9 @@ use Rattle.farm_machine.specs.Course.{At, Start, LentInPlace, Sent, Over, Next, 
 use Rattle.farm_machine.specs.Jobs.{Job}
 use Rattle.job_run.specs.Gives.{IsUnhurt}
 
--- What an act keeps to that leads from one place to another: a run leaves no more than a preprocessor, a command in place or a compile may, by where
--- the job stands; a source that is fetched has at most 41,943,040 bytes; and where memory was wanting in place of a host's answer, nothing had gone
--- wrong with the exchange.
+-- What an act keeps to that leads from one place to another: a run leaves no more than a preprocessor, a command in place or a compile may,
+-- by where the job stands; a source that is fetched has at most 41,943,040 bytes; and where memory was wanting in place of a host's answer,
+-- nothing had gone wrong with the exchange.
 abbrev pub IsStrict : Act → At → At → Type 0
 IsStrict (Did (ran x)) Start to = IsWithin preprocessor_bounds x.ran
 IsStrict (Did (ran x)) LentInPlace to = IsWithin in_place_bounds x.ran

@@ -7,7 +7,7 @@ use Rattle.slot_table.specs.declared.calls.CallEntry.{CallEntry}
 use Rattle.slot_table.specs.declared.calls.SlotCall.TheVariants.{Take, TakeLocal}
 use Rattle.slot_table.specs.declared.calls.SlotReply.{SlotReply}
 use Rattle.slot_table.specs.declared.calls.SlotReply.TheVariants.{Got, Full, Down, Local}
-use Rattle.slot_table.specs.Grants.{host_of}
+use Rattle.slot_table.specs.Grants.{host_of, job_of}
 use Rattle.slot_table.specs.History.{entry, Holding, holding}
 use Rattle.slot_table.specs.Mask.{in_mask}
 
@@ -35,7 +35,8 @@ abbrev pub held_then : ℕ → ℕ → Option Grant → List Holding
 held_then caller job None = []
 held_then caller job (Some grant) = holding caller job (Some (host_of grant)) ∷ []
 
--- the slot is of an entry of the mask
-pub record IsEntry {h : ℕ} (l : Limits h) (mask : Mask) (grant : Grant) : Type 0 where
+-- the slot is for this job, and of an entry of the mask
+pub record IsEntry {h : ℕ} (l : Limits h) (number : ℕ) (mask : Mask) (grant : Grant) : Type 0 where
+  pub job : job_of grant ≡ number
   pub entry : host_of grant < l.count
   pub masked : in_mask mask (host_of grant) ≡ true

@@ -32,7 +32,8 @@ pub record World : Type 1 where
   pub places : Places
 
 abbrev pub world : KitView → Peers → Programs → List CallEntry → List Event → Places → World
-world kit peers programs mine events places = record { kit = kit; peers = peers; programs = programs; mine = mine; events = events; places = places }
+world kit peers programs mine events places =
+    record { kit = kit; peers = peers; programs = programs; mine = mine; events = events; places = places }
 
 -- of each host the job took a slot before exactly where the place says so
 abbrev pub HasTaken : List SlotEvent → At → Type 0
@@ -60,8 +61,8 @@ pub record Went {h : ℕ} (j : Job) (l : Limits h) (caller number : ℕ) (old ne
   pub same_peers : SameRelation old.peers new.peers
   pub same_programs : SameRelation3 old.programs new.programs
 
--- The job came from one place to another and goes on there: no count of the station rose, no overrun of the keeper, and without an exchange none of
--- its faults.
+-- The job came from one place to another and goes on there: no count of the station rose, no overrun of the keeper, and without an exchange
+-- none of its faults.
 pub record WentOn {h : ℕ} (j : Job) (l : Limits h) (caller number : ℕ) (old new : World) (at to : At) : Type 0 where
   pub went : Went j l caller number old new at to
   pub station : NoneRose old.kit.station new.kit.station

@@ -4,17 +4,18 @@ ghost use Rattle.edge_traits.specs.Causes.{HasPutCause, Still};
 ghost use Rattle.edge_traits.specs.Told.{Grew};
 ghost use Rattle.edge_traits.specs.FileMaps.{IsStaged};
 ghost use Rattle.edge_traits.specs.Keepers.{IsIdle};
-ghost use Rattle.edge_traits.specs.Kits.{kit_view};
 ghost use Rattle.slot_table.specs.declared.limits.Limits.{Limits};
 ghost use Rattle.slot_table.specs.declared.calls.CallEntry.{CallEntry};
 ghost use Rattle.farm_machine.specs.declared.reports.End.TheVariants.{Done};
-ghost use Rattle.farm_machine.specs.Jobs.{Job, output_name};
+ghost use Rattle.farm_machine.specs.Devices.{devices};
 ghost use Rattle.reply_stream.specs.Objects.{with_object};
 ghost use Rattle.job_run.specs.Stages.{compiled_at, HasObject, CanDeliver, HasPut};
-ghost use Rattle.job_run.specs.Worlds.{world, Ended};
+ghost use Rattle.job_run.specs.Seen.{seen, job_in};
+ghost use Rattle.job_run.specs.Worlds.{Ended};
 
 use crate::journal::Journal;
 use crate::step::why_not_put;
+use crate::task::Task;
 use edge_traits::{Clock, Dialer, EdgeFault, Keeper, Kit, Station};
 use farm_machine::{By, End};
 use farm_types::{Bytes, Outcome};
@@ -43,7 +44,8 @@ fn put_object<K: Keeper>(
     requires output { ¬ (IsStaged output.now) }
     requires status { outcome.now.status ≡ 0 }
     requires object { CanDeliver by outcome.now (K.shows keeper.old) }
-    ensures put { (object : List ℕ) → HasObject by outcome.now output.now object (K.shows keeper.old) → HasPut output.now object (K.shows keeper.old) (K.shows keeper.new) result }
+    ensures put { (object : List ℕ) → HasObject by outcome.now output.now object (K.shows keeper.old) →
+        HasPut output.now object (K.shows keeper.old) (K.shows keeper.new) result }
     ensures idle { IsIdle (K.shows keeper.new) }
     ensures fetches { Grew (K.shows keeper.old).fetches (K.shows keeper.new).fetches [] }
     ensures overruns { Still (K.shows keeper.old).overruns (K.shows keeper.new).overruns }
@@ -57,30 +59,29 @@ fn put_object<K: Keeper>(
 
 /// Puts the object of status 0, and ends the job.
 pub(crate) fn deliver<D: Dialer, S: Station, K: Keeper, C: Clock>(
-    alloc: Global,
+    task: &Task<'_>,
     by: By,
     note: Bytes,
     outcome: Outcome,
-    output: &Bytes,
     kit: &mut Kit<D, S, K, C>,
     journal: &mut Journal,
 ) -> End
-    requires output { ¬ (IsStaged output.now) }
     requires object { CanDeliver by outcome (K.shows kit.old.keeper) }
     requires left { 1 ≤ journal.old.left }
     ensures left { journal.old.left ≤ journal.new.left + 1 }
     ensures fell { journal.new.left ≤ journal.old.left }
     ensures idle { IsIdle (K.shows kit.new.keeper) }
-    ensures ended { (h : ℕ) (l : Limits h) (caller number : ℕ) (mine : List CallEntry) (j : Job) (object : List ℕ) → output_name j ≡ output.now → HasObject by outcome (output_name j) object (K.shows kit.old.keeper) →
-        Ended j l caller number
-        (world (kit_view D.shows S.shows K.shows C.shows kit.old) (D.may_give kit.old.dialer) (S.ran kit.old.station) mine journal.old.events.items journal.old.places)
-        (world (kit_view D.shows S.shows K.shows C.shows kit.new) (D.may_give kit.new.dialer) (S.ran kit.new.station) mine journal.new.events.items journal.new.places)
+    ensures ended { (h : ℕ) (l : Limits h) (caller number : ℕ) (mine : List CallEntry) (object : List ℕ) →
+        HasObject by outcome task.now.output.now object (K.shows kit.old.keeper) →
+        Ended (job_in task.now) l caller number
+        (seen (devices D.shows S.shows K.shows C.shows D.may_give S.ran) kit.old mine journal.old)
+        (seen (devices D.shows S.shows K.shows C.shows D.may_give S.ran) kit.new mine journal.new)
         (compiled_at by note (with_object outcome object)) result }
 {
     if outcome.status != 0 {
         return done(by, note, outcome);
     }
-    match put_object(alloc, by, &outcome, output, &mut kit.keeper) {
+    match put_object(task.alloc, by, &outcome, task.output, &mut kit.keeper) {
         Ok(()) => {
             journal.put();
             done(by, note, outcome)

@@ -1,48 +1,25 @@
 // One exchange with a host, in a slot of it.
-ghost use Rattle.std.specs.Prelude.{◌≡◌, ℕ, ◌+◌, ◌≤◌, ◌<◌, ◌^◌, false, List, [], ◌∷◌, ◌++◌, Some};
-ghost use Rattle.farm_types.specs.Fits.{RequestFits};
-ghost use Rattle.edge_traits.specs.FileMaps.{IsStaged};
+ghost use Rattle.std.specs.Prelude.{◌≡◌, ℕ, ◌+◌, false, List, [], ◌∷◌, Some};
 ghost use Rattle.edge_traits.specs.Keepers.{IsIdle};
-ghost use Rattle.edge_traits.specs.Kits.{kit_view};
-ghost use Rattle.edge_traits.specs.Told.{Grew};
-ghost use Rattle.slot_table.specs.History.{entry, holding, outstanding};
+ghost use Rattle.slot_table.specs.History.{holding};
 ghost use Rattle.slot_table.specs.Grants.{host_of, job_of};
 ghost use Rattle.slot_table.specs.Limits.{is_local};
 ghost use Rattle.farm_machine.specs.Course.{Tried, Lent};
-ghost use Rattle.farm_machine.specs.Jobs.{Job, request_for, host_at, output_name};
+ghost use Rattle.farm_machine.specs.Devices.{devices};
+ghost use Rattle.job_run.specs.Events.{lent_events};
 ghost use Rattle.job_run.specs.Gives.{GaveBroken};
-ghost use Rattle.job_run.specs.Stages.{AnswerIs, AnswerIdle, answer_by};
-ghost use Rattle.job_run.specs.Worlds.{world, HasSpare, Spent};
+ghost use Rattle.job_run.specs.Seen.{seen, job_in, IsSent, IsElsewhere, IsHolding, StaysFree};
+ghost use Rattle.job_run.specs.Stages.{AskedIs, AskedIdle};
 
 use crate::journal::Journal;
-use edge_traits::{Cause, Clock, Dialer, Keeper, Kit, Station};
-use farm_machine::Event;
-use farm_types::{Bytes, Host, Outcome, Request};
-use remote_transfer::{Landed, Landing, attempt_into};
+use crate::step::{Asked, Step, after_whole};
+use crate::task::Task;
+use edge_traits::{Clock, Dialer, Keeper, Kit, Station};
+use farm_machine::{Event, Why5};
+use farm_types::{Host, Request};
+use remote_transfer::{Landed, attempt_into};
 use slot_table::host_backoff::bad_until;
 use slot_table::{Grant, Grants};
-use std::alloc::Global;
-
-/// What came of an exchange.
-#[derive(Drop)]
-pub(crate) enum Answer {
-    /// The reply was whole. The outcome comes without its object: of status 0 a put of it is pending.
-    Whole(Outcome),
-    /// The reply was whole, of status 0, and the keeper failed while its object was written.
-    Lost,
-    Broke(Cause),
-    Memory,
-}
-
-/// What a whole reply is, by where its object is.
-fn answer_by(outcome: Outcome, landing: Landing) -> Answer
-    ensures { result ≡ answer_by outcome landing }
-{
-    match landing {
-        Landing::Pending | Landing::Nothing => Answer::Whole(outcome),
-        Landing::Lost => Answer::Lost,
-    }
-}
 
 /// Gives the slot back of a host that broke an exchange. The host is left alone for the period, if there is one.
 fn give_broken<G: Grants, C: Clock>(
@@ -52,21 +29,13 @@ fn give_broken<G: Grants, C: Clock>(
     clock: &mut C,
     journal: &mut Journal,
 )
-    requires ready { G.ready grants.old }
-    requires spare { HasSpare G.alone journal.old.left (G.spare grants.old) }
-    requires out { outstanding (G.mine grants.old) ≡ holding (G.number grants.old) (job_of grant) (Some (host_of grant)) ∷ [] }
     requires remote { is_local (G.limits grants.old) (host_of grant) ≡ false }
-    requires left { 1 ≤ journal.old.left }
-    ensures ready { G.ready grants.new }
-    ensures home { G.home grants.new ≡ G.home grants.old }
-    ensures place { G.place grants.new ≡ G.place grants.old }
-    ensures limits { G.limits grants.new ≡ G.limits grants.old }
-    ensures number { G.number grants.new ≡ G.number grants.old }
-    ensures none { outstanding (G.mine grants.new) ≡ [] }
-    ensures spent { Spent G.alone journal.old.left (G.spare grants.old) journal.new.left (G.spare grants.new) }
-    ensures left { journal.new.left + 1 ≡ journal.old.left }
+    requires lent { IsHolding G.ready G.alone G.spare G.mine
+        (holding (G.caller_number grants.old) (job_of grant) (Some (host_of grant)) ∷ []) grants.old journal.old.left 1 }
+    ensures free { StaysFree G.ready G.alone G.spare G.mine grants.old grants.new journal.old.left journal.new.left 1 }
+    ensures follows { G.follows grants.old grants.new }
     ensures places { journal.new.places ≡ journal.old.places }
-    ensures gave { GaveBroken period (G.number grants.old) (job_of grant) (host_of grant) (G.mine grants.old) (G.mine grants.new)
+    ensures gave { GaveBroken period (G.caller_number grants.old) (job_of grant) (host_of grant) (G.mine grants.old) (G.mine grants.new)
         journal.old.events.items journal.new.events.items (C.shows clock.old).moments (C.shows clock.new).moments }
 {
     let host = grant.host();
@@ -80,48 +49,36 @@ fn give_broken<G: Grants, C: Clock>(
     journal.note(Event::GaveBad { host, until });
 }
 
-/// Makes one exchange with the host that the slot is of, with the object into a put of this name, and gives the slot back.
+/// Makes one exchange with the host that the slot is of, with the object into a put of the output's name, and gives the slot back.
 pub(crate) fn exchange<D: Dialer, S: Station, K: Keeper, C: Clock, G: Grants>(
-    alloc: Global,
+    task: &Task<'_>,
     request: &Request,
     host: &Host,
-    output: &Bytes,
-    period: u32,
     grant: Grant,
     grants: &mut G,
     kit: &mut Kit<D, S, K, C>,
     journal: &mut Journal,
-) -> Answer
-    requires fits { RequestFits request.now.words request.now.source }
-    requires remote { host.now.local ≡ false }
+) -> Asked
+    requires sent { IsSent task.now request.now }
+    requires elsewhere { IsElsewhere (job_in task.now) (G.limits grants.old) host.now grant }
     requires idle { IsIdle (K.shows kit.old.keeper) }
-    requires name { ¬ (IsStaged output.now) }
-    requires elsewhere { is_local (G.limits grants.old) (host_of grant) ≡ false }
-    requires ready { G.ready grants.old }
-    requires spare { HasSpare G.alone journal.old.left (G.spare grants.old) }
-    requires out { outstanding (G.mine grants.old) ≡ holding (G.number grants.old) (job_of grant) (Some (host_of grant)) ∷ [] }
-    requires left { 2 ≤ journal.old.left }
-    ensures ready { G.ready grants.new }
-    ensures home { G.home grants.new ≡ G.home grants.old }
-    ensures place { G.place grants.new ≡ G.place grants.old }
-    ensures limits { G.limits grants.new ≡ G.limits grants.old }
-    ensures number { G.number grants.new ≡ G.number grants.old }
-    ensures none { outstanding (G.mine grants.new) ≡ [] }
-    ensures spent { Spent G.alone journal.old.left (G.spare grants.old) journal.new.left (G.spare grants.new) }
-    ensures left { journal.old.left ≤ journal.new.left + 2 }
-    ensures idle { AnswerIdle result (K.shows kit.new.keeper) }
-    ensures answered { (j : Job) (note : List ℕ) (tried : List Tried) → request_for j request.now.source ≡ request.now → host_at j (host_of grant) ≡ host.now → j.config.period ≡ period → output_name j ≡ output.now →
-        AnswerIs j (G.limits grants.old) (G.number grants.old) (job_of grant)
-        (world (kit_view D.shows S.shows K.shows C.shows kit.old) (D.may_give kit.old.dialer) (S.ran kit.old.station) (G.mine grants.old) journal.old.events.items journal.old.places)
-        (world (kit_view D.shows S.shows K.shows C.shows kit.new) (D.may_give kit.new.dialer) (S.ran kit.new.station) (G.mine grants.new) journal.new.events.items journal.new.places)
-        (Lent (host_of grant) request.now.source note tried) (host_of grant) request.now.source note tried result }
+    requires lent { IsHolding G.ready G.alone G.spare G.mine
+        (holding (G.caller_number grants.old) (job_of grant) (Some (host_of grant)) ∷ []) grants.old journal.old.left lent_events }
+    ensures free { StaysFree G.ready G.alone G.spare G.mine grants.old grants.new journal.old.left journal.new.left lent_events }
+    ensures follows { G.follows grants.old grants.new }
+    ensures idle { AskedIdle result (K.shows kit.new.keeper) }
+    ensures asked { (note : List ℕ) (tried : List Tried) →
+        AskedIs (job_in task.now) (G.limits grants.old) (G.caller_number grants.old) (job_of grant)
+        (seen (devices D.shows S.shows K.shows C.shows D.may_give S.ran) kit.old (G.mine grants.old) journal.old)
+        (seen (devices D.shows S.shows K.shows C.shows D.may_give S.ran) kit.new (G.mine grants.new) journal.new)
+        (Lent (host_of grant) request.now.source note tried) request.now.source note tried result }
 {
     let at = grant.host();
     match attempt_into(
-        alloc,
+        task.alloc,
         request,
         host,
-        output,
+        task.output,
         &mut kit.dialer,
         &mut kit.keeper,
     ) {
@@ -129,23 +86,23 @@ pub(crate) fn exchange<D: Dialer, S: Station, K: Keeper, C: Clock, G: Grants>(
             journal.exchanged();
             grants.give(grant);
             journal.note(Event::Gave(at));
-            answer_by(outcome, landing)
+            Asked::Over(after_whole(task.config, at, outcome, landing))
         }
         Landed::Broke(cause) => {
             journal.exchanged();
-            give_broken(grant, period, grants, &mut kit.clock, journal);
-            Answer::Broke(cause)
+            give_broken(grant, task.config.period, grants, &mut kit.clock, journal);
+            Asked::Broke { host: at, cause }
         }
         Landed::Memory { dialed: true } => {
             journal.exchanged();
             grants.give(grant);
             journal.note(Event::Gave(at));
-            Answer::Memory
+            Asked::Over(Step::Failed(Why5::Memory))
         }
         Landed::Memory { dialed: false } => {
             grants.give(grant);
             journal.note(Event::Gave(at));
-            Answer::Memory
+            Asked::Over(Step::Failed(Why5::Memory))
         }
     }
 }

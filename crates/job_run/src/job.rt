@@ -1,19 +1,21 @@
 //! The course of one job.
 ghost use Rattle.std.specs.Prelude.{◌≡◌, ℕ, ◌+◌, ◌*◌, ◌<◌, ◌≤◌, false, List, [], length, OnErr};
 ghost use Rattle.farm_types.specs.declared.jobs.JobConfig.{JobConfig};
-ghost use Rattle.arg_scan.specs.Class.{IsRemote, input_place, plan_of};
+ghost use Rattle.arg_scan.specs.Class.{input_place, plan_of};
 ghost use Rattle.arg_scan.specs.Names.{is_preprocessed};
-ghost use Rattle.arg_strip.specs.Words.{output_of};
 ghost use Rattle.edge_traits.specs.Keepers.{IsIdle};
 ghost use Rattle.edge_traits.specs.Kits.{kit_view};
 ghost use Rattle.edge_traits.specs.Told.{SameRelation, SameRelation3};
 ghost use Rattle.slot_table.specs.History.{outstanding};
 ghost use Rattle.slot_table.specs.Grants.{cost};
 ghost use Rattle.farm_machine.specs.Course.{Start, Send};
+ghost use Rattle.farm_machine.specs.Devices.{devices};
 ghost use Rattle.farm_machine.specs.Jobs.{job_of, may_be_sent, AreLimitsOf};
+ghost use Rattle.job_run.specs.Events.{local_events, compile_events, sent_events};
 ghost use Rattle.job_run.specs.JobRuns.{JobRan, AreSmall};
+ghost use Rattle.job_run.specs.Seen.{seen, job_in, IsFree, StaysFree, IsAskable};
 ghost use Rattle.job_run.specs.Stages.{CompiledIs};
-ghost use Rattle.job_run.specs.Worlds.{world, Ended, HasSpare, Spent};
+ghost use Rattle.job_run.specs.Worlds.{Ended};
 
 use crate::EventRoom;
 use crate::ending::deliver;
@@ -22,6 +24,7 @@ use crate::local_fallback::compile_here;
 use crate::preparing::{Prepared, prepare};
 use crate::sending::ask_if_fits;
 use crate::step::{Step, done_in_place, why_not_run};
+use crate::task::Task;
 use crate::waiting::borrow_local;
 use arg_scan::{Scan, scan};
 use arg_strip::strip;
@@ -45,22 +48,14 @@ fn run_in_place<R: Wait, D: Dialer, S: Station, K: Keeper, C: Clock, G: Grants>(
 ) -> End
     requires some { 0 < length words.now }
     requires idle { IsIdle (K.shows kit.old.keeper) }
-    requires ready { G.ready grants.old }
-    requires spare { HasSpare G.alone journal.old.left (G.spare grants.old) }
-    requires none { outstanding (G.mine grants.old) ≡ [] }
-    requires left { 3 ≤ journal.old.left }
-    ensures ready { G.ready grants.new }
-    ensures home { G.home grants.new ≡ G.home grants.old }
-    ensures place { G.place grants.new ≡ G.place grants.old }
-    ensures limits { G.limits grants.new ≡ G.limits grants.old }
-    ensures number { G.number grants.new ≡ G.number grants.old }
-    ensures none { outstanding (G.mine grants.new) ≡ [] }
-    ensures spent { Spent G.alone journal.old.left (G.spare grants.old) journal.new.left (G.spare grants.new) }
+    requires free { IsFree G.ready G.alone G.spare G.mine grants.old journal.old.left local_events }
+    ensures free { StaysFree G.ready G.alone G.spare G.mine grants.old grants.new journal.old.left journal.new.left local_events }
+    ensures follows { G.follows grants.old grants.new }
     ensures idle { IsIdle (K.shows kit.new.keeper) }
     ensures ended { (config : JobConfig) → may_be_sent (job_of words.now config) ≡ false →
-        Ended (job_of words.now config) (G.limits grants.old) (G.number grants.old) number
-        (world (kit_view D.shows S.shows K.shows C.shows kit.old) (D.may_give kit.old.dialer) (S.ran kit.old.station) (G.mine grants.old) journal.old.events.items journal.old.places)
-        (world (kit_view D.shows S.shows K.shows C.shows kit.new) (D.may_give kit.new.dialer) (S.ran kit.new.station) (G.mine grants.new) journal.new.events.items journal.new.places)
+        Ended (job_of words.now config) (G.limits grants.old) (G.caller_number grants.old) number
+        (seen (devices D.shows S.shows K.shows C.shows D.may_give S.ran) kit.old (G.mine grants.old) journal.old)
+        (seen (devices D.shows S.shows K.shows C.shows D.may_give S.ran) kit.new (G.mine grants.new) journal.new)
         Start result }
 {
     let grant = borrow_local(rt, number, grants, &mut kit.clock);
@@ -83,119 +78,69 @@ fn run_in_place<R: Wait, D: Dialer, S: Station, K: Keeper, C: Clock, G: Grants>(
 /// Compiles a source elsewhere, or here.
 fn compile_source<R: Wait, D: Dialer, S: Station, K: Keeper, C: Clock, G: Grants>(
     rt: &R,
-    alloc: Global,
-    words: &Words,
-    number: u32,
-    config: &JobConfig,
+    task: &Task<'_>,
     source: Bytes,
-    output: &Bytes,
     grants: &mut G,
     kit: &mut Kit<D, S, K, C>,
     journal: &mut Journal,
 ) -> Result<(By, Outcome), Why5>
-    requires remote { IsRemote words.now }
-    requires output { output.now ≡ output_of words.now }
+    requires hosts { AreLimitsOf (G.limits grants.old) task.now.config.now.hosts }
     requires idle { IsIdle (K.shows kit.old.keeper) }
-    requires hosts { AreLimitsOf (G.limits grants.old) config.now.hosts }
-    requires entries { length config.now.hosts.list ≤ 16 }
-    requires some { 1 ≤ config.now.tries }
-    requires tries { config.now.tries ≤ 16 }
-    requires ready { G.ready grants.old }
-    requires spare { HasSpare G.alone journal.old.left (G.spare grants.old) }
-    requires none { outstanding (G.mine grants.old) ≡ [] }
-    requires left { 52 ≤ journal.old.left }
-    ensures ready { G.ready grants.new }
-    ensures home { G.home grants.new ≡ G.home grants.old }
-    ensures place { G.place grants.new ≡ G.place grants.old }
-    ensures limits { G.limits grants.new ≡ G.limits grants.old }
-    ensures number { G.number grants.new ≡ G.number grants.old }
-    ensures none { outstanding (G.mine grants.new) ≡ [] }
-    ensures spent { Spent G.alone journal.old.left (G.spare grants.old) journal.new.left (G.spare grants.new) }
-    ensures left { journal.old.left ≤ journal.new.left + 52 }
+    requires free { IsFree G.ready G.alone G.spare G.mine grants.old journal.old.left compile_events }
+    ensures free { StaysFree G.ready G.alone G.spare G.mine grants.old grants.new journal.old.left journal.new.left compile_events }
+    ensures follows { G.follows grants.old grants.new }
     ensures idle { OnErr result (IsIdle (K.shows kit.new.keeper)) }
-    ensures compiled { (note : List ℕ) → CompiledIs (job_of words.now config.now) (G.limits grants.old) (G.number grants.old) number
-        (world (kit_view D.shows S.shows K.shows C.shows kit.old) (D.may_give kit.old.dialer) (S.ran kit.old.station) (G.mine grants.old) journal.old.events.items journal.old.places)
-        (world (kit_view D.shows S.shows K.shows C.shows kit.new) (D.may_give kit.new.dialer) (S.ran kit.new.station) (G.mine grants.new) journal.new.events.items journal.new.places)
+    ensures compiled { (note : List ℕ) → CompiledIs (job_in task.now) (G.limits grants.old) (G.caller_number grants.old) task.now.number
+        (seen (devices D.shows S.shows K.shows C.shows D.may_give S.ran) kit.old (G.mine grants.old) journal.old)
+        (seen (devices D.shows S.shows K.shows C.shows D.may_give S.ran) kit.new (G.mine grants.new) journal.new)
         (Send source note []) note result }
 {
-    let Ok(sent) = strip(alloc, words) else {
+    let Ok(sent) = strip(task.alloc, task.words) else {
         return Err(Why5::Memory);
     };
     let request = Request {
         words: sent,
         source,
     };
-    match ask_if_fits(
-        rt, alloc, words, number, config, &request, output, grants, kit, journal,
-    ) {
+    match ask_if_fits(rt, task, &request, grants, kit, journal) {
         Step::Compiled { by, outcome } => Ok((by, outcome)),
         Step::Failed(why) => Err(why),
         Step::Here => {
-            match compile_here(
-                rt,
-                alloc,
-                words,
-                number,
-                &request.source,
-                grants,
-                kit,
-                journal,
-            ) {
-                Ok(outcome) => Ok((By::Here, outcome)),
-                Err(why) => Err(why),
-            }
+            let outcome = compile_here(rt, task, &request.source, grants, kit, journal)?;
+            Ok((By::Here, outcome))
         }
     }
 }
 
-/// Does a job whose command may be sent. `input` is the place of its source, and `output` the name of its object.
+/// Does a job whose command may be sent. `input` is the place of its source.
 fn run_remote<R: Wait, D: Dialer, S: Station, K: Keeper, C: Clock, G: Grants>(
     rt: &R,
-    alloc: Global,
-    words: &Words,
-    number: u32,
-    config: &JobConfig,
+    task: &Task<'_>,
     input: u64,
     preprocessed: bool,
-    output: &Bytes,
     grants: &mut G,
     kit: &mut Kit<D, S, K, C>,
     journal: &mut Journal,
 ) -> End
-    requires remote { IsRemote words.now }
-    requires input { input ≡ input_place words.now }
-    requires preprocessed { preprocessed ≡ is_preprocessed (plan_of words.now).ending }
-    requires output { output.now ≡ output_of words.now }
+    requires input { input ≡ input_place task.now.words.now }
+    requires preprocessed { preprocessed ≡ is_preprocessed (plan_of task.now.words.now).ending }
+    requires hosts { AreLimitsOf (G.limits grants.old) task.now.config.now.hosts }
     requires idle { IsIdle (K.shows kit.old.keeper) }
-    requires hosts { AreLimitsOf (G.limits grants.old) config.now.hosts }
-    requires entries { length config.now.hosts.list ≤ 16 }
-    requires some { 1 ≤ config.now.tries }
-    requires tries { config.now.tries ≤ 16 }
-    requires ready { G.ready grants.old }
-    requires spare { HasSpare G.alone journal.old.left (G.spare grants.old) }
-    requires none { outstanding (G.mine grants.old) ≡ [] }
-    requires left { 54 ≤ journal.old.left }
-    ensures ready { G.ready grants.new }
-    ensures home { G.home grants.new ≡ G.home grants.old }
-    ensures place { G.place grants.new ≡ G.place grants.old }
-    ensures limits { G.limits grants.new ≡ G.limits grants.old }
-    ensures number { G.number grants.new ≡ G.number grants.old }
-    ensures none { outstanding (G.mine grants.new) ≡ [] }
-    ensures spent { Spent G.alone journal.old.left (G.spare grants.old) journal.new.left (G.spare grants.new) }
+    requires free { IsFree G.ready G.alone G.spare G.mine grants.old journal.old.left sent_events }
+    ensures free { StaysFree G.ready G.alone G.spare G.mine grants.old grants.new journal.old.left journal.new.left sent_events }
+    ensures follows { G.follows grants.old grants.new }
     ensures idle { IsIdle (K.shows kit.new.keeper) }
-    ensures ended { Ended (job_of words.now config.now) (G.limits grants.old) (G.number grants.old) number
-        (world (kit_view D.shows S.shows K.shows C.shows kit.old) (D.may_give kit.old.dialer) (S.ran kit.old.station) (G.mine grants.old) journal.old.events.items journal.old.places)
-        (world (kit_view D.shows S.shows K.shows C.shows kit.new) (D.may_give kit.new.dialer) (S.ran kit.new.station) (G.mine grants.new) journal.new.events.items journal.new.places)
+    ensures ended { Ended (job_in task.now) (G.limits grants.old) (G.caller_number grants.old) task.now.number
+        (seen (devices D.shows S.shows K.shows C.shows D.may_give S.ran) kit.old (G.mine grants.old) journal.old)
+        (seen (devices D.shows S.shows K.shows C.shows D.may_give S.ran) kit.new (G.mine grants.new) journal.new)
         Start result }
 {
-    let (source, note) = match prepare(alloc, words, input, preprocessed, kit, journal) {
+    let (source, note) = match prepare(task.alloc, task.words, input, preprocessed, kit, journal) {
         Prepared::Ready { source, note } => (source, note),
         Prepared::Over(end) => return end,
     };
-    match compile_source(
-        rt, alloc, words, number, config, source, output, grants, kit, journal,
-    ) {
-        Ok((by, outcome)) => deliver(alloc, by, note, outcome, output, kit, journal),
+    match compile_source(rt, task, source, grants, kit, journal) {
+        Ok((by, outcome)) => deliver(task, by, note, outcome, kit, journal),
         Err(why) => End::Failed(why),
     }
 }
@@ -212,26 +157,16 @@ fn run_class<R: Wait, D: Dialer, S: Station, K: Keeper, C: Clock, G: Grants>(
     journal: &mut Journal,
 ) -> End
     requires word { 0 < length words.now }
-    requires idle { IsIdle (K.shows kit.old.keeper) }
+    requires config { IsAskable config.now }
     requires hosts { AreLimitsOf (G.limits grants.old) config.now.hosts }
-    requires entries { length config.now.hosts.list ≤ 16 }
-    requires some { 1 ≤ config.now.tries }
-    requires tries { config.now.tries ≤ 16 }
-    requires ready { G.ready grants.old }
-    requires spare { HasSpare G.alone journal.old.left (G.spare grants.old) }
-    requires none { outstanding (G.mine grants.old) ≡ [] }
-    requires left { 54 ≤ journal.old.left }
-    ensures ready { G.ready grants.new }
-    ensures home { G.home grants.new ≡ G.home grants.old }
-    ensures place { G.place grants.new ≡ G.place grants.old }
-    ensures limits { G.limits grants.new ≡ G.limits grants.old }
-    ensures number { G.number grants.new ≡ G.number grants.old }
-    ensures none { outstanding (G.mine grants.new) ≡ [] }
-    ensures spent { Spent G.alone journal.old.left (G.spare grants.old) journal.new.left (G.spare grants.new) }
+    requires idle { IsIdle (K.shows kit.old.keeper) }
+    requires free { IsFree G.ready G.alone G.spare G.mine grants.old journal.old.left sent_events }
+    ensures free { StaysFree G.ready G.alone G.spare G.mine grants.old grants.new journal.old.left journal.new.left sent_events }
+    ensures follows { G.follows grants.old grants.new }
     ensures idle { IsIdle (K.shows kit.new.keeper) }
-    ensures ended { Ended (job_of words.now config.now) (G.limits grants.old) (G.number grants.old) number
-        (world (kit_view D.shows S.shows K.shows C.shows kit.old) (D.may_give kit.old.dialer) (S.ran kit.old.station) (G.mine grants.old) journal.old.events.items journal.old.places)
-        (world (kit_view D.shows S.shows K.shows C.shows kit.new) (D.may_give kit.new.dialer) (S.ran kit.new.station) (G.mine grants.new) journal.new.events.items journal.new.places)
+    ensures ended { Ended (job_of words.now config.now) (G.limits grants.old) (G.caller_number grants.old) number
+        (seen (devices D.shows S.shows K.shows C.shows D.may_give S.ran) kit.old (G.mine grants.old) journal.old)
+        (seen (devices D.shows S.shows K.shows C.shows D.may_give S.ran) kit.new (G.mine grants.new) journal.new)
         Start result }
 {
     match scan(alloc, words) {
@@ -240,19 +175,16 @@ fn run_class<R: Wait, D: Dialer, S: Station, K: Keeper, C: Clock, G: Grants>(
             output,
             preprocessed,
             ..
-        } => run_remote(
-            rt,
-            alloc,
-            words,
-            number,
-            config,
-            input,
-            preprocessed,
-            &output,
-            grants,
-            kit,
-            journal,
-        ),
+        } => {
+            let task = Task {
+                alloc,
+                words,
+                number,
+                config,
+                output: &output,
+            };
+            run_remote(rt, &task, input, preprocessed, grants, kit, journal)
+        }
         Scan::Memory => End::Failed(Why5::Memory),
         Scan::Empty | Scan::Local { .. } => {
             run_in_place(rt, alloc, words, number, grants, kit, journal)
@@ -287,9 +219,9 @@ pub fn run_job<R: Wait, D: Dialer, S: Station, K: Keeper, C: Clock, G: Grants>(
     requires places { AreSmall places.old }
     requires pending { IsIdle (K.shows kit.old.keeper) }
     ensures number { result.number ≡ number }
-    ensures worker { result.worker ≡ G.number grants.old }
+    ensures worker { result.worker ≡ G.caller_number grants.old }
     ensures ran { JobRan (D.may_give kit.new.dialer) (S.ran kit.new.station) (job_of words.now config.now)
-        (G.limits grants.old) (G.number grants.old) number places.old places.new result.events result.end
+        (G.limits grants.old) (G.caller_number grants.old) number places.old places.new result.events result.end
         (G.mine grants.old) (G.mine grants.new)
         (kit_view D.shows S.shows K.shows C.shows kit.old)
         (kit_view D.shows S.shows K.shows C.shows kit.new) }
@@ -301,10 +233,7 @@ pub fn run_job<R: Wait, D: Dialer, S: Station, K: Keeper, C: Clock, G: Grants>(
 
     // What is the same for all jobs stays so.
     ensures ready { G.ready grants.new }
-    ensures home { G.home grants.new ≡ G.home grants.old }
-    ensures place { G.place grants.new ≡ G.place grants.old }
-    ensures limits { G.limits grants.new ≡ G.limits grants.old }
-    ensures caller { G.number grants.new ≡ G.number grants.old }
+    ensures follows { G.follows grants.old grants.new }
     ensures peers { SameRelation (D.may_give kit.old.dialer) (D.may_give kit.new.dialer) }
     ensures programs { SameRelation3 (S.ran kit.old.station) (S.ran kit.new.station) }
 {

@@ -1,68 +1,61 @@
 // The compile in a slot of an entry that is this machine.
-ghost use Rattle.std.specs.Prelude.{◌≡◌, ℕ, ◌+◌, ◌≤◌, true, List, [], ◌∷◌, Some};
-ghost use Rattle.farm_types.specs.declared.jobs.JobConfig.{JobConfig};
-ghost use Rattle.arg_scan.specs.Class.{IsRemote};
+ghost use Rattle.std.specs.Prelude.{◌≡◌, ℕ, true, List, [], ◌∷◌, Some};
 ghost use Rattle.edge_traits.specs.Keepers.{IsIdle};
-ghost use Rattle.edge_traits.specs.Kits.{kit_view};
-ghost use Rattle.slot_table.specs.History.{holding, outstanding};
-ghost use Rattle.slot_table.specs.Grants.{host_of, job_of as job_of_grant};
+ghost use Rattle.slot_table.specs.History.{holding};
+ghost use Rattle.slot_table.specs.Grants.{host_of, job_of};
 ghost use Rattle.farm_machine.specs.Course.{Tried, Lent};
-ghost use Rattle.farm_machine.specs.Jobs.{job_of, is_local_host};
-ghost use Rattle.job_run.specs.Stages.{LocalIs};
-ghost use Rattle.job_run.specs.Worlds.{world, HasSpare, Spent};
+ghost use Rattle.farm_machine.specs.Devices.{devices};
+ghost use Rattle.farm_machine.specs.Jobs.{is_local_host};
+ghost use Rattle.job_run.specs.Events.{lent_events};
+ghost use Rattle.job_run.specs.Seen.{seen, job_in, IsHolding, StaysFree};
+ghost use Rattle.job_run.specs.Stages.{StepIs};
 
 use crate::journal::Journal;
-use crate::step::{outcome_of, why_not_run};
+use crate::step::{Step, outcome_of, why_not_run};
+use crate::task::Task;
 use child_runner::compile;
 use edge_traits::{Clock, Dialer, Keeper, Kit, Station};
-use farm_machine::{Event, Why5};
-use farm_types::{Bytes, Outcome, Words};
+use farm_machine::{By, Event};
+use farm_types::Bytes;
 use slot_table::{Grant, Grants};
-use std::alloc::Global;
 
 /// Compiles here, in a slot of an entry that is this machine.
 pub(crate) fn compile_lent<D: Dialer, S: Station, K: Keeper, C: Clock, G: Grants>(
-    alloc: Global,
-    words: &Words,
+    task: &Task<'_>,
     source: &Bytes,
     grant: Grant,
     grants: &mut G,
     kit: &mut Kit<D, S, K, C>,
     journal: &mut Journal,
-) -> Result<Outcome, Why5>
-    requires remote { IsRemote words.now }
+) -> Step
+    requires here { is_local_host (job_in task.now) (host_of grant) ≡ true }
     requires idle { IsIdle (K.shows kit.old.keeper) }
-    requires ready { G.ready grants.old }
-    requires spare { HasSpare G.alone journal.old.left (G.spare grants.old) }
-    requires out { outstanding (G.mine grants.old) ≡ holding (G.number grants.old) (job_of_grant grant) (Some (host_of grant)) ∷ [] }
-    requires left { 2 ≤ journal.old.left }
-    ensures ready { G.ready grants.new }
-    ensures home { G.home grants.new ≡ G.home grants.old }
-    ensures place { G.place grants.new ≡ G.place grants.old }
-    ensures limits { G.limits grants.new ≡ G.limits grants.old }
-    ensures number { G.number grants.new ≡ G.number grants.old }
-    ensures none { outstanding (G.mine grants.new) ≡ [] }
-    ensures spent { Spent G.alone journal.old.left (G.spare grants.old) journal.new.left (G.spare grants.new) }
-    ensures left { journal.old.left ≤ journal.new.left + 2 }
+    requires lent { IsHolding G.ready G.alone G.spare G.mine
+        (holding (G.caller_number grants.old) (job_of grant) (Some (host_of grant)) ∷ []) grants.old journal.old.left lent_events }
+    ensures free { StaysFree G.ready G.alone G.spare G.mine grants.old grants.new journal.old.left journal.new.left lent_events }
+    ensures follows { G.follows grants.old grants.new }
     ensures idle { IsIdle (K.shows kit.new.keeper) }
-    ensures compiled { (config : JobConfig) (note : List ℕ) (tried : List Tried) → is_local_host (job_of words.now config) (host_of grant) ≡ true →
-        LocalIs (job_of words.now config) (G.limits grants.old) (G.number grants.old) (job_of_grant grant)
-        (world (kit_view D.shows S.shows K.shows C.shows kit.old) (D.may_give kit.old.dialer) (S.ran kit.old.station) (G.mine grants.old) journal.old.events.items journal.old.places)
-        (world (kit_view D.shows S.shows K.shows C.shows kit.new) (D.may_give kit.new.dialer) (S.ran kit.new.station) (G.mine grants.new) journal.new.events.items journal.new.places)
-        (Lent (host_of grant) source.now note tried) note result }
+    ensures compiled { (note : List ℕ) (tried : List Tried) →
+        StepIs (job_in task.now) (G.limits grants.old) (G.caller_number grants.old) (job_of grant)
+        (seen (devices D.shows S.shows K.shows C.shows D.may_give S.ran) kit.old (G.mine grants.old) journal.old)
+        (seen (devices D.shows S.shows K.shows C.shows D.may_give S.ran) kit.new (G.mine grants.new) journal.new)
+        (Lent (host_of grant) source.now note tried) source.now note result }
 {
     let at = grant.host();
-    match compile(alloc, words, source, &mut kit.station) {
+    match compile(task.alloc, task.words, source, &mut kit.station) {
         Ok(ran) => {
             journal.ran();
             grants.give(grant);
             journal.note(Event::Gave(at));
-            Ok(outcome_of(ran))
+            Step::Compiled {
+                by: By::Here,
+                outcome: outcome_of(ran),
+            }
         }
         Err(fault) => {
             grants.give(grant);
             journal.note(Event::Gave(at));
-            Err(why_not_run(fault))
+            Step::Failed(why_not_run(fault))
         }
     }
 }

@@ -6,14 +6,13 @@ mod exchanging;
 mod job;
 mod journal;
 mod lent;
-mod limits;
 mod local_fallback;
 mod preparing;
 mod room;
 mod sending;
 mod step;
+mod task;
 mod waiting;
 
 pub use job::run_job;
-pub use limits::limits_of;
 pub use room::{EVENTS_MAX, EventRoom};

@@ -6,12 +6,12 @@ ghost use Rattle.arg_scan.specs.Names.{is_preprocessed};
 ghost use Rattle.arg_scan.specs.Roles.{word_at};
 ghost use Rattle.edge_traits.specs.FileMaps.{IsStaged};
 ghost use Rattle.edge_traits.specs.Keepers.{IsIdle};
-ghost use Rattle.edge_traits.specs.Kits.{kit_view};
 ghost use Rattle.slot_table.specs.declared.limits.Limits.{Limits};
 ghost use Rattle.slot_table.specs.declared.calls.CallEntry.{CallEntry};
+ghost use Rattle.farm_machine.specs.Devices.{devices};
 ghost use Rattle.farm_machine.specs.Jobs.{Job, job_of, may_be_sent, is_source_ready, source_name};
 ghost use Rattle.job_run.specs.Stages.{PreparedIs, FetchedIs};
-ghost use Rattle.job_run.specs.Worlds.{world};
+ghost use Rattle.job_run.specs.Seen.{seen};
 
 use crate::journal::Journal;
 use crate::step::{done_by_preprocessor, why_not_fetched, why_not_run};
@@ -52,10 +52,11 @@ fn fetch_source<D: Dialer, S: Station, K: Keeper, C: Clock>(
     ensures fell { journal.new.left ≤ journal.old.left }
     ensures idle { IsIdle (K.shows kit.new.keeper) }
     ensures fetched { FetchedIs name.now 41_943_040 (K.shows kit.old.keeper) (K.shows kit.new.keeper) result }
-    ensures prepared { (h : ℕ) (l : Limits h) (caller number : ℕ) (mine : List CallEntry) (j : Job) → may_be_sent j ≡ true → is_source_ready j ≡ true → source_name j ≡ name.now →
+    ensures prepared { (h : ℕ) (l : Limits h) (caller number : ℕ) (mine : List CallEntry) (j : Job) →
+        may_be_sent j ≡ true → is_source_ready j ≡ true → source_name j ≡ name.now →
         PreparedIs j l caller number
-        (world (kit_view D.shows S.shows K.shows C.shows kit.old) (D.may_give kit.old.dialer) (S.ran kit.old.station) mine journal.old.events.items journal.old.places)
-        (world (kit_view D.shows S.shows K.shows C.shows kit.new) (D.may_give kit.new.dialer) (S.ran kit.new.station) mine journal.new.events.items journal.new.places)
+        (seen (devices D.shows S.shows K.shows C.shows D.may_give S.ran) kit.old mine journal.old)
+        (seen (devices D.shows S.shows K.shows C.shows D.may_give S.ran) kit.new mine journal.new)
         result }
 {
     match kit.keeper.fetch(alloc, name, PREPROCESSED_MAX) {
@@ -84,9 +85,10 @@ fn preprocess_source<D: Dialer, S: Station, K: Keeper, C: Clock>(
     ensures left { journal.old.left ≤ journal.new.left + 1 }
     ensures fell { journal.new.left ≤ journal.old.left }
     ensures idle { IsIdle (K.shows kit.new.keeper) }
-    ensures prepared { (h : ℕ) (l : Limits h) (caller number : ℕ) (mine : List CallEntry) (config : JobConfig) → PreparedIs (job_of words.now config) l caller number
-        (world (kit_view D.shows S.shows K.shows C.shows kit.old) (D.may_give kit.old.dialer) (S.ran kit.old.station) mine journal.old.events.items journal.old.places)
-        (world (kit_view D.shows S.shows K.shows C.shows kit.new) (D.may_give kit.new.dialer) (S.ran kit.new.station) mine journal.new.events.items journal.new.places)
+    ensures prepared { (h : ℕ) (l : Limits h) (caller number : ℕ) (mine : List CallEntry) (config : JobConfig) →
+        PreparedIs (job_of words.now config) l caller number
+        (seen (devices D.shows S.shows K.shows C.shows D.may_give S.ran) kit.old mine journal.old)
+        (seen (devices D.shows S.shows K.shows C.shows D.may_give S.ran) kit.new mine journal.new)
         result }
 {
     match preprocess(alloc, words, &mut kit.station) {
@@ -121,9 +123,10 @@ pub(crate) fn prepare<D: Dialer, S: Station, K: Keeper, C: Clock>(
     ensures left { journal.old.left ≤ journal.new.left + 1 }
     ensures fell { journal.new.left ≤ journal.old.left }
     ensures idle { IsIdle (K.shows kit.new.keeper) }
-    ensures prepared { (h : ℕ) (l : Limits h) (caller number : ℕ) (mine : List CallEntry) (config : JobConfig) → PreparedIs (job_of words.now config) l caller number
-        (world (kit_view D.shows S.shows K.shows C.shows kit.old) (D.may_give kit.old.dialer) (S.ran kit.old.station) mine journal.old.events.items journal.old.places)
-        (world (kit_view D.shows S.shows K.shows C.shows kit.new) (D.may_give kit.new.dialer) (S.ran kit.new.station) mine journal.new.events.items journal.new.places)
+    ensures prepared { (h : ℕ) (l : Limits h) (caller number : ℕ) (mine : List CallEntry) (config : JobConfig) →
+        PreparedIs (job_of words.now config) l caller number
+        (seen (devices D.shows S.shows K.shows C.shows D.may_give S.ran) kit.old mine journal.old)
+        (seen (devices D.shows S.shows K.shows C.shows D.may_give S.ran) kit.new mine journal.new)
         result }
 {
     if preprocessed {

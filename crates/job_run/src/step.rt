@@ -5,10 +5,12 @@ ghost use Rattle.farm_machine.specs.declared.reports.End.TheVariants.{Done};
 ghost use Rattle.farm_machine.specs.Course.{outcome_of};
 ghost use Rattle.job_run.specs.declared.step.Step.TheVariants.{Here, Failed};
 ghost use Rattle.job_run.specs.Failures.{station_failure, fetch_failure, put_failure};
+ghost use Rattle.job_run.specs.Stages.{step_after};
 
-use edge_traits::{EdgeFault, FetchFault, StationFault};
+use edge_traits::{Cause, EdgeFault, FetchFault, StationFault};
 use farm_machine::{By, End, Why5};
-use farm_types::{Bytes, Outcome, Ran};
+use farm_types::{Bytes, JobConfig, Outcome, Ran};
+use remote_transfer::Landing;
 use std::alloc::Global;
 
 /// What a job does next, whose source is there and of which no compile is begun.
@@ -20,6 +22,17 @@ pub(crate) enum Step {
     Compiled { by: By, outcome: Outcome },
     /// It has failed.
     Failed(Why5),
+}
+
+/// What came of one try.
+#[derive(Drop)]
+pub(crate) enum Asked {
+    /// All hosts that are left are down.
+    Down,
+    /// The job goes on so.
+    Over(Step),
+    /// The exchange with this host broke.
+    Broke { host: u32, cause: Cause },
 }
 
 /// Why a job failed whose program could not be run.
@@ -60,6 +73,23 @@ pub(crate) fn here_or(fallback: bool, why: Why5) -> Step
         Step::Here
     } else {
         Step::Failed(why)
+    }
+}
+
+/// What follows from a host's whole reply, by where its object is. One that was lost fails the job. Of status 0 the outcome
+/// is the job's; another is the job's too, or with fallback and retry the job is compiled here.
+pub(crate) fn after_whole(config: &JobConfig, host: u32, outcome: Outcome, landing: Landing) -> Step
+    ensures { result ≡ step_after config.now host outcome landing }
+{
+    if let Landing::Lost = landing {
+        return Step::Failed(Why5::Put);
+    }
+    if outcome.status != 0 && config.fallback && config.retry {
+        return Step::Here;
+    }
+    Step::Compiled {
+        by: By::Remote(host),
+        outcome,
     }
 }
 

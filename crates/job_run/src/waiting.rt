@@ -21,14 +21,11 @@ pub(crate) fn borrow_local<R: Wait, G: Grants, C: Clock>(
     requires spare { cost G.alone ≤ G.spare grants.old }
     requires none { outstanding (G.mine grants.old) ≡ [] }
     ensures ready { G.ready grants.new }
-    ensures home { G.home grants.new ≡ G.home grants.old }
-    ensures place { G.place grants.new ≡ G.place grants.old }
-    ensures limits { G.limits grants.new ≡ G.limits grants.old }
-    ensures number { G.number grants.new ≡ G.number grants.old }
+    ensures follows { G.follows grants.old grants.new }
     ensures spare { G.spare grants.new + cost G.alone ≡ G.spare grants.old }
-    ensures mine { (refused : ℕ) × (G.mine grants.new ≡ G.mine grants.old ++ borrowed (G.number grants.old) number refused) }
+    ensures mine { (refused : ℕ) × (G.mine grants.new ≡ G.mine grants.old ++ borrowed (G.caller_number grants.old) number refused) }
     ensures job { local_job_of result ≡ number }
-    ensures out { outstanding (G.mine grants.new) ≡ holding (G.number grants.old) number None ∷ [] }
+    ensures out { outstanding (G.mine grants.new) ≡ holding (G.caller_number grants.new) number None ∷ [] }
     ensures clock { Grew (C.shows clock.old).moments (C.shows clock.new).moments [] }
 {
     for _ in rt.forever() {
@@ -52,15 +49,13 @@ pub(crate) fn borrow_host<R: Wait, G: Grants, C: Clock>(
     requires spare { cost G.alone ≤ G.spare grants.old }
     requires none { outstanding (G.mine grants.old) ≡ [] }
     ensures ready { G.ready grants.new }
-    ensures home { G.home grants.new ≡ G.home grants.old }
-    ensures place { G.place grants.new ≡ G.place grants.old }
-    ensures limits { G.limits grants.new ≡ G.limits grants.old }
-    ensures number { G.number grants.new ≡ G.number grants.old }
+    ensures follows { G.follows grants.old grants.new }
     ensures spare { G.spare grants.new + cost G.alone ≡ G.spare grants.old }
-    ensures mine { (refused : List ℕ) × (now : ℕ) × (G.mine grants.new ≡ G.mine grants.old ++ asked (G.number grants.old) number mask refused now (answered result)) × Grew (C.shows clock.old).moments (C.shows clock.new).moments (refused ++ now ∷ []) }
-    ensures job { IfSome result (λ grant. job_of grant ≡ number) }
-    ensures entry { IfSome result (IsEntry (G.limits grants.old) mask) }
-    ensures out { outstanding (G.mine grants.new) ≡ held_then (G.number grants.old) number result }
+    ensures mine { (refused : List ℕ) × (now : ℕ)
+        × (G.mine grants.new ≡ G.mine grants.old ++ asked (G.caller_number grants.old) number mask refused now (answered result))
+        × Grew (C.shows clock.old).moments (C.shows clock.new).moments (refused ++ now ∷ []) }
+    ensures entry { IfSome result (IsEntry (G.limits grants.old) number mask) }
+    ensures out { outstanding (G.mine grants.new) ≡ held_then (G.caller_number grants.new) number result }
 {
     for _ in rt.forever() {
         let now = clock.now();

@@ -1,6 +1,5 @@
 -- A job whose source was preprocessed here ends by a host, or by a compile here.
 use Rattle.std.proofs.Common.{◌≡◌, ◌⊎◌, inl, inr, ℕ, ◌+◌, Bool, true, false, ◌&&◌, cond, List, [], ◌∷◌, length, nat_eq, nat_lt, refl, ap, ◌∙◌}
-use Rattle.farm_types.specs.declared.ran.Ran.{Ran}
 use Rattle.farm_types.specs.declared.ran.Outcome.{Outcome}
 use Rattle.edge_traits.specs.declared.cause.Cause.{Cause}
 use Rattle.edge_traits.specs.Deeds.{ran, exchanged, put}

@@ -1,5 +1,5 @@
 -- The numbers of all reports.
-use Rattle.std.proofs.Common.{◌≡◌, ℕ, suc, ◌+◌, ◌<◌, Bool, true, false, cond, List, [], ◌∷◌, length, get_or, Option, Some, None, refl, sym, ap, ◌∙◌, subst, arith}
+use Rattle.std.proofs.Common.{◌≡◌, ℕ, suc, ◌+◌, ◌<◌, Bool, true, cond, List, [], ◌∷◌, length, get_or, Option, Some, None, refl, sym, ap, ◌∙◌, subst, arith}
 use Rattle.std.specs.Prelude.{All, map, count_by, slice_get, ◌==◌}
 use Rattle.std.specs.List.{AllZip, sum_by, range_with_len}
 use Rattle.std.proofs.lemmas.List.Sums.{sum_by-cons}
@@ -16,7 +16,7 @@ use Rattle.sample_compiler.specs.Samples.{SampleOf}
 use Rattle.workload.specs.Loads.{job_words, files_of}
 use Rattle.rehearsal.specs.declared.numbers.Count.{Count}
 use Rattle.rehearsal.specs.Counts.{object_len as report_len, IsDone, CountsDone}
-use Rattle.rehearsal.specs.Rehearsals.{ended_well, object_len, EndsAs, AreLeft, AreCounted, SomeWanted, Tells}
+use Rattle.rehearsal.specs.Rehearsals.{ended_well, object_len, EndsAs, Tells}
 use Rattle.rehearsal.proofs.Reporting.{Counted, TellsOf}
 
 abbrev well : Report → Bool

@@ -1,6 +1,6 @@
 -- Over loops each object is the compiler's.
-use Rattle.std.proofs.Common.{◌≡◌, ℕ, ◌<◌, ◌≤◌, true, List, [], ◌∷◌, ◌++◌, length, refl, sym, ap, ◌∙◌, subst, arith}
-use Rattle.std.specs.Prelude.{All, ◌==◌, if◌then◌else◌, slice_index_or}
+use Rattle.std.proofs.Common.{◌≡◌, ℕ, true, List, [], ◌∷◌, ◌++◌, refl, sym, ap, ◌∙◌, subst, arith}
+use Rattle.std.specs.Prelude.{◌==◌, if◌then◌else◌, slice_index_or}
 use Rattle.std.proofs.lemmas.List.Elements.{All-get_or}
 use Rattle.farm_types.specs.declared.ran.Ran.{Ran}
 use Rattle.edge_traits.specs.Clocks.{ClockView}
@@ -12,7 +12,7 @@ use Rattle.farm_machine.specs.Acts.{Act, Did}
 use Rattle.farm_machine.specs.Course.{Course}
 use Rattle.farm_machine.specs.Honest.{Programs, IsHonest, object_of}
 use Rattle.farm_machine.specs.Jobs.{Job, may_be_sent, request_for}
-use Rattle.farm_machine.specs.Table.{IsSource, MemoryLaw}
+use Rattle.farm_machine.specs.Table.{IsSource}
 use Rattle.loop_link.specs.Dialers.{held_of, DialerGives}
 use Rattle.loop_link.proofs.Honest.{honest, fully_honest}
 use Rattle.sample_compiler.specs.Stations.{StationRan, station_files}
@@ -30,8 +30,8 @@ has_sent j (a ∷ acts) more end source (c, next, from) is = absurd is
 pub whole-object : (r : Ran) → r.status ≡ 0 → object_of r ≡ r.object
 whole-object r good = ap (λ (s : ℕ). if s == 0 then r.object else []) good
 
-pub loop-law : {K C : Type 0} (memory : MemoryLaw) (keeper : K → KeeperView) (clock : C → ClockView) → LoopLaw keeper clock
-loop-law {K = K} {C = C} memory keeper clock l jobs period workers reports history last old new loops enough run j other before
+pub loop-law : {K C : Type 0} (keeper : K → KeeperView) (clock : C → ClockView) → LoopLaw keeper clock
+loop-law {K = K} {C = C} keeper clock l jobs period workers reports history last old new loops enough run j other before
     rest x below is =
     let worker = run.read.worker j in
     let kit : LoopKit K C = slice_index_or old worker other in
@@ -40,7 +40,7 @@ loop-law {K = K} {C = C} memory keeper clock l jobs period workers reports histo
     let files = station_files kit.station in
     let peers = DialerGives (λ s. StationRan (station_files s)) kit.dialer in
     let own : IsHonest peers (StationRan files) = subst (λ held. IsHonest peers (StationRan held)) loop.same (honest (held_of kit.dialer).table.rows (StationRan (station_files (held_of kit.dialer).station)) loop.names) in
-    let run_means = means memory (loop_kits keeper clock) l jobs period workers reports history last old new run in
+    let run_means = means (loop_kits keeper clock) l jobs period workers reports history last old new run in
     let answer = run_means.honest_objects j other below before rest x refl own is in
     let left = answer.compiles.run in
     let sent = has_sent (jobs j) before _ (run.read.ends j) answer.source

@@ -1,6 +1,6 @@
 -- What one job of the workload leaves, and what its report names.
-use Rattle.std.proofs.Common.{◌≡◌, ◌⊎◌, inl, inr, ℕ, ◌<◌, ◌≤◌, ◌^◌, Bool, true, false, List, [], ◌∷◌, ◌++◌, length, Option, Some, None, refl, sym, ap, ◌∙◌, subst, arith}
-use Rattle.std.specs.Prelude.{map, ◌==◌, if◌then◌else◌, slice_get}
+use Rattle.std.proofs.Common.{◌≡◌, inl, inr, ℕ, ◌<◌, ◌≤◌, ◌^◌, Bool, true, false, List, [], ◌∷◌, ◌++◌, length, Option, Some, None, refl, sym, ap, ◌∙◌, subst, arith}
+use Rattle.std.specs.Prelude.{map, if◌then◌else◌}
 use Rattle.std.proofs.lemmas.Bool.Decides.{Decides-eqb}
 use Rattle.farm_types.specs.declared.jobs.JobConfig.{JobConfig}
 use Rattle.farm_types.specs.declared.placed.Word.TheVariants.{Text}
@@ -10,11 +10,10 @@ use Rattle.edge_traits.specs.Deeds.{ran, fetched, put}
 use Rattle.arg_strip.specs.Words.{stripped, placed_words, preprocessing_words}
 use Rattle.farm_machine.specs.declared.reports.By.TheVariants.{Cpp, Remote, Here, InPlace}
 use Rattle.farm_machine.specs.declared.reports.Event.{Event}
-use Rattle.farm_machine.specs.declared.reports.Why5.TheVariants.{Station, Fetch, Memory}
 use Rattle.farm_machine.specs.declared.reports.End.{End}
 use Rattle.farm_machine.specs.declared.reports.End.TheVariants.{Done, Failed}
 use Rattle.farm_machine.specs.Acts.{Act, Did, Met, TakesLocal, Entries, ReadsAll}
-use Rattle.farm_machine.specs.Course.{At, Start, Send, after_preprocessor, Next, Course}
+use Rattle.farm_machine.specs.Course.{after_preprocessor, Course}
 use Rattle.farm_machine.specs.Honest.{AllRan}
 use Rattle.farm_machine.specs.Jobs.{Job, job_of}
 use Rattle.farm_machine.specs.Table.{IsSource}
@@ -26,10 +25,10 @@ use Rattle.workload.specs.Loads.{job_words, files_of}
 use Rattle.workload_runs.specs.Laws.{text_of_job, SentLaw, PreprocessedLaw, CompiledLaw}
 use Rattle.rehearsal.specs.Counts.{last_put, len_at}
 use Rattle.rehearsal.specs.Puts.{put_len}
-use Rattle.rehearsal.specs.Rehearsals.{ended_well, object_len, EndsAs}
+use Rattle.rehearsal.specs.Rehearsals.{ended_well, object_len}
 use Rattle.rehearsal.proofs.Compiled.{is_compiled, has_source, compiled-from}
 use Rattle.rehearsal.proofs.Looping.{whole-object}
-use Rattle.rehearsal.proofs.Putting.{NamesPut, names-put, EndsPut, ends-put}
+use Rattle.rehearsal.proofs.Putting.{names-put, ends-put}
 
 -- what is known of the runs of the workload's jobs
 pub record RunLaws : Type 0 where

@@ -1,14 +1,11 @@
 -- The put of a job, as its report's events name it.
-use Rattle.std.proofs.Common.{◌≡◌, ℕ, suc, ◌-◌, length, List, [], ◌∷◌, ◌++◌, Some, refl, sym, ap, ◌∙◌, append_assoc, arith}
+use Rattle.std.proofs.Common.{◌≡◌, ℕ, suc, ◌-◌, length, List, [], ◌∷◌, ◌++◌, Some, refl, sym, ap, ◌∙◌, arith}
 use Rattle.std.specs.Prelude.{slice_get}
-use Rattle.std.proofs.lemmas.List.{append-nil}
-use Rattle.std.proofs.lemmas.List.Concat.{flat_map-cons}
 use Rattle.edge_traits.specs.declared.entries.Put.{Put}
-use Rattle.edge_traits.specs.Deeds.{ran, fetched, exchanged, put, timed, put_of, puts_in}
+use Rattle.edge_traits.specs.Deeds.{put}
 use Rattle.farm_machine.specs.declared.reports.Event.{Event}
 use Rattle.farm_machine.specs.declared.reports.Event.TheVariants.{Ran, Fetched, Exchanged, Put as PutAt, Took, Gave, GaveBad, Down, TookLocal, GaveLocal}
-use Rattle.farm_machine.specs.Acts.{Act, Did, Met, Entries, Reads, ReadsAll, deeds_of}
-use Rattle.farm_machine.specs.Numbered.{added}
+use Rattle.farm_machine.specs.Acts.{Act, Did, Entries, Reads, ReadsAll}
 use Rattle.rehearsal.specs.Counts.{put_place, named_put, last_put}
 
 -- the last of some events, behind another one

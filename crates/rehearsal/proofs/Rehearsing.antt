@@ -1,5 +1,5 @@
 -- From what the driver did to the rehearsal.
-use Rattle.std.proofs.Common.{◌≡◌, ℕ, ◌<◌, ◌≤◌, List, length, Option, ap, ◌∙◌, sym, subst, arith}
+use Rattle.std.proofs.Common.{◌≡◌, ℕ, ◌<◌, ◌≤◌, List, length, Option, ap, ◌∙◌, subst, arith}
 use Rattle.std.specs.Prelude.{All}
 use Rattle.std.specs.List.{range_with_len}
 use Rattle.std.proofs.lemmas.List.Elements.{All-map}
@@ -7,12 +7,11 @@ use Rattle.std.proofs.lemmas.List.FromFn.{length-map-range_with_len}
 use Rattle.farm_cell.specs.Passes.{seen_of}
 use Rattle.farm_machine.specs.declared.reports.Report.{Report}
 use Rattle.farm_machine.specs.Jobs.{AreLimitsOf}
-use Rattle.farm_machine.specs.Table.{MemoryLaw}
 use Rattle.farm_types.specs.declared.jobs.JobConfig.{JobConfig}
 use Rattle.course_laws.specs.Laws.{PutLaw}
 use Rattle.job_driver.specs.declared.driver.Built.{Built}
 use Rattle.job_driver.specs.Driven.{JobsRan}
-use Rattle.job_driver.specs.Jobs.{job_at, AreDoable}
+use Rattle.farm_machine.specs.Usable.{job_at, AreDoable}
 use Rattle.job_driver.proofs.Building.{first-of}
 use Rattle.workload.specs.Loads.{job_words, jobs_of, files_of}
 use Rattle.rehearsal.specs.declared.numbers.Count.{Count}
@@ -33,7 +32,7 @@ doable n some most = record {
   words = All-map (λ words. 0 < length words) job_words (range_with_len 1 n) (λ k d below. omega arith);
 }
 
-module _ (laws : RunLaws) (put_law : PutLaw) (memory : MemoryLaw) (n : ℕ) (some : 1 ≤ n) (most : n ≤ 512) where
+module _ (laws : RunLaws) (put_law : PutLaw) (n : ℕ) (some : 1 ≤ n) (most : n ≤ 512) where
   pub rehearsed : (built : Built) (jobs : List (List (List ℕ))) (config : JobConfig) (workers : ℕ) (old new seen : List RehearsalKit) (reports : List Report) (count : Option Count)
       → jobs ≡ jobs_of n → config ≡ rehearsal_config → workers ≡ worker_count n → length old ≡ workers → All (IsFresh (files_of n)) old
       → AreLimitsOf built.last.limits config.hosts → built.last.limits.jobs ≡ length jobs
@@ -52,7 +51,7 @@ module _ (laws : RunLaws) (put_law : PutLaw) (memory : MemoryLaw) (n : ℕ) (som
       let enough : worker_count n ≤ length old = omega (arith, many, workers_are) in
       let kits : 0 < length old = omega (arith, many, workers_are, some) in
       first-of (IsRehearsal n built count) old kits (λ other.
-      let told = telling laws put_law memory n most l all (worker_count n) built.reports (seen_of built.pass) built.last.state old new fresh
+      let told = telling laws put_law n most l all (worker_count n) built.reports (seen_of built.pass) built.last.state old new fresh
       enough ran_by other in
       record {
         of_hosts = subst (λ (c : JobConfig). AreLimitsOf l c.hosts) config_is limits;

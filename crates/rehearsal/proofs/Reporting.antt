@@ -1,5 +1,5 @@
 -- What each report of a rehearsal tells.
-use Rattle.std.proofs.Common.{◌≡◌, inl, ℕ, ◌+◌, ◌<◌, ◌≤◌, true, List, [], ◌∷◌, ◌++◌, length, get_or, Some, refl, sym, ap, ◌∙◌, subst, arith}
+use Rattle.std.proofs.Common.{◌≡◌, inl, ℕ, ◌+◌, ◌<◌, ◌≤◌, true, List, [], ◌++◌, length, Some, refl, sym, ap, ◌∙◌, subst, arith}
 use Rattle.std.specs.Prelude.{All, slice_get, slice_index_or}
 use Rattle.std.proofs.lemmas.Option.{slice_get-get_or}
 use Rattle.std.proofs.lemmas.List.Elements.{All-get_or}
@@ -14,15 +14,14 @@ use Rattle.farm_types.specs.declared.ran.Ran.{Ran}
 use Rattle.farm_machine.specs.declared.reports.End.{End}
 use Rattle.farm_machine.specs.declared.reports.End.TheVariants.{Done, Failed}
 use Rattle.farm_machine.specs.declared.reports.Report.{Report}
-use Rattle.farm_machine.specs.Acts.{Act, ReadsAll, deeds_of}
+use Rattle.farm_machine.specs.Acts.{ReadsAll, deeds_of}
 use Rattle.farm_machine.specs.Course.{Course}
 use Rattle.farm_machine.specs.Honest.{AllRan, IsHonest}
 use Rattle.farm_machine.specs.Jobs.{Job, job_of}
-use Rattle.farm_machine.specs.Table.{MemoryLaw}
 use Rattle.course_laws.specs.Laws.{PutLaw}
 use Rattle.course_laws.specs.Answers.{IsAnswered}
-use Rattle.job_driver.specs.Driven.{Devices, JobsRan, IsCalm, is_done_or_wanted}
-use Rattle.job_driver.specs.Jobs.{job_at}
+use Rattle.job_driver.specs.Driven.{JobsRan, IsCalm, is_done_or_wanted}
+use Rattle.farm_machine.specs.Usable.{job_at}
 use Rattle.job_driver.specs.Means.{RunMeans}
 use Rattle.job_driver.proofs.Meaning.{means}
 use Rattle.loop_link.specs.Dialers.{DialerGives}
@@ -53,12 +52,12 @@ still rose = omega (arith, rose)
 calm : (old new : RehearsalKit) → IsCalm (loop_devices.shows old) (loop_devices.shows new)
 calm old new = record { station = still; station_overruns = still; keeper = still; keeper_overruns = still }
 
-module _ (laws : RunLaws) (put_law : PutLaw) (memory : MemoryLaw) (n : ℕ) (most : n ≤ 512)
+module _ (laws : RunLaws) (put_law : PutLaw) (n : ℕ) (most : n ≤ 512)
     (l : Limits 16) (all : l.jobs ≡ n) (workers : ℕ) (reports : List Report)
     (history : List CallEntry) (last : SlotState 16) (old new : List RehearsalKit) (fresh : All (IsFresh (files_of n)) old) (enough : workers ≤ length old)
     (ran : JobsRan loop_devices l (job_at (jobs_of n) rehearsal_config) 60 workers reports history last old new) (other : RehearsalKit) where
   run : RunMeans loop_devices l (job_at (jobs_of n) rehearsal_config) workers reports ran.read last old new
-  run = means memory loop_devices l (job_at (jobs_of n) rehearsal_config) 60 workers reports history last old new ran
+  run = means loop_devices l (job_at (jobs_of n) rehearsal_config) 60 workers reports history last old new ran
 
   abbrev job_number : ℕ → Job
   job_number j = job_of (job_words (j + 1)) rehearsal_config

@@ -1,5 +1,5 @@
 -- The two numbers of some reports.
-use Rattle.std.specs.Prelude.{ℕ, ◌-◌, ◌≡◌, true, List, [], ◌∷◌, length, All, count_by, Option, Some, None, slice_get, slice_index_or}
+use Rattle.std.specs.Prelude.{ℕ, ◌-◌, ◌≡◌, List, [], length, All, count_by, Option, Some, None, slice_get}
 use Rattle.std.specs.List.{sum_by}
 use Rattle.edge_traits.specs.declared.entries.Put.{Put}
 use Rattle.edge_traits.specs.declared.kit.Kit.{Kit}

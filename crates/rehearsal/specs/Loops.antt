@@ -14,7 +14,8 @@ use Rattle.farm_machine.specs.Acts.{Act, Did}
 use Rattle.farm_machine.specs.Honest.{Programs}
 use Rattle.farm_machine.specs.Jobs.{Job, may_be_sent, request_for, compile_command}
 use Rattle.farm_machine.specs.Table.{IsSource}
-use Rattle.job_driver.specs.Driven.{Devices, devices, JobsRan}
+use Rattle.farm_machine.specs.Devices.{Devices, devices}
+use Rattle.job_driver.specs.Driven.{JobsRan}
 use Rattle.loop_link.specs.declared.dialer.LoopDialer.{LoopDialer}
 use Rattle.loop_link.specs.Dialers.{dialer_state, dialer_shows, held_of, DialerGives}
 use Rattle.loop_link.specs.Replies.{AreOwnNames, Gives}

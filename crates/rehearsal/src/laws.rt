@@ -2,7 +2,6 @@
 
 ghost use Rattle.rehearsal.specs.Loops.{HonestLoopLaw, LoopLaw};
 
-use course_laws::table_law;
 use edge_traits::{Clock, Keeper, Station};
 
 /// Over loops to the sample compiler, where each kit's own station is the sample compiler over the same files, every object
@@ -10,9 +9,7 @@ use edge_traits::{Clock, Keeper, Station};
 /// the hosts: a loop's peer is this project's own service.
 pub fn loops_answer_as_the_compiler<K: Keeper, C: Clock>(_keeper: &K, _clock: &C)
     ensures { LoopLaw K.shows C.shows }
-{
-    table_law();
-}
+{}
 
 /// A loop over a station is fully honest to each job that may be sent and whose compiler the loop's table names, each by its own
 /// name: what is promised of fully honest peers holds over this project's own daemon, with fallback or retry off too.

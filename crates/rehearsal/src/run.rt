@@ -7,7 +7,7 @@ use crate::Count;
 use crate::config::rehearsal_config;
 use crate::kits::kits;
 use crate::numbers::count_reports;
-use course_laws::{put_law, table_law};
+use course_laws::put_law;
 use job_driver::{Built, build};
 use std::alloc::{AllocError, Global};
 use std::sync::Wait;
@@ -39,7 +39,6 @@ pub fn rehearse<R: Threads + Wait + Sync>(
     ensures { IfOk result (λ done. IsRehearsal n done.built done.count) }
 {
     put_law();
-    table_law();
     runs_of_jobs();
     let jobs = make(alloc, n)?.jobs;
     let config = rehearsal_config(alloc)?;

@@ -14,7 +14,8 @@ use crate::mask::Mask;
 /// Who hands out jobs and slots to one caller. No call takes memory.
 ///
 /// Where it is `alone`, its calls are the only ones, and each of them spends one of the calls that it has
-/// room for. What no call changes are its home, its place, its limits and the caller's number.
+/// room for. No call changes its home, its place, its limits and the caller's number: each is the same in whatever
+/// follows it.
 pub trait Grants {
     /// What tells the slots that it hands out from others.
     type Home;
@@ -33,7 +34,10 @@ pub trait Grants {
     ghost limits: { Self → Limits width };
 
     /// The caller's number.
-    ghost number: { Self → ℕ };
+    ghost caller_number: { Self → ℕ };
+
+    /// The first became the second, by calls of it.
+    ghost follows: { Self → Self → Type 0 };
 
     /// Its own calls so far, with their replies.
     ghost mine: { Self → List CallEntry };
@@ -46,19 +50,16 @@ pub trait Grants {
 
     /// The caller's number.
     fn caller(&self) -> u32
-        ensures { result ≡ number self.now };
+        ensures { result ≡ caller_number self.now };
 
     /// The next job's number, or None where all jobs are drawn.
     fn draw(&mut self) -> Option<u32>
         requires ready { ready self.old }
         requires spare { cost alone ≤ spare self.old }
         ensures ready { ready self.new }
-        ensures home { home self.new ≡ home self.old }
-        ensures place { place self.new ≡ place self.old }
-        ensures limits { limits self.new ≡ limits self.old }
-        ensures number { number self.new ≡ number self.old }
+        ensures follows { follows self.old self.new }
         ensures spare { spare self.new + cost alone ≡ spare self.old }
-        ensures mine { mine self.new ≡ mine self.old ++ entry (number self.old) Draw (Drawn result) ∷ [] }
+        ensures mine { mine self.new ≡ mine self.old ++ entry (caller_number self.old) Draw (Drawn result) ∷ [] }
         ensures job { IfSome result (λ job. job < (limits self.old).jobs) }
         ensures later { IfSome result (IsLater (mine self.old)) };
 
@@ -68,70 +69,68 @@ pub trait Grants {
         requires ready { ready self.old }
         requires spare { cost alone ≤ spare self.old }
         ensures ready { ready self.new }
-        ensures home { home self.new ≡ home self.old }
-        ensures place { place self.new ≡ place self.old }
-        ensures limits { limits self.new ≡ limits self.old }
-        ensures number { number self.new ≡ number self.old }
+        ensures follows { follows self.old self.new }
         ensures spare { spare self.new + cost alone ≡ spare self.old }
-        ensures mine { mine self.new ≡ mine self.old ++ entry (number self.old) (AskTake job mask now) (reply_of result) ∷ [] }
-        ensures grant { IsGrantFor (number self.old) job result }
+        ensures mine { mine self.new ≡ mine self.old ++ entry (caller_number self.old) (AskTake job mask now) (reply_of result) ∷ [] }
+        ensures grant { IsGrantFor (caller_number self.old) job result }
         ensures entry { IsEntryOf (limits self.old) mask result }
-        ensures out { IsOutstanding (number self.new) (outstanding (mine self.new)) result }
+        ensures out { IsOutstanding (caller_number self.new) (outstanding (mine self.new)) result }
         ensures free { alone ≡ true → outstanding (mine self.old) ≡ [] → reply_of result ≢ Full };
 
     /// Gives a host's slot back.
     fn give(&mut self, grant: Grant)
         requires ready { ready self.old }
         requires spare { cost alone ≤ spare self.old }
-        requires out { has (holding (number self.old) (job_of grant) (Some (host_of grant))) (outstanding (mine self.old)) ≡ true }
+        requires out { has (holding (caller_number self.old) (job_of grant) (Some (host_of grant))) (outstanding (mine self.old)) ≡ true }
         ensures ready { ready self.new }
-        ensures home { home self.new ≡ home self.old }
-        ensures place { place self.new ≡ place self.old }
-        ensures limits { limits self.new ≡ limits self.old }
-        ensures number { number self.new ≡ number self.old }
+        ensures follows { follows self.old self.new }
         ensures spare { spare self.new + cost alone ≡ spare self.old }
-        ensures mine { mine self.new ≡ mine self.old ++ entry (number self.old) (Give (host_of grant) (job_of grant)) Given ∷ [] };
+        ensures mine { mine self.new ≡ mine self.old ++ entry (caller_number self.old) (Give (host_of grant) (job_of grant)) Given ∷ [] };
 
     /// Gives a slot of a host that isn't local back. The host is left alone until the moment `until`, or
     /// longer where it already was.
     fn give_bad(&mut self, grant: Grant, until: u64)
         requires ready { ready self.old }
         requires spare { cost alone ≤ spare self.old }
-        requires out { has (holding (number self.old) (job_of grant) (Some (host_of grant))) (outstanding (mine self.old)) ≡ true }
+        requires out { has (holding (caller_number self.old) (job_of grant) (Some (host_of grant))) (outstanding (mine self.old)) ≡ true }
         requires remote { is_local (limits self.old) (host_of grant) ≡ false }
         ensures ready { ready self.new }
-        ensures home { home self.new ≡ home self.old }
-        ensures place { place self.new ≡ place self.old }
-        ensures limits { limits self.new ≡ limits self.old }
-        ensures number { number self.new ≡ number self.old }
+        ensures follows { follows self.old self.new }
         ensures spare { spare self.new + cost alone ≡ spare self.old }
-        ensures mine { mine self.new ≡ mine self.old ++ entry (number self.old) (GiveBad (host_of grant) (job_of grant) until) Given ∷ [] };
+        ensures mine { mine self.new ≡ mine self.old ++ entry (caller_number self.old) (GiveBad (host_of grant) (job_of grant) until) Given ∷ [] };
 
     /// A local slot, or None where all of them are given out.
     fn take_local(&mut self, job: u32) -> Option<LocalGrant>
         requires ready { ready self.old }
         requires spare { cost alone ≤ spare self.old }
         ensures ready { ready self.new }
-        ensures home { home self.new ≡ home self.old }
-        ensures place { place self.new ≡ place self.old }
-        ensures limits { limits self.new ≡ limits self.old }
-        ensures number { number self.new ≡ number self.old }
+        ensures follows { follows self.old self.new }
         ensures spare { spare self.new + cost alone ≡ spare self.old }
-        ensures mine { mine self.new ≡ mine self.old ++ entry (number self.old) (TakeLocal job) (Local (is_some result)) ∷ [] }
-        ensures grant { IsLocalGrantFor (number self.old) job result }
-        ensures out { IsLocalOutstanding (number self.new) (outstanding (mine self.new)) result }
+        ensures mine { mine self.new ≡ mine self.old ++ entry (caller_number self.old) (TakeLocal job) (Local (is_some result)) ∷ [] }
+        ensures grant { IsLocalGrantFor (caller_number self.old) job result }
+        ensures out { IsLocalOutstanding (caller_number self.new) (outstanding (mine self.new)) result }
         ensures free { alone ≡ true → outstanding (mine self.old) ≡ [] → IsSome result };
 
     /// Gives a local slot back.
     fn give_local(&mut self, grant: LocalGrant)
         requires ready { ready self.old }
         requires spare { cost alone ≤ spare self.old }
-        requires out { has (holding (number self.old) (local_job_of grant) None) (outstanding (mine self.old)) ≡ true }
+        requires out { has (holding (caller_number self.old) (local_job_of grant) None) (outstanding (mine self.old)) ≡ true }
         ensures ready { ready self.new }
-        ensures home { home self.new ≡ home self.old }
-        ensures place { place self.new ≡ place self.old }
-        ensures limits { limits self.new ≡ limits self.old }
-        ensures number { number self.new ≡ number self.old }
+        ensures follows { follows self.old self.new }
         ensures spare { spare self.new + cost alone ≡ spare self.old }
-        ensures mine { mine self.new ≡ mine self.old ++ entry (number self.old) (GiveLocal (local_job_of grant)) Given ∷ [] };
+        ensures mine { mine self.new ≡ mine self.old ++ entry (caller_number self.old) (GiveLocal (local_job_of grant)) Given ∷ [] };
+
+    ghost follows_itself: { (grants : Self) → follows grants grants };
+
+    ghost follows_on: { (a b c : Self) → follows a b → follows b c → follows a c };
+
+    /// Its calls change neither what it hands out of, nor its limits, nor the caller.
+    ghost home_stays: { (a b : Self) → follows a b → home b ≡ home a };
+
+    ghost place_stays: { (a b : Self) → follows a b → place b ≡ place a };
+
+    ghost limits_stay: { (a b : Self) → follows a b → limits b ≡ limits a };
+
+    ghost caller_stays: { (a b : Self) → follows a b → caller_number b ≡ caller_number a };
 }

@@ -90,7 +90,8 @@ fn note(calls: &mut Vec<CallEntry>, call: SlotCall, reply: SlotReply)
 }
 
 impl<const H: usize> Grants for OneThread<H> {
-    ghost use Rattle.std.specs.Prelude.{true};
+    ghost use Rattle.std.specs.Prelude.{◌≡◌, true, refl};
+    ghost use Rattle.std.proofs.Common.{◌∙◌};
 
     type Home = Limits<H>;
 
@@ -100,13 +101,27 @@ impl<const H: usize> Grants for OneThread<H> {
 
     ghost limits = { λ t. t.limits };
 
-    ghost number = { λ t. 0 };
+    ghost caller_number = { λ t. 0 };
+
+    ghost follows = { λ a b. b.limits ≡ a.limits };
 
     ghost mine = { λ t. t.mine };
 
     ghost alone = { true };
 
     ghost spare = { λ t. t.spare };
+
+    ghost follows_itself = { λ t. refl };
+
+    ghost follows_on = { λ a b c first second. second ∙ first };
+
+    ghost home_stays = { λ a b same. same };
+
+    ghost place_stays = { λ a b same. refl };
+
+    ghost limits_stay = { λ a b same. same };
+
+    ghost caller_stays = { λ a b same. refl };
 
     fn caller(&self) -> u32 {
         0

@@ -1,4 +1,4 @@
-//! What the sample compiler leaves of the workload's jobs, at a station and by their own words (docs/workload.md).
+//! What the sample compiler leaves of the workload's jobs, at a station and by their own words (docs/rehearsal.md).
 #![tactic(auto)]
 
 mod laws;

@@ -2,17 +2,19 @@ use Rattle.std.proofs.Common.{refl, sym, ap, inl, inr, arith}
 use Rattle.std.proofs.lemmas.List.{append-nil}
 use Rattle.edge_traits.proofs.DeedLemmas.{DidIn-nothing}
 use Rattle.farm_machine.specs.Course.{Start}
-use Rattle.farm_machine.specs.Jobs.{job_of}
-use Rattle.job_run.proofs.Composing.{none-rose}
+use Rattle.job_run.proofs.Composing.{none-rose, later-none}
 use Rattle.job_run.proofs.Leaves.{no-act, same_peers, same_programs}
-use Rattle.job_run.proofs.Names.{is_sent, class_input, class_stays}
+use Rattle.job_run.proofs.Names.{is_sent, class_input, class_remote, class_stays}
 use Rattle.job_run.proofs.job.run_class.Goals as goal
+
+pub invariant_of-task-clause-remote : goal.invariant_of-task-clause-remote
+invariant_of-task-clause-remote g c = class_remote c.args.words.now _ _ _ _ _ (c.in-Remote.ensures.class (λ h. cc))
+
+pub invariant_of-task-clause-named : goal.invariant_of-task-clause-named
+invariant_of-task-clause-named g c = (class_input c.args.words.now _ _ _ _ _ (c.in-Remote.ensures.class (λ h. cc))).1
 
 pub run_remote-requires-clause-input : goal.run_remote-requires-clause-input
 run_remote-requires-clause-input g c = (class_input c.args.words.now _ _ _ _ _ (c.in-Remote.ensures.class (λ h. cc))).0
-
-pub run_remote-requires-clause-output : goal.run_remote-requires-clause-output
-run_remote-requires-clause-output g c = (class_input c.args.words.now _ _ _ _ _ (c.in-Remote.ensures.class (λ h. cc))).1
 
 pub run_remote-requires-clause-preprocessed : goal.run_remote-requires-clause-preprocessed
 run_remote-requires-clause-preprocessed g c = (class_input c.args.words.now _ _ _ _ _ (c.in-Remote.ensures.class (λ h. cc))).2
@@ -20,7 +22,7 @@ run_remote-requires-clause-preprocessed g c = (class_input c.args.words.now _ _ 
 pub returns-in-Memory-clause-ended : goal.returns-in-Memory-clause-ended
 returns-in-Memory-clause-ended g c = record {
   to = Start;
-  went = no-act _ (job_of c.args.words.now c.args.config.now) _ _ _ _ _ (DidIn-nothing _) (record { station = omega arith; station_overruns = omega arith; keeper = omega arith; keeper_overruns = omega arith; dialer = omega arith }) (same_peers _) (same_programs _) (sym (append-nil _), refl) refl;
+  went = no-act (DidIn-nothing _) (later-none _) (same_peers _) (same_programs _) (sym (append-nil _), refl) refl;
   ends = inl refl;
   cause = tt;
   station = none-rose _;

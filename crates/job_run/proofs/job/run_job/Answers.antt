@@ -6,6 +6,7 @@ use Rattle.farm_machine.specs.Acts.{slots_of}
 use Rattle.course_laws.specs.Returns.{finds_down}
 use Rattle.course_laws.proofs.Compilers.{end-answer}
 use Rattle.course_laws.proofs.Fallbacks.{own as never-by-host}
+use Rattle.course_laws.proofs.InTable.{in-table}
 use Rattle.course_laws.proofs.Given.{given-untimed, ran-untimed}
 use Rattle.course_laws.proofs.Unbroken.{own-end-law, unbroken-law}
 use Rattle.job_run.specs.Worlds.{Spent}
@@ -26,9 +27,11 @@ returns-clause-ran g c =
       acts = went.acts;
       calls = went.calls;
       did = went.did;
-      named = c.from_vec.ensures ∙ went.named ∙ ap (λ es. es ++ numbered c.open-journal.result.places went.acts) c.open-journal.ensures.events ∙ ap (λ p. numbered p went.acts) c.open-journal.ensures.places;
+      named = c.from_vec.ensures ∙ went.named
+          ∙ ap (λ es. es ++ numbered c.open-journal.result.places went.acts) c.open-journal.ensures.events
+          ∙ ap (λ p. numbered p went.acts) c.open-journal.ensures.places;
       grown = went.grown ∙ ap (λ p. advanced p went.acts) c.open-journal.ensures.places;
-      course = course;
+      course = in-table j (untimed went.acts) _ course;
       strict = strict;
       mine = went.mine;
       serves = went.serves [] (λ host. refl);
@@ -45,9 +48,13 @@ returns-clause-ran g c =
       returns_unbroken = λ none unbroken calm.
           own-end-law _ _ _ ended.cause calm
           ((unbroken-law j (untimed went.acts) _ course unbroken).own
-          (ap finds_down (slots-untimed went.acts) ∙ none-down _ _ _ [] (slots_of went.acts) went.calls (went.serves [] (λ host. refl)) none));
-      answered = λ known honest. end-answer _ _ j (untimed went.acts) _ honest (given-untimed _ went.acts (went.may known)) (ran-untimed _ went.acts went.ran) course;
+          (ap finds_down (slots-untimed went.acts)
+          ∙ none-down _ _ _ [] (slots_of went.acts) went.calls (went.serves [] (λ host. refl)) none));
+      answered = λ known honest. end-answer _ _ j (untimed went.acts) _ honest (given-untimed _ went.acts (went.may known))
+          (ran-untimed _ went.acts went.ran) course;
     }
 
 pub returns-clause-spare : goal.returns-clause-spare
-returns-clause-spare g c = spare-last _ _ _ _ (subst (λ (n : ℕ). Spent g.G.Grants.alone n (g.G.Grants.spare c.args.grants.now) c.run_class-end.new.journal.left (g.G.Grants.spare c.run_class-end.new.grants)) c.open-journal.ensures.left c.run_class-end.ensures.spent)
+returns-clause-spare g c =
+    spare-last _ _ _ _ (subst (λ (n : ℕ). Spent g.G.Grants.alone n (g.G.Grants.spare c.args.grants.now) c.run_class-end.new.journal.left
+    (g.G.Grants.spare c.run_class-end.new.grants)) c.open-journal.ensures.left c.run_class-end.ensures.free.spent)

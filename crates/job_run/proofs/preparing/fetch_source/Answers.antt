@@ -4,7 +4,7 @@ use Rattle.edge_traits.specs.declared.entries.Fetch.{Fetch}
 use Rattle.edge_traits.proofs.ToldLemmas.{Grew-refl}
 use Rattle.farm_machine.specs.declared.reports.End.TheVariants.{Failed}
 use Rattle.farm_machine.specs.Course.{Start, Send}
-use Rattle.job_run.proofs.Composing.{none-rose, stands-by}
+use Rattle.job_run.proofs.Composing.{none-rose, stands-by, later-kept}
 use Rattle.job_run.proofs.Ends.{ends-unfetched}
 use Rattle.job_run.proofs.Failing.{not-fetched, not-fetched-cause, not-fetched-stands, fetch-ends}
 use Rattle.job_run.proofs.Leaves.{only-fetch, no-act, same_peers, same_programs}
@@ -15,9 +15,16 @@ returns-in-Ok-clause-prepared g c = λ h l caller number mine j sent ready named
     let got = c.in-Ok.ensures in
     let x : Fetch = record { path = c.args.name.now; bytes = c.in-Ok.source } in
     record {
-      went = only-fetch l j caller number _ _ Start (Send c.in-Ok.source c.new.result []) x
-          (record { runs = Grew-refl _; fetches = got.fetches; exchanges = Grew-refl _; puts = got.puts; moments = Grew-refl _; files = got.files })
-          (record { station = omega arith; station_overruns = omega arith; keeper = got.faults; keeper_overruns = got.overruns; dialer = omega arith }) (same_peers _) (same_programs _)
+      went = only-fetch x
+          (record {
+            runs = Grew-refl _;
+            fetches = got.fetches;
+            exchanges = Grew-refl _;
+            puts = got.puts;
+            moments = Grew-refl _;
+            files = got.files;
+          })
+          (later-kept _ _ refl got.faults got.overruns (omega arith)) (same_peers _) (same_programs _)
           (c.fetched.ensures.events, c.fetched.ensures.places) refl
           (sent, ready, sym named, ap (λ note. Send c.in-Ok.source note []) c.new.ensures) got.whole.within;
       station = none-rose _;
@@ -29,9 +36,16 @@ returns-in-Err-clause-prepared g c = λ h l caller number mine j sent ready name
     let got = c.in-Err.ensures in
     record {
       to = Start;
-      went = no-act l j caller number _ _ Start
-          (record { runs = Grew-refl _; fetches = got.fetches; exchanges = Grew-refl _; puts = got.puts; moments = Grew-refl _; files = got.files })
-          (record { station = omega arith; station_overruns = omega arith; keeper = got.faults; keeper_overruns = got.overruns; dialer = omega arith }) (same_peers _) (same_programs _)
+      went = no-act
+          (record {
+            runs = Grew-refl _;
+            fetches = got.fetches;
+            exchanges = Grew-refl _;
+            puts = got.puts;
+            moments = Grew-refl _;
+            files = got.files;
+          })
+          (later-kept _ _ refl got.faults got.overruns (omega arith)) (same_peers _) (same_programs _)
           (sym (append-nil _), refl) refl;
       ends = ends-unfetched j _ sent ready (not-fetched c.in-Err.fault _ c.why_not_fetched.ensures);
       cause = not-fetched-cause _ _ c.in-Err.fault _ _ _ c.why_not_fetched.ensures got.cause;

@@ -1,13 +1,13 @@
-use Rattle.std.proofs.Common.{refl, sym, [], arith}
+use Rattle.std.proofs.Common.{refl, sym, []}
 use Rattle.std.proofs.lemmas.List.{append-nil}
 use Rattle.edge_traits.specs.declared.entries.Run.{Run}
 use Rattle.edge_traits.proofs.ToldLemmas.{Grew-refl}
 use Rattle.arg_strip.specs.Words.{preprocessing_words}
 use Rattle.child_runner.specs.Runs.{texts}
 use Rattle.farm_machine.specs.declared.reports.End.TheVariants.{Failed}
-use Rattle.farm_machine.specs.Course.{Start, Send, Over}
+use Rattle.farm_machine.specs.Course.{Start, Over}
 use Rattle.farm_machine.specs.Jobs.{job_of}
-use Rattle.job_run.proofs.Composing.{stands-by, keeps-none, keeps-by, unfetched}
+use Rattle.job_run.proofs.Composing.{stands-by, keeps-none, keeps-by, unfetched, later-ran}
 use Rattle.job_run.proofs.Ends.{preprocessor-failed, preprocessor-well, ends-unpreprocessed}
 use Rattle.job_run.proofs.Failing.{not-run, not-run-cause, not-run-stands, not-run-unfetched, done-cause, done-unfetched}
 use Rattle.job_run.proofs.Leaves.{only-run, no-act, did-run, did-nothing, same_peers}
@@ -23,15 +23,20 @@ returns-then-ran-ne0-clause-prepared g c = λ h l caller number mine config.
     let x : Run = record { words = texts (preprocessing_words c.args.words.now); input = []; ran = c.in-Ok.ran } in
     record {
       to = Over c.done_by_preprocessor.result;
-      went = only-run l (job_of c.args.words.now config) caller number _ _ Start _ x
-          (did-run _ _ x run.runs refl refl (Grew-refl _)) (record { station = run.faults; station_overruns = run.overruns; keeper = omega arith; keeper_overruns = omega arith; dialer = omega arith }) run.ran (same_peers _) run.same
-          (c.ran.ensures.events, c.ran.ensures.places) refl
-          (c.requires.remote, c.requires.source, (refl, refl), preprocessor-failed c.in-Ok.ran _ c.done_by_preprocessor.ensures c.if-ran-ne0.true) run.within;
+      went = only-run x
+          (did-run _ _ x run.runs refl refl (Grew-refl _)) (later-ran _ _ run.faults run.overruns refl refl) run.ran (same_peers _) run.same
+          (c.ran.ensures.events, c.ran.ensures.places) refl (
+            c.requires.remote,
+            c.requires.source,
+            (refl, refl),
+            preprocessor-failed c.in-Ok.ran _ c.done_by_preprocessor.ensures
+                c.if-ran-ne0.true,
+          ) run.within;
       ends = refl;
-      cause = done-cause _ _ _ _ _ _ _ _ c.done_by_preprocessor.ensures;
+      cause = done-cause _ _ c.done_by_preprocessor.ensures;
       station = stands-by _ _ _ run.done;
       keeper = keeps-by _ _ _ _ (keeps-none _ _);
-      fetch = done-unfetched _ _ _ _ _ _ _ _ _ _ c.done_by_preprocessor.ensures;
+      fetch = done-unfetched _ _ _ _ c.done_by_preprocessor.ensures;
     }
 
 pub returns-else-ran-ne0-clause-prepared : goal.returns-else-ran-ne0-clause-prepared
@@ -39,8 +44,8 @@ returns-else-ran-ne0-clause-prepared g c = λ h l caller number mine config.
     let run = c.in-Ok.ensures in
     let x : Run = record { words = texts (preprocessing_words c.args.words.now); input = []; ran = c.in-Ok.ran } in
     record {
-      went = only-run l (job_of c.args.words.now config) caller number _ _ Start (Send c.in-Ok.ran.out c.in-Ok.ran.err []) x
-          (did-run _ _ x run.runs refl refl (Grew-refl _)) (record { station = run.faults; station_overruns = run.overruns; keeper = omega arith; keeper_overruns = omega arith; dialer = omega arith }) run.ran (same_peers _) run.same
+      went = only-run x
+          (did-run _ _ x run.runs refl refl (Grew-refl _)) (later-ran _ _ run.faults run.overruns refl refl) run.ran (same_peers _) run.same
           (c.ran.ensures.events, c.ran.ensures.places) refl
           (c.requires.remote, c.requires.source, (refl, refl), preprocessor-well c.in-Ok.ran c.if-ran-ne0.false) run.within;
       station = run.done;
@@ -52,10 +57,12 @@ returns-in-Err-clause-prepared g c = λ h l caller number mine config.
     let run = c.in-Err.ensures in
     record {
       to = Start;
-      went = no-act l (job_of c.args.words.now config) caller number _ _ Start
-          (did-nothing _ _ run.runs (Grew-refl _) refl (Grew-refl _)) (record { station = run.faults; station_overruns = run.overruns; keeper = omega arith; keeper_overruns = omega arith; dialer = omega arith }) (same_peers _) run.same
+      went = no-act
+          (did-nothing _ _ run.runs (Grew-refl _) refl (Grew-refl _)) (later-ran _ _ run.faults run.overruns refl refl)
+          (same_peers _) run.same
           (sym (append-nil _), refl) refl;
-      ends = ends-unpreprocessed (job_of c.args.words.now config) _ c.requires.remote c.requires.source (not-run c.in-Err.fault _ c.why_not_run.ensures);
+      ends = ends-unpreprocessed (job_of c.args.words.now config) _ c.requires.remote c.requires.source
+          (not-run c.in-Err.fault _ c.why_not_run.ensures);
       cause = not-run-cause _ c.in-Err.fault _ _ _ c.why_not_run.ensures run.cause;
       station = not-run-stands _ c.in-Err.fault _ _ _ c.why_not_run.ensures run.cause;
       keeper = keeps-by (Failed c.why_not_run.result) _ _ _ (keeps-none _ _);

@@ -2,4 +2,4 @@ use Rattle.rehearsal.proofs.Looping.{loop-law}
 use Rattle.rehearsal.proofs.laws.loops_answer_as_the_compiler.Goals as goal
 
 pub returns : goal.returns
-returns g c = loop-law c.table_law.ensures.memory g.K.Keeper.shows g.C.Clock.shows
+returns g c = loop-law g.K.Keeper.shows g.C.Clock.shows

@@ -1,0 +1,23 @@
+// A job whose command may be sent, as its parts see it.
+ghost use Rattle.std.specs.Prelude.{◌≡◌, ◌≤◌, length};
+ghost use Rattle.arg_scan.specs.Class.{IsRemote};
+ghost use Rattle.arg_strip.specs.Words.{output_of};
+
+use farm_types::{Bytes, JobConfig, Words};
+use std::alloc::Global;
+
+/// What stays the same through a job whose command may be sent.
+#[derive(Drop)]
+pub(crate) struct Task<'a> {
+    pub(crate) alloc: Global,
+    pub(crate) words: &'a Words,
+    pub(crate) number: u32,
+    pub(crate) config: &'a JobConfig,
+    /// The name of its object.
+    pub(crate) output: &'a Bytes,
+    pub(crate) ghost remote: { IsRemote words.now },
+    pub(crate) ghost named: { output.now ≡ output_of words.now },
+    pub(crate) ghost entries: { length config.now.hosts.list ≤ 16 },
+    pub(crate) ghost some: { 1 ≤ config.now.tries },
+    pub(crate) ghost tries: { config.now.tries ≤ 16 },
+}
