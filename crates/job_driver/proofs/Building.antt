@@ -20,8 +20,9 @@ use Rattle.farm_cell.specs.Passes.{limits_of, callers_of, seen_of, mine_of}
 use Rattle.job_driver.specs.declared.crew.Desk.{Desk}
 use Rattle.job_driver.specs.declared.crew.Worker.{Worker}
 use Rattle.job_driver.specs.Crews.{kit_of, pass_of, desk_of, reports_on, HasRoom, IsReady, HasWorked}
-use Rattle.job_driver.specs.Driven.{Devices, JobsRan}
-use Rattle.job_driver.specs.Jobs.{job_at}
+use Rattle.farm_machine.specs.Devices.{Devices}
+use Rattle.job_driver.specs.Driven.{JobsRan}
+use Rattle.farm_machine.specs.Usable.{job_at}
 use Rattle.job_driver.specs.Works.{WorkedOff}
 use Rattle.job_driver.proofs.Joining.{Joins, joins-of}
 use Rattle.job_driver.proofs.Driving.{Stays, total, ran-all}

@@ -28,7 +28,7 @@ use Rattle.edge_traits.specs.Told.{SameRelation, SameRelation3}
 use Rattle.farm_machine.specs.declared.reports.End.{End}
 use Rattle.farm_machine.specs.declared.reports.Report.{Report}
 use Rattle.farm_machine.specs.Acts.{Act, Entries, deeds_of}
-use Rattle.farm_machine.specs.Course.{Course}
+use Rattle.farm_machine.specs.Course.{Start, Course}
 use Rattle.farm_machine.specs.Driver.{AllWorked, WorkersRun}
 use Rattle.farm_machine.specs.Farm.{wanted, IsOf}
 use Rattle.farm_machine.specs.Jobs.{Job, AreLimitsOf}
@@ -41,11 +41,13 @@ use Rattle.worker_laws.proofs.Reported.{workers-run}
 use Rattle.job_run.proofs.Lists.{moments-append}
 use Rattle.job_run.specs.Gives.{LeavesAlone}
 use Rattle.job_run.specs.Strict.{StrictCourse}
-use Rattle.job_driver.specs.Jobs.{job_at}
+use Rattle.farm_machine.specs.Usable.{job_at}
 use Rattle.job_driver.specs.Works.{untimed_job, all_acts, AreReportsOf, WorkedOff, AreCaused, CountsGoOn}
 use Rattle.course_laws.proofs.Puts.{puts-last}
 use Rattle.course_laws.proofs.Staying.{stays-here}
-use Rattle.job_driver.specs.Driven.{Devices, reports_by, events_of, acts_by, CountsOf, AreWithinLimits, KitDid, JobsRan}
+use Rattle.farm_machine.specs.Devices.{Devices}
+use Rattle.job_driver.specs.Driven.{reports_by, events_of, acts_by, CountsOf, AreWithinLimits, KitDid, JobsRan}
+use Rattle.job_run.proofs.Asking.{is-course}
 use Rattle.job_driver.proofs.Countings.{no_entries, entries-added, acts-read, counts-read}
 use Rattle.job_driver.proofs.Working.{numbers_of}
 use Rattle.job_driver.proofs.Drawing.{drawn-append}
@@ -67,9 +69,10 @@ pub record Stays {K : Type 0} (d : Devices K) (old new : K) : Type 0 where
   pub peers : SameRelation (d.peers old) (d.peers new)
   pub programs : SameRelation3 (d.programs old) (d.programs new)
 
-each-untimed : (jobs : ℕ → Job) (done : List DoneJob) → Each (λ job. Course (jobs job.number) (untimed job.acts) job.end) done → Each (λ job. Course (jobs job.number) job.acts job.end) (map untimed_job done)
+each-untimed : (jobs : ℕ → Job) (done : List DoneJob) → Each (λ job. StrictCourse (jobs job.number) (untimed job.acts) job.end) done
+    → Each (λ job. Course (jobs job.number) job.acts job.end) (map untimed_job done)
 each-untimed jobs [] each = tt
-each-untimed jobs (job ∷ done) each = (each.0, each-untimed jobs done each.1)
+each-untimed jobs (job ∷ done) each = (is-course (jobs job.number) (untimed job.acts) Start job.end each.0, each-untimed jobs done each.1)
 
 limits-of-jobs : (l : Limits 16) (words : List (List (List ℕ))) (config : JobConfig) → AreLimitsOf l config.hosts → IsOf l (job_at words config)
 limits-of-jobs l words config of = record { count = λ j below. sym of.count; local = λ j host below inside. sym (of.local host inside) }
@@ -151,7 +154,8 @@ module _ {K : Type 0} (d : Devices K) (l : Limits 16) (words : List (List (List 
 
   pub run : WorkersRun l jobs n (λ i. map untimed_job (done i)) H
   run = workers-run 16 l jobs n (λ i. map untimed_job (done i)) H (limits-of-jobs l words config of) legal all-worked
-      (λ i below. let f = facts i below in each-untimed jobs (done i) (subst (λ (ds : List DoneJob). Each (λ job. Course (jobs job.number) (untimed job.acts) job.end) ds) f.1 f.0.works.courses))
+      (λ i below. let f = facts i below in each-untimed jobs (done i)
+      (subst (λ (ds : List DoneJob). Each (λ job. StrictCourse (jobs job.number) (untimed job.acts) job.end) ds) f.1 f.0.works.strict))
 
   -- after legal calls no host has more slots given out than its limit
   within : (front : List CallEntry) → IsLegal l front → AreWithinLimits l (outstanding front)

@@ -1,6 +1,7 @@
 pub mod Working
 pub mod Drawing
 pub mod Stepping
+pub mod Marking
 pub mod Crewing
 pub mod Sorting
 pub mod Joining
@@ -11,3 +12,4 @@ pub mod Driving
 pub mod Building
 pub mod Countings
 pub mod Meaning
+pub mod Watching

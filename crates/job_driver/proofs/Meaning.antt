@@ -1,5 +1,5 @@
 -- What every run of jobs means.
-use Rattle.std.proofs.Common.{◌≡◌, inl, inr, ℕ, ◌<◌, true, false, IsTrue, List, ◌∷◌, Some, refl, ap, ◌∙◌, subst, arith}
+use Rattle.std.proofs.Common.{◌≡◌, ℕ, ◌<◌, true, false, IsTrue, List, ◌∷◌, Some, ap, ◌∙◌, subst, arith}
 use Rattle.std.specs.Prelude.{All, slice_get, slice_index, slice_index_or, None}
 use Rattle.slot_table.specs.declared.limits.Limits.{Limits}
 use Rattle.slot_table.specs.declared.state.SlotState.{SlotState}
@@ -10,40 +10,29 @@ use Rattle.slot_table.proofs.Keeps.{state-agrees}
 use Rattle.edge_traits.specs.Deeds.{put}
 use Rattle.edge_traits.specs.Kits.{KitView}
 use Rattle.farm_machine.specs.declared.reports.End.{End}
-use Rattle.farm_machine.specs.declared.reports.End.TheVariants.{Done, Failed}
-use Rattle.farm_machine.specs.declared.reports.Why5.TheVariants.{Station, Put as NotPut, Broke, NoHost, Memory, Fetch}
 use Rattle.farm_machine.specs.declared.reports.Report.{Report}
 use Rattle.farm_machine.specs.Acts.{Act, Did}
 use Rattle.farm_machine.specs.Course.{Start, Course}
 use Rattle.farm_machine.specs.Honest.{Peers, Programs, AllRan}
 use Rattle.farm_machine.specs.Jobs.{Job}
 use Rattle.farm_machine.specs.Reading.{IsReadAs}
-use Rattle.farm_machine.specs.Table.{MemoryLaw}
 use Rattle.course_laws.specs.Answers.{AllGiven, AnswersBy}
 use Rattle.course_laws.specs.Laws.{is_own_end}
 use Rattle.course_laws.specs.Returns.{IsCalm, is_done_or_wanted, NoneBroke, IsUnbroken}
 use Rattle.course_laws.proofs.Compilers.{put-answer, end-answer}
 use Rattle.course_laws.proofs.Fallbacks.{own as never-by-host}
 use Rattle.course_laws.proofs.Given.{given-front, ran-front, given-untimed, ran-untimed}
-use Rattle.course_laws.proofs.Tables.{table}
+use Rattle.course_laws.proofs.InTable.{in-table}
 use Rattle.course_laws.proofs.Unbroken.{unbroken-law}
 use Rattle.farm_laws.proofs.Draws.{next-all}
 use Rattle.farm_laws.proofs.Up.{up-law}
 use Rattle.job_run.proofs.Asking.{is-course}
-use Rattle.job_driver.specs.Driven.{Devices, reports_by, KitDid, JobsRan}
-use Rattle.job_driver.specs.Means.{IsOfTable, HasAnswers, RunMeans, RunMeansLaw}
+use Rattle.farm_machine.specs.Devices.{Devices}
+use Rattle.job_driver.specs.Driven.{reports_by, KitDid, JobsRan}
+use Rattle.job_driver.specs.Means.{HasAnswers, RunMeans, RunMeansLaw}
 use Rattle.job_driver.specs.Works.{ends_so, is_station_failure, is_keeper_failure, is_fetch_failure}
 use Rattle.job_driver.proofs.Countings.{stands-by, found-by}
 use Rattle.job_driver.proofs.Answering.{all-own, given-by, ran-by, calm-by, none-together, returned-well, some-at}
-
-in-table : MemoryLaw → (j : Job) (acts : List Act) (end : End) → Course j acts end → IsOfTable j acts end
-in-table memory j acts (Failed Memory) course = inr (refl, (memory j acts).0 course)
-in-table memory j acts (Failed Station) course = inl ((table j acts (Failed Station) (λ e. cc)).0 course)
-in-table memory j acts (Failed NotPut) course = inl ((table j acts (Failed NotPut) (λ e. cc)).0 course)
-in-table memory j acts (Failed Fetch) course = inl ((table j acts (Failed Fetch) (λ e. cc)).0 course)
-in-table memory j acts (Failed (Broke host cause)) course = inl ((table j acts (Failed (Broke host cause)) (λ e. cc)).0 course)
-in-table memory j acts (Failed NoHost) course = inl ((table j acts (Failed NoHost) (λ e. cc)).0 course)
-in-table memory j acts (Done status note err out by) course = inl ((table j acts (Done status note err out by) (λ e. cc)).0 course)
 
 module _ {K : Type 0} (d : Devices K) (l : Limits 16) (jobs : ℕ → Job) (period workers : ℕ) (reports : List Report)
     (history : List CallEntry) (last : SlotState 16) (old new : List K)
@@ -152,10 +141,10 @@ module _ {K : Type 0} (d : Devices K) (l : Limits 16) (jobs : ℕ → Job) (peri
   agree : SlotsAgree l (state_after l history) (outstanding history)
   agree = state-agrees 16 l history ran.valid.entries ran.agrees.legal
 
-  pub meaning : MemoryLaw → RunMeans d l jobs workers reports ran.read last old new
-  meaning memory = record {
+  pub meaning : RunMeans d l jobs workers reports ran.read last old new
+  meaning = record {
     courses = course;
-    of_table = λ j below. in-table memory (jobs j) (acts j) (end j) (course j below);
+    of_table = λ j below. in-table (jobs j) (acts j) (end j) (course j below);
     all_drawn = ap (λ (s : SlotState 16). s.next) ran.last_is ∙ next-all l history ran.agrees.legal ran.agrees.drawn;
     none_held = λ host below.
         ap (λ (s : SlotState 16). slice_index s.held host) ran.last_is ∙ agree.held host below ∙ ap (count_at (Some host)) ran.back;
@@ -175,6 +164,6 @@ module _ {K : Type 0} (d : Devices K) (l : Limits 16) (jobs : ℕ → Job) (peri
         (calm-by is_fetch_failure (reports_by i reports) none) (ran.counts i other below);
   }
 
-pub means : MemoryLaw → {K : Type 0} (d : Devices K) → RunMeansLaw d
-means memory d l jobs period workers reports history last old new ran =
-    meaning d l jobs period workers reports history last old new ran memory
+pub means : {K : Type 0} (d : Devices K) → RunMeansLaw d
+means d l jobs period workers reports history last old new ran =
+    meaning d l jobs period workers reports history last old new ran

@@ -11,7 +11,7 @@ use Rattle.farm_cell.specs.declared.cell.Pass.{Pass}
 use Rattle.farm_cell.specs.Passes.{limits_of, number_of, mine_of, IsPassOf}
 use Rattle.job_driver.specs.declared.crew.Worker.{Worker}
 use Rattle.job_driver.specs.declared.crew.Desk.{Desk}
-use Rattle.job_driver.specs.Driven.{Devices}
+use Rattle.farm_machine.specs.Devices.{Devices}
 use Rattle.job_driver.specs.Works.{WorkedOff}
 
 abbrev pub kit_of : {D S K C : Type 0} → Worker D S K C → Kit D S K C

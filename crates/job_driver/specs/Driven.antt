@@ -8,21 +8,18 @@ use Rattle.slot_table.specs.declared.calls.SlotCall.TheVariants.{Draw}
 use Rattle.slot_table.specs.declared.calls.SlotReply.TheVariants.{Drawn}
 use Rattle.slot_table.specs.Limits.{AreValid}
 use Rattle.slot_table.specs.History.{entry, Holding, count_at, outstanding, state_after, calls_by}
-use Rattle.edge_traits.specs.declared.kit.Kit.{Kit}
-use Rattle.edge_traits.specs.Clocks.{ClockView}
-use Rattle.edge_traits.specs.Dialers.{DialerView}
-use Rattle.edge_traits.specs.Keepers.{KeeperView, IsIdle}
-use Rattle.edge_traits.specs.Stations.{StationView}
+use Rattle.edge_traits.specs.Keepers.{IsIdle}
 use Rattle.edge_traits.specs.Deeds.{runs_in, fetches_in, exchanges_in, puts_in, moments_in, put, DidIn, MayAll}
-use Rattle.edge_traits.specs.Kits.{KitView, kit_view}
+use Rattle.edge_traits.specs.Kits.{KitView}
 use Rattle.edge_traits.specs.Told.{SameRelation, SameRelation3}
 use Rattle.farm_machine.specs.declared.reports.Event.{Event}
 use Rattle.farm_machine.specs.declared.reports.Report.{Report}
 use Rattle.edge_traits.specs.declared.entries.Put.{Put}
 use Rattle.farm_machine.specs.Acts.{Act, Did, Entries, deeds_of}
 use Rattle.farm_machine.specs.Causes.{KitLater}
+pub use Rattle.farm_machine.specs.Devices.{Devices, devices}
 use Rattle.farm_machine.specs.Farm.{wanted, farm_of}
-use Rattle.farm_machine.specs.Honest.{Peers, Programs, AllRan}
+use Rattle.farm_machine.specs.Honest.{AllRan}
 use Rattle.farm_machine.specs.Jobs.{Job, may_be_sent}
 use Rattle.farm_machine.specs.Machine.{FarmRun}
 use Rattle.farm_machine.specs.Moments.{AreMoments}
@@ -34,16 +31,6 @@ pub use Rattle.course_laws.specs.Returns.{IsCalm, is_done_or_wanted}
 use Rattle.job_run.specs.Gives.{LeavesAlone}
 use Rattle.job_run.specs.Strict.{StrictCourse}
 use Rattle.job_driver.specs.Works.{AreCaused, CountsTell}
-
--- what is seen of kits: what they tell, what their peers may give, and what their programs may leave
-pub record Devices (K : Type 0) : Type 1 where
-  pub shows : K → KitView
-  pub peers : K → Peers
-  pub programs : K → Programs
-
-abbrev pub devices : {D S K C : Type 0} → (D → DialerView) → (S → StationView) → (K → KeeperView) → (C → ClockView) → (D → Peers) → (S → Programs) → Devices (Kit D S K C)
-devices dialer station keeper clock peers programs =
-    record { shows = kit_view dialer station keeper clock; peers = λ kit. peers kit.dialer; programs = λ kit. programs kit.station }
 
 -- the reports of one worker, in the order of the jobs
 abbrev pub reports_by : ℕ → List Report → List Report

@@ -1,31 +1,7 @@
--- The jobs of a list.
-use Rattle.std.specs.Prelude.{◌≡◌, ℕ, ◌*◌, ◌+◌, ◌<◌, ◌≤◌, Bool, true, List, [], All, length, slice_index_or}
-use Rattle.farm_types.specs.declared.hosts.Hosts.{Hosts}
-use Rattle.farm_types.specs.declared.jobs.JobConfig.{JobConfig}
-use Rattle.farm_machine.specs.Jobs.{Job, job_of}
-
--- the job at a place of the list
-abbrev pub job_at : List (List (List ℕ)) → JobConfig → ℕ → Job
-job_at jobs config number = job_of (slice_index_or jobs number []) config
-
--- 1 to 512 jobs, each with a word
-pub record AreDoable (jobs : List (List (List ℕ))) : Type 0 where
-  pub some : 1 ≤ length jobs
-  pub most : length jobs ≤ 512
-  pub words : All (λ words. 0 < length words) jobs
+-- What a list of jobs needs.
+use Rattle.std.specs.Prelude.{◌≡◌, ℕ, ◌*◌, ◌+◌, ◌≤◌, Bool, true}
+pub use Rattle.farm_machine.specs.Usable.{job_at, AreDoable, AreUsable, IsUsable}
 
 -- a caller that is alone has room for 65 calls a job, and one more
 abbrev pub HasRoomFor : Bool → ℕ → ℕ → Type 0
 HasRoomFor alone jobs spare = alone ≡ true → 65 * jobs + 1 ≤ spare
-
--- at most 16 entries, each with a slot, and a local slot
-pub record AreUsable (hosts : Hosts) : Type 0 where
-  pub few : length hosts.list ≤ 16
-  pub slots : All (λ host. 1 ≤ host.limit) hosts.list
-  pub local_slots : 1 ≤ hosts.local_slots
-
--- the hosts are usable, and 1 to 16 of them may be asked for a job
-pub record IsUsable (config : JobConfig) : Type 0 where
-  pub hosts : AreUsable config.hosts
-  pub some : 1 ≤ config.tries
-  pub tries : config.tries ≤ 16

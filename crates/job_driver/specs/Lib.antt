@@ -2,4 +2,6 @@ pub mod Jobs
 pub mod Works
 pub mod Driven
 pub mod Means
+pub mod Marks
 pub mod Crews
+pub mod Watching

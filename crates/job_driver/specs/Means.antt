@@ -1,5 +1,5 @@
 -- What every run of jobs means.
-use Rattle.std.specs.Prelude.{◌≡◌, ◌⊎◌, ℕ, ◌<◌, true, IsTrue, List, ◌∷◌, ◌++◌, slice_index, slice_index_or}
+use Rattle.std.specs.Prelude.{◌≡◌, ℕ, ◌<◌, true, IsTrue, List, ◌∷◌, ◌++◌, slice_index, slice_index_or}
 use Rattle.slot_table.specs.declared.limits.Limits.{Limits}
 use Rattle.slot_table.specs.declared.state.SlotState.{SlotState}
 use Rattle.slot_table.specs.declared.calls.CallEntry.{CallEntry}
@@ -9,23 +9,17 @@ use Rattle.edge_traits.specs.Causes.{Still}
 use Rattle.edge_traits.specs.Kits.{KitView}
 use Rattle.edge_traits.specs.Stations.{NoneRose}
 use Rattle.farm_machine.specs.declared.reports.Report.{Report}
-use Rattle.farm_machine.specs.declared.reports.End.{End}
-use Rattle.farm_machine.specs.declared.reports.End.TheVariants.{Failed}
-use Rattle.farm_machine.specs.declared.reports.Why5.TheVariants.{Memory}
 use Rattle.farm_machine.specs.Acts.{Act, Did}
 use Rattle.farm_machine.specs.Course.{Course}
 use Rattle.farm_machine.specs.Honest.{Peers, Programs, AllRan, IsHonest}
 use Rattle.farm_machine.specs.Jobs.{Job}
-use Rattle.farm_machine.specs.Table.{Finished, IsCut, IsCutInExchange}
+pub use Rattle.farm_machine.specs.TableCourse.{IsOfTable}
 use Rattle.farm_machine.specs.Weave.{Reports}
 use Rattle.course_laws.specs.Answers.{AllGiven, IsAnswer, AnswersBy}
 use Rattle.course_laws.specs.Returns.{NoneBroke, IsCalm, is_done_or_wanted}
-use Rattle.job_driver.specs.Driven.{Devices, reports_by, JobsRan}
+use Rattle.farm_machine.specs.Devices.{Devices}
+use Rattle.job_driver.specs.Driven.{reports_by, JobsRan}
 use Rattle.job_driver.specs.Works.{ends_so, is_station_failure, is_fetch_failure}
-
--- a course of the table, or the cut front of one where memory was wanting
-abbrev pub IsOfTable : Job → List Act → End → Type 0
-IsOfTable j acts end = Finished j acts end ⊎ ((end ≡ Failed Memory) × (IsCut j acts ⊎ IsCutInExchange j acts))
 
 -- Where the exchanges are told and the peers are honest, each object that the job put is one that a compiler may answer to the request of
 -- the job's own source.

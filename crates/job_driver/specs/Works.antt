@@ -16,7 +16,6 @@ use Rattle.farm_machine.specs.declared.reports.Places.{Places}
 use Rattle.farm_machine.specs.declared.reports.Report.{Report}
 use Rattle.farm_machine.specs.Acts.{Act, deeds_of}
 use Rattle.farm_machine.specs.Causes.{HasEndCause, StationStands, KitLater}
-use Rattle.farm_machine.specs.Course.{Course}
 use Rattle.farm_machine.specs.Farm.{wanted}
 use Rattle.farm_machine.specs.Honest.{Peers, Programs, AllRan}
 use Rattle.farm_machine.specs.Jobs.{Job, source_name}
@@ -112,7 +111,6 @@ CountsGoOn jobs (job ∷ done) old new = (mid : KitView) × CountsTell (jobs job
 pub record Works {h : ℕ} (peers : Peers) (programs : Programs) (jobs : ℕ → Job) (period : ℕ) (l : Limits h) (worker : ℕ) (reports : List Report) (calls : List CallEntry) (old new : KitView) : Type 0 where
   pub done : List DoneJob
   pub reported : AreReportsOf worker no_places done reports
-  pub courses : Each (λ job. Course (jobs job.number) (untimed job.acts) job.end) done
   pub strict : Each (λ job. StrictCourse (jobs job.number) (untimed job.acts) job.end) done
   pub does : DoesJobs (wanted l) worker (map untimed_job done) calls
   pub did : DidIn old new (deeds_of (all_acts done))

@@ -4,9 +4,10 @@ ghost use Rattle.std.specs.List.{flat_map};
 ghost use Rattle.farm_machine.specs.Jobs.{AreLimitsOf};
 ghost use Rattle.farm_cell.specs.Passes.{limits_of};
 ghost use Rattle.job_driver.specs.Crews.{kit_of, pass_of, desk_of, reports_on, HasRoom, IsReady, HasWorked};
-ghost use Rattle.job_driver.specs.Driven.{devices};
-ghost use Rattle.job_driver.specs.Jobs.{job_at, AreDoable};
+ghost use Rattle.farm_machine.specs.Devices.{devices};
+ghost use Rattle.farm_machine.specs.Usable.{job_at, AreDoable};
 
+use crate::marks::Unwatched;
 use crate::worker::work;
 use edge_traits::{Clock, Dialer, Keeper, Kit, Station};
 use farm_cell::{Cell, Held, Pass};
@@ -76,6 +77,7 @@ fn work_over<R: Wait, D: Dialer, S: Station, K: Keeper, C: Clock>(
         &mut worker.kit,
         &mut worker.desk.rooms,
         &mut worker.desk.reports,
+        &mut Unwatched,
     );
 }
 

@@ -4,15 +4,15 @@ ghost use Rattle.edge_traits.specs.Keepers.{IsIdle};
 ghost use Rattle.farm_machine.specs.Jobs.{AreLimitsOf};
 ghost use Rattle.farm_cell.specs.Passes.{seen_of};
 ghost use Rattle.job_driver.specs.Crews.{HasRoom};
-ghost use Rattle.job_driver.specs.Driven.{devices, JobsRan};
-ghost use Rattle.job_driver.specs.Jobs.{job_at, AreDoable, IsUsable};
+ghost use Rattle.farm_machine.specs.Devices.{devices};
+ghost use Rattle.job_driver.specs.Driven.{JobsRan};
+ghost use Rattle.farm_machine.specs.Usable.{job_at, AreDoable, IsUsable};
 
 use crate::crew::{Desk, dismiss, gather, hire, work_all};
 use edge_traits::{Clock, Dialer, Keeper, Kit, Station};
 use farm_cell::{Cell, Pass};
-use farm_machine::ReportList;
+use farm_machine::{ReportList, limits_of};
 use farm_types::{JobConfig, Jobs};
-use job_run::limits_of;
 use slot_table::Slots;
 use std::alloc::{AllocError, Global};
 use std::sync::Wait;
@@ -27,8 +27,8 @@ pub struct Built {
     pub pass: Pass,
 }
 
-// A desk for each worker.
-fn desks_for(alloc: Global, workers: usize, jobs: usize) -> Result<Vec<Desk>, AllocError>
+/// A desk for each worker.
+pub fn desks_for(alloc: Global, workers: usize, jobs: usize) -> Result<Vec<Desk>, AllocError>
     ensures len { IfOk result (λ desks. length desks.items ≡ workers) }
     ensures room { IfOk result (λ desks. All (λ desk. HasRoom jobs desk) desks.items) }
 {

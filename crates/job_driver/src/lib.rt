@@ -1,10 +1,18 @@
 //! All jobs of a list, done by workers side by side, each with a kit of its own, over slots that they share.
 #![tactic(auto)]
 
+mod beside;
+mod boards;
 mod crew;
 mod driver;
 mod laws;
+mod marker;
+mod marks;
+mod watch;
+mod watched;
 mod worker;
 
 pub use driver::{Built, build};
 pub use laws::run_means;
+pub use watch_lines::LineEnd;
+pub use watched::{Watched, build_watched};

@@ -5,9 +5,12 @@ ghost use Rattle.edge_traits.specs.Kits.{kit_view};
 ghost use Rattle.edge_traits.specs.Told.{SameRelation, SameRelation3};
 ghost use Rattle.slot_table.specs.History.{outstanding};
 ghost use Rattle.farm_machine.specs.Jobs.{AreLimitsOf};
-ghost use Rattle.job_driver.specs.Jobs.{job_at, AreDoable, HasRoomFor};
+ghost use Rattle.farm_machine.specs.Usable.{job_at, AreDoable};
+ghost use Rattle.job_driver.specs.Jobs.{HasRoomFor};
+ghost use Rattle.job_driver.specs.Marks.{HasMarked};
 ghost use Rattle.job_driver.specs.Works.{WorkedOff};
 
+use crate::marks::Marks;
 use edge_traits::{Clock, Dialer, Keeper, Kit, Station};
 use farm_machine::{Places, Report};
 use farm_types::{JobConfig, Jobs};
@@ -25,8 +28,8 @@ const FIRST: Places = Places {
 };
 
 /// Draws jobs until there are none, and does each. `rooms` has room for the events of each job that it may draw, and `reports`
-/// for the reports, so it takes no memory but that of the jobs themselves.
-pub fn work<R: Wait, D: Dialer, S: Station, K: Keeper, C: Clock, G: Grants>(
+/// for the reports, so it takes no memory but that of the jobs themselves, and that of what is marked.
+pub fn work<R: Wait, D: Dialer, S: Station, K: Keeper, C: Clock, G: Grants, M: Marks>(
     rt: &R,
     alloc: Global,
     jobs: &Jobs,
@@ -35,6 +38,7 @@ pub fn work<R: Wait, D: Dialer, S: Station, K: Keeper, C: Clock, G: Grants>(
     kit: &mut Kit<D, S, K, C>,
     rooms: &mut Vec<EventRoom>,
     reports: &mut Vec<Report>,
+    marks: &mut M,
 )
     requires jobs { AreDoable jobs.now }
     requires number { (G.limits grants.old).jobs ≡ length jobs.now }
@@ -50,18 +54,16 @@ pub fn work<R: Wait, D: Dialer, S: Station, K: Keeper, C: Clock, G: Grants>(
     requires none { reports.old.items ≡ [] }
     requires room { length jobs.now ≤ vec_capacity reports.old }
     ensures worked { WorkedOff (D.may_give kit.old.dialer) (S.ran kit.old.station) (job_at jobs.now config.now)
-        config.now.period (G.limits grants.old) (G.number grants.old) reports.new.items (G.mine grants.new)
+        config.now.period (G.limits grants.old) (G.caller_number grants.old) reports.new.items (G.mine grants.new)
         (kit_view D.shows S.shows K.shows C.shows kit.old)
         (kit_view D.shows S.shows K.shows C.shows kit.new) }
     ensures pending { IsIdle (K.shows kit.new.keeper) }
     ensures back { outstanding (G.mine grants.new) ≡ [] }
+    ensures marked { HasMarked M.board M.all M.rows marks.old marks.new reports.new.items }
 
     // What is the same for all jobs stays so.
     ensures ready { G.ready grants.new }
-    ensures home { G.home grants.new ≡ G.home grants.old }
-    ensures place { G.place grants.new ≡ G.place grants.old }
-    ensures limits { G.limits grants.new ≡ G.limits grants.old }
-    ensures caller { G.number grants.new ≡ G.number grants.old }
+    ensures follows { G.follows grants.old grants.new }
     ensures peers { SameRelation (D.may_give kit.old.dialer) (D.may_give kit.new.dialer) }
     ensures programs { SameRelation3 (S.ran kit.old.station) (S.ran kit.new.station) }
 {
@@ -70,6 +72,7 @@ pub fn work<R: Wait, D: Dialer, S: Station, K: Keeper, C: Clock, G: Grants>(
         let Some(job) = grants.draw() else {
             return;
         };
+        marks.begin(rt, job);
         let Some(room) = rooms.pop() else {
             unreachable!()
         };
@@ -88,6 +91,7 @@ pub fn work<R: Wait, D: Dialer, S: Station, K: Keeper, C: Clock, G: Grants>(
         let Ok(()) = reports.push(report) else {
             unreachable!()
         };
+        marks.end(rt);
     }
     unreachable!()
 }

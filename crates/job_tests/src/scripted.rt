@@ -12,9 +12,9 @@ use edge_memory::{
 use edge_traits::{
     CallNumbers, Clock, Dialer, Exchange, FileList, Keeper, Kit, Run, Station, is_staged,
 };
-use farm_machine::{By, End, Event, Places, Report, Why5};
+use farm_machine::{By, End, Event, Places, Report, Why5, limits_of};
 use farm_types::{Bytes, Ext, Host, HostName, HostVec, Hosts, Items, JobConfig, Ran, Word, Words};
-use job_run::{EventRoom, limits_of, run_job};
+use job_run::{EventRoom, run_job};
 use slot_table::{Grants, OneThread};
 use std::alloc::Global;
 use std::process::Abort;
@@ -247,7 +247,7 @@ fn job_at<R: Wait, D: Dialer, S: Station, K: Keeper, C: Clock, G: Grants>(
     requires none { outstanding (G.mine grants.old) ≡ [] }
     requires pending { IsIdle (K.shows kit.old.keeper) }
     ensures ready { G.ready grants.new }
-    ensures limits { G.limits grants.new ≡ G.limits grants.old }
+    ensures follows { G.follows grants.old grants.new }
     ensures none { outstanding (G.mine grants.new) ≡ [] }
     ensures spare { G.spare grants.old ≤ G.spare grants.new + 64 * cost G.alone }
     ensures pending { IsIdle (K.shows kit.new.keeper) }

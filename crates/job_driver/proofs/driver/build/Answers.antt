@@ -11,8 +11,9 @@ use Rattle.farm_machine.specs.Jobs.{AreLimitsOf}
 use Rattle.farm_cell.specs.Passes.{limits_of, seen_of}
 use Rattle.job_driver.specs.declared.crew.Desk.{Desk}
 use Rattle.job_driver.specs.Crews.{desk_of, reports_on, HasRoom}
-use Rattle.job_driver.specs.Driven.{devices, JobsRan}
-use Rattle.job_driver.specs.Jobs.{job_at}
+use Rattle.farm_machine.specs.Devices.{devices}
+use Rattle.job_driver.specs.Driven.{JobsRan}
+use Rattle.farm_machine.specs.Usable.{job_at}
 use Rattle.job_driver.proofs.Crewing.{flat-length}
 use Rattle.job_driver.proofs.Building.{ready-all, all-back, none-out, all-reported, ran-of, first-of}
 use Rattle.job_driver.proofs.driver.build.Goals as goal

@@ -1,10 +1,12 @@
 use Rattle.std.proofs.Common.{◌≡◌, ℕ, ◌<◌, length, refl, sym, ap, ◌∙◌, subst, arith, rules}
 use Rattle.std.specs.Prelude.{All}
 use Rattle.std.proofs.lemmas.Grind.{common_steps}
+use Rattle.farm_machine.specs.Jobs.{AreLimitsOf}
 use Rattle.job_run.proofs.Leaves.{same_peers, same_programs}
 use Rattle.job_driver.proofs.Working.{numbers_of, AreFew}
 use Rattle.job_driver.proofs.Drawing.{few-more, within-more, few-none, within-none}
 use Rattle.job_driver.proofs.Stepping.{works-none, works-more, counted-none, counted-more, drawn-back, report-later, relation-then, relation3-then, job-found, drawn-as, spare-enough, spare-more}
+use Rattle.job_driver.proofs.Marking.{marked-none, marked-more}
 use Rattle.job_driver.proofs.worker.work.Goals as goal
 
 pub working-init : goal.working-init
@@ -19,10 +21,8 @@ working-init g c = record {
   pending = c.requires.pending;
   back = search rules;
   ready = c.requires.ready;
-  home = refl;
-  place = refl;
-  limits = refl;
-  caller = refl;
+  follows = g.met.G.Grants.follows_itself _;
+  marked = marked-none g.M.Marks.board g.M.Marks.all g.M.Marks.rows _ _ c.requires.none;
   peers = same_peers _;
   programs = same_programs _;
 }
@@ -34,7 +34,7 @@ pub unreachable-requires : goal.unreachable-requires
 unreachable-requires g c =
     let i = c.working.invariant in
     let few = i.few c.in-Some-draw.job (report-later c.in-Some-draw.job i.works c.in-Some-draw.ensures.later) in
-    let below : c.in-Some-draw.job < length c.args.jobs.now = subst (λ (k : ℕ). c.in-Some-draw.job < k) (ap (λ l. l.jobs) i.limits ∙ c.requires.number) c.in-Some-draw.ensures.job in
+    let below : c.in-Some-draw.job < length c.args.jobs.now = subst (λ (k : ℕ). c.in-Some-draw.job < k) (ap (λ l. l.jobs) (g.met.G.Grants.limits_stay _ _ i.follows) ∙ c.requires.number) c.in-Some-draw.ensures.job in
     let rooms = i.rooms in
     let none : length c.working.rooms.items ≡ 0 = grind (arith, common_steps, c.in_default-pop.ensures.items) in
     omega (arith, few, below, rooms, none)
@@ -43,8 +43,16 @@ pub run_job-report-requires-clause-spare : goal.run_job-report-requires-clause-s
 run_job-report-requires-clause-spare g c =
     let i = c.working.invariant in
     let few = i.few c.in-Some-draw.job (report-later c.in-Some-draw.job i.works c.in-Some-draw.ensures.later) in
-    let below : c.in-Some-draw.job < length c.args.jobs.now = subst (λ (k : ℕ). c.in-Some-draw.job < k) (ap (λ l. l.jobs) i.limits ∙ c.requires.number) c.in-Some-draw.ensures.job in
+    let below : c.in-Some-draw.job < length c.args.jobs.now = subst (λ (k : ℕ). c.in-Some-draw.job < k) (ap (λ l. l.jobs) (g.met.G.Grants.limits_stay _ _ i.follows) ∙ c.requires.number) c.in-Some-draw.ensures.job in
     spare-enough _ (length c.args.jobs.now) (length c.working.reports.items) _ _ (omega (arith, few, below)) i.spare c.in-Some-draw.ensures.spare
+
+pub run_job-report-requires-clause-hosts : goal.run_job-report-requires-clause-hosts
+run_job-report-requires-clause-hosts g c =
+    let drawn = g.met.G.Grants.follows_on _ _ _ c.working.invariant.follows c.in-Some-draw.ensures.follows in
+    subst (λ l. AreLimitsOf l c.args.config.now.hosts) (sym (g.met.G.Grants.limits_stay _ _ drawn)) c.requires.hosts
+
+pub returns-in_default-clause-follows : goal.returns-in_default-clause-follows
+returns-in_default-clause-follows g c = g.met.G.Grants.follows_on _ _ _ c.working.invariant.follows c.draw.ensures.follows
 
 pub run_job-report-requires-clause-none : goal.run_job-report-requires-clause-none
 run_job-report-requires-clause-none g c = drawn-back _ c.draw.result _ _ c.draw.ensures.mine c.working.invariant.back
@@ -55,11 +63,12 @@ working-preserved g c =
     let w = c.run_job-report.ensures in
     let job = c.in-Some-draw.job in
     let d = c.in-Some-draw.ensures in
+    let drawn = g.met.G.Grants.follows_on _ _ _ i.follows d.follows in
     let later = report-later job i.works d.later in
-    let below : job < length c.args.jobs.now = subst (λ (k : ℕ). job < k) (ap (λ l. l.jobs) i.limits ∙ c.requires.number) d.job in
+    let below : job < length c.args.jobs.now = subst (λ (k : ℕ). job < k) (ap (λ l. l.jobs) (g.met.G.Grants.limits_stay _ _ i.follows) ∙ c.requires.number) d.job in
     record {
-      works = works-more c.run_job-report.result (d.limits ∙ i.limits) (d.number ∙ i.caller) (job-found job c.args.config.now c.as_slice.ensures c.index-as_slice-job.is below) refl
-          (relation-then i.peers w.peers) (relation3-then i.programs w.programs) (drawn-as _ i.caller c.in-Some-draw.is c.draw.ensures.mine) c.in-Ok.ensures.items w.number w.worker i.works w.ran;
+      works = works-more c.run_job-report.result (g.met.G.Grants.limits_stay _ _ drawn) (g.met.G.Grants.caller_stays _ _ drawn) (job-found job c.args.config.now c.as_slice.ensures c.index-as_slice-job.is below) refl
+          (relation-then i.peers w.peers) (relation3-then i.programs w.programs) (drawn-as _ (g.met.G.Grants.caller_stays _ _ i.follows) c.in-Some-draw.is c.draw.ensures.mine) c.in-Ok.ensures.items w.number w.worker i.works w.ran;
       few = subst AreFew (sym c.in-Ok.ensures.items) (few-more _ _ job w.number i.few later);
       within = subst (λ rs. All (λ number. number < length c.args.jobs.now) (numbers_of rs)) (sym c.in-Ok.ensures.items) (within-more _ _ _ job w.number below i.within);
       counted = counted-more c.run_job-report.result c.in-Ok.ensures.items c.requires.some c.requires.tries i.counted w.ran;
@@ -69,10 +78,9 @@ working-preserved g c =
       pending = w.pending;
       back = w.none;
       ready = w.ready;
-      home = w.home ∙ d.home ∙ i.home;
-      place = w.place ∙ d.place ∙ i.place;
-      limits = w.limits ∙ d.limits ∙ i.limits;
-      caller = w.caller ∙ d.number ∙ i.caller;
+      follows = g.met.G.Grants.follows_on _ _ _ drawn w.follows;
+      marked = marked-more g.M.Marks.board g.M.Marks.all g.M.Marks.rows _ _ _ _ _ _ _ job i.marked
+          c.begin.ensures.board c.begin.ensures.added c.end.ensures.board c.end.ensures.added c.in-Ok.ensures.items w.number;
       peers = relation-then i.peers w.peers;
       programs = relation3-then i.programs w.programs;
     }
@@ -81,7 +89,7 @@ pub unreachable-requires-in_default-push : goal.unreachable-requires-in_default-
 unreachable-requires-in_default-push g c =
     let i = c.working.invariant in
     let few = i.few c.in-Some-draw.job (report-later c.in-Some-draw.job i.works c.in-Some-draw.ensures.later) in
-    let below : c.in-Some-draw.job < length c.args.jobs.now = subst (λ (k : ℕ). c.in-Some-draw.job < k) (ap (λ l. l.jobs) i.limits ∙ c.requires.number) c.in-Some-draw.ensures.job in
+    let below : c.in-Some-draw.job < length c.args.jobs.now = subst (λ (k : ℕ). c.in-Some-draw.job < k) (ap (λ l. l.jobs) (g.met.G.Grants.limits_stay _ _ i.follows) ∙ c.requires.number) c.in-Some-draw.ensures.job in
     let room = i.room in
     let full = c.in_default-push.ensures.full in
     let k = c.working.reports.ok in

@@ -3,13 +3,14 @@ use Rattle.edge_traits.specs.Keepers.{IsIdle}
 use Rattle.edge_traits.specs.Kits.{kit_view}
 use Rattle.edge_traits.specs.Told.{SameRelation, SameRelation3}
 use Rattle.slot_table.specs.History.{outstanding}
-use Rattle.job_driver.specs.Jobs.{job_at}
+use Rattle.farm_machine.specs.Usable.{job_at}
+use Rattle.job_driver.specs.Marks.{HasMarked}
 use Rattle.job_driver.proofs.Working.{WorksTo, AreFew, AreWithin, AreCounted}
 use Rattle.job_driver.proofs.worker.work.Given as goal
 
 abbrev pub invariant-working : goal.invariant-working
 invariant-working g l = record {
-  works : WorksTo (g.D.Dialer.may_give l.fn.kit.dialer) (g.S.Station.ran l.fn.kit.station) (job_at l.jobs l.config) l.config.period (g.G.Grants.limits l.fn.grants) (g.G.Grants.number l.fn.grants) l.reports.items (g.G.Grants.mine l.grants)
+  works : WorksTo (g.D.Dialer.may_give l.fn.kit.dialer) (g.S.Station.ran l.fn.kit.station) (job_at l.jobs l.config) l.config.period (g.G.Grants.limits l.fn.grants) (g.G.Grants.caller_number l.fn.grants) l.reports.items (g.G.Grants.mine l.grants)
       (kit_view g.D.Dialer.shows g.S.Station.shows g.K.Keeper.shows g.C.Clock.shows l.fn.kit) (kit_view g.D.Dialer.shows g.S.Station.shows g.K.Keeper.shows g.C.Clock.shows l.kit) l.places;
   few : AreFew l.reports.items;
   within : AreWithin (length l.jobs) l.reports.items;
@@ -20,10 +21,8 @@ invariant-working g l = record {
   pending : IsIdle (g.K.Keeper.shows l.kit.keeper);
   back : outstanding (g.G.Grants.mine l.grants) ≡ [];
   ready : g.G.Grants.ready l.grants;
-  home : g.G.Grants.home l.grants ≡ g.G.Grants.home l.fn.grants;
-  place : g.G.Grants.place l.grants ≡ g.G.Grants.place l.fn.grants;
-  limits : g.G.Grants.limits l.grants ≡ g.G.Grants.limits l.fn.grants;
-  caller : g.G.Grants.number l.grants ≡ g.G.Grants.number l.fn.grants;
+  follows : g.G.Grants.follows l.fn.grants l.grants;
+  marked : HasMarked g.M.Marks.board g.M.Marks.all g.M.Marks.rows l.fn.marks l.marks l.reports.items;
   peers : SameRelation (g.D.Dialer.may_give l.fn.kit.dialer) (g.D.Dialer.may_give l.kit.dialer);
   programs : SameRelation3 (g.S.Station.ran l.fn.kit.station) (g.S.Station.ran l.kit.station);
 }

@@ -1,0 +1,16 @@
+use Rattle.std.proofs.Common.{length, min, subst}
+use Rattle.watch_lines.specs.Counts.{total}
+use Rattle.watch_lines.specs.Printed.{WatchLines}
+use Rattle.job_driver.proofs.Watching.{lines-from-none}
+use Rattle.job_driver.proofs.watch.Watch.print.Goals as goal
+
+pub returns-clause-printed : goal.returns-clause-printed
+returns-clause-printed g c =
+    let shows = g.E.Sink.shows in
+    let jobs = c.args.jobs in
+    let lines = c.args.self.now.lines in
+    let old = shows c.args.err.now in
+    let new = shows c.watch.new.err in
+    lines-from-none jobs _ 1 lines _ _ _ c.watch.result
+    (subst (λ ws. WatchLines jobs (length ws) 1 lines (min jobs (total ws)) old new c.watch.result) c.as_mut_slice.ensures.value
+    c.watch.ensures.printed)

@@ -1,0 +1,31 @@
+use Rattle.std.proofs.Common.{length, map, sym, ap, ◌∙◌}
+use Rattle.job_driver.specs.Crews.{IsReady, HasWorked}
+use Rattle.farm_machine.specs.Devices.{devices}
+use Rattle.farm_machine.specs.Usable.{job_at}
+use Rattle.job_driver.specs.Watching.{worker_of, marker_of, board_marked}
+use Rattle.job_driver.proofs.Watching.{all-of-map, both-of-map, same-map, map-twice}
+use Rattle.job_driver.proofs.watch.work_beside.Goals as goal
+
+pub work_and_watch-end-requires-clause-ready : goal.work_and_watch-end-requires-clause-ready
+work_and_watch-end-requires-clause-ready g c κs within =
+    let d = devices g.D.Dialer.shows g.S.Station.shows g.K.Keeper.shows g.C.Clock.shows g.D.Dialer.may_give g.S.Station.ran in
+    all-of-map worker_of
+    (λ worker. IsReady d c.args.cell.now (length c.args.jobs.now) worker) c.pair.new.crew.items c.args.workers.now.items
+    c.pair.ensures.workers.1 c.requires.ready
+
+pub returns-clause-each : goal.returns-clause-each
+returns-clause-each g c number d below =
+    let dev = devices g.D.Dialer.shows g.S.Station.shows g.K.Keeper.shows g.C.Clock.shows g.D.Dialer.may_give g.S.Station.ran in
+    both-of-map worker_of (HasWorked dev c.args.cell.now (job_at c.args.jobs.now c.args.config.now) c.args.config.now.period)
+    c.pair.new.crew.items c.work_and_watch-end.new.crew.items c.args.workers.now.items c.unpair.new.workers.items
+    c.pair.ensures.workers.1 c.unpair.ensures.workers c.work_and_watch-end.ensures.len.1 number d below
+    (λ x less. c.work_and_watch-end.ensures.each number x less)
+
+pub returns-clause-boards : goal.returns-clause-boards
+returns-clause-boards g c =
+    let old = c.pair.new.crew.items in
+    let new = c.work_and_watch-end.new.crew.items in
+    ap (map board_marked) c.unpair.ensures.markers ∙ map-twice board_marked marker_of new
+    ∙ same-map (λ m. board_marked (marker_of m)) old new c.work_and_watch-end.ensures.len.1 c.work_and_watch-end.ensures.boards
+    ∙ sym (map-twice board_marked marker_of old) ∙ ap (map board_marked) c.pair.ensures.markers.1
+    ∙ c.requires.fits.boards ∙ sym c.work_and_watch-end.ensures.watchers

@@ -1,0 +1,57 @@
+use Rattle.std.proofs.Common.{ℕ, length, refl, subst, arith}
+use Rattle.edge_traits.specs.declared.kit.Kit.{Kit}
+use Rattle.job_run.proofs.Leaves.{same_peers, same_programs}
+use Rattle.farm_cell.specs.Passes.{seen_of}
+use Rattle.farm_machine.specs.Devices.{devices}
+use Rattle.farm_machine.specs.Usable.{job_at}
+use Rattle.job_driver.specs.Watching.{AfterLines}
+use Rattle.job_driver.proofs.Watching.{watched-ran, last-printed}
+use Rattle.job_driver.proofs.watched.build_watched.Goals as goal
+
+pub unreachable-requires-in_default-push : goal.unreachable-requires-in_default-push
+unreachable-requires-in_default-push g c =
+    let was = c.args.kits.now.ok in
+    let popped = c.pop.new.self.ok in
+    let back = c.build_beside-done.new.kits.ok in
+    let one = c.in-Some.ensures.cases in
+    let room = c.pop.ensures.capacity in
+    let len = c.build_beside-done.ensures.len in
+    let kept = c.build_beside-done.ensures.kept in
+    let full = c.in_default-push.ensures.full in
+    omega (arith, was, popped, back, one, room, len, kept, full)
+
+pub returns-clause-ran : goal.returns-clause-ran
+returns-clause-ran g c =
+    let d = devices g.D.Dialer.shows g.S.Station.shows g.K.Keeper.shows g.C.Clock.shows g.D.Dialer.may_give g.S.Station.ran in
+    let built = c.in_ok-built.built in
+    let lender = c.in-Some.lender in
+    let back : Kit g.row.D.Denot g.row.S.Denot g.row.K.Denot g.row.C.Denot = record {
+      dialer = lender.dialer;
+      station = lender.station;
+      keeper = lender.keeper;
+      clock = c.build_beside-done.new.beside.watch.clock;
+    } in
+    watched-ran d built.last.limits (job_at c.args.jobs.now c.args.config.now) c.args.config.now.period c.args.workers built.reports
+    (seen_of built.pass) built.last.state c.pop.new.self.items c.build_beside-done.new.kits.items lender back
+    c.args.kits.now.items c.push.new.self.items c.in_ok-built.ensures.ran
+    (record {
+      dialer = refl;
+      station = refl;
+      keeper = refl;
+      clock = c.in_ok-built.ensures.watched.paused;
+      peers = same_peers _;
+      programs = same_programs _;
+    })
+    c.in-Some.ensures.items c.in-Ok.ensures.items
+
+pub returns-clause-printed : goal.returns-clause-printed
+returns-clause-printed g c =
+    let shows = g.E.Sink.shows in
+    let after = c.print_after-printed in
+    let followed =
+    subst (λ (n : ℕ). AfterLines n c.in_ok-built.end after.result.1 (shows c.build_beside-done.new.err)
+    (shows after.new.err) after.result.0)
+    c.len.ensures after.ensures.printed in
+    last-printed (length c.args.jobs.now) c.args.workers c.args.lines after.result.1 (shows c.args.err.now)
+    (shows c.build_beside-done.new.err)
+    (shows after.new.err) c.in_ok-built.end after.result.0 c.in_ok-built.ensures.watched.printed followed

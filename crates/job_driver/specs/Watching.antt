@@ -1,0 +1,99 @@
+-- A build that is watched.
+use Rattle.std.specs.Prelude.{◌≡◌, ◌≢◌, ◌⊎◌, ℕ, ◌-◌, ◌<◌, ◌≤◌, Bool, true, List, [], ◌∷◌, length, map, take, slice_index_or, vec_capacity}
+use denote.Ref.{MutBor}
+use denote.Param.Members.{Shared}
+use Rattle.std.specs.Fork.{ChangesEach}
+use mathlib.Core.List.{IsPrefix}
+use Rattle.slot_table.specs.declared.limits.Limits.{Limits}
+use Rattle.slot_table.specs.declared.state.SlotState.{SlotState}
+use Rattle.slot_table.specs.declared.calls.CallEntry.{CallEntry}
+use Rattle.edge_traits.specs.Told.{Grew, SameRelation, SameRelation3}
+use Rattle.edge_traits.specs.Clocks.{ClockView}
+use Rattle.edge_traits.specs.Sinks.{SinkView}
+use Rattle.farm_machine.specs.declared.reports.Report.{Report}
+use Rattle.farm_machine.specs.Jobs.{Job}
+use Rattle.logbook.specs.Pages.{Book}
+use Rattle.farm_monitor.specs.declared.ends.Watcher.{Watcher}
+use Rattle.farm_monitor.specs.Boards.{board_of, board_watched, shown_rows, known_rows}
+use Rattle.watch_lines.specs.declared.line_end.LineEnd.{LineEnd}
+use Rattle.watch_lines.specs.declared.line_end.LineEnd.TheVariants.{Whole, SinkFault, Memory}
+use Rattle.watch_lines.specs.Lines.{last_text}
+use Rattle.watch_lines.specs.Printed.{LinePrinted, WatchLines}
+use Rattle.job_driver.specs.declared.crew.Worker.{Worker}
+use Rattle.job_driver.specs.declared.marker.Marker.{Marker}
+use Rattle.job_driver.specs.declared.beside.Marked.{Marked}
+use Rattle.job_driver.specs.declared.watch.Beside.{Beside}
+use Rattle.job_driver.specs.Driven.{Devices, JobsRan}
+
+abbrev pub worker_of : {D S K C : Type 0} → Marked D S K C → Worker D S K C
+worker_of marked = marked.worker
+
+abbrev pub marker_of : {D S K C : Type 0} → Marked D S K C → Marker
+marker_of marked = marked.marker
+
+-- the board on which a worker marks
+abbrev pub board_marked : Marker → Book
+board_marked marker = board_of marker.shower
+
+-- f was called once for each
+pub record CalledEach {F T : Type 0} (g : Shared F (ℕ × (MutBor T × Unit {0})) (Unit {0} × (MutBor T × Unit {0}))) (f : F)
+    (old new : List T) : Type 0 where
+  pub each : ChangesEach g f old new
+
+-- each row was shown, and the watcher knows all of them
+abbrev pub IsTold : Marker → Watcher → Type 0
+IsTold marker watcher = (marker.all ≡ true) × IsPrefix (shown_rows marker.shower) (known_rows watcher)
+
+-- so it is of all boards
+abbrev pub AreTold : List Marker → List Watcher → Type 0
+AreTold [] watchers = Unit {0}
+AreTold (marker ∷ markers) [] = ⊥
+AreTold (marker ∷ markers) (watcher ∷ watchers) = IsTold marker watcher × AreTold markers watchers
+
+-- boards for so many workers, and room to put both together
+pub record IsFor {D S K C : Type 0} (workers : ℕ) (beside : Beside D S K C) : Type 0 where
+  pub markers : length beside.markers.items ≡ workers
+  pub watchers : length beside.watch.watchers.items ≡ workers
+  pub boards : map board_marked beside.markers.items ≡ map board_watched beside.watch.watchers.items
+  pub crew : beside.crew.items ≡ []
+  pub room : workers ≤ vec_capacity beside.crew
+  pub lines : beside.watch.lines < 1000
+
+-- all kits but the last
+abbrev pub front : {K : Type 0} → List K → List K
+front kits = take (length kits - 1) kits
+
+-- a kit lent its clock for pauses alone: its devices did nothing, and its clock gave no moment
+pub record Lent {K : Type 0} (d : Devices K) (old new : K) : Type 0 where
+  pub dialer : (d.shows new).dialer ≡ (d.shows old).dialer
+  pub station : (d.shows new).station ≡ (d.shows old).station
+  pub keeper : (d.shows new).keeper ≡ (d.shows old).keeper
+  pub clock : Grew (d.shows old).clock.moments (d.shows new).clock.moments []
+  pub peers : SameRelation (d.peers old) (d.peers new)
+  pub programs : SameRelation3 (d.programs old) (d.programs new)
+
+-- All jobs were done with the kits but the last, as in a build that nobody watches, and the last lent its clock.
+pub record WatchedRan {K : Type 0} (d : Devices K) (l : Limits 16) (jobs : ℕ → Job) (period workers : ℕ) (reports : List Report)
+    (history : List CallEntry) (last : SlotState 16) (old new : List K) : Type 0 where
+  pub ran : JobsRan d l jobs period workers reports history last (front old) (front new)
+  pub same : length new ≡ length old
+  pub lent : (other : K) → Lent d (slice_index_or old (length old - 1) other) (slice_index_or new (length old - 1) other)
+
+-- the lines while workers work were cut; or all were printed, and the last one follows, whole or cut
+abbrev pub WatchPrinted : ℕ → ℕ → ℕ → Bool → SinkView → SinkView → LineEnd → Type 0
+WatchPrinted jobs workers lines told old new end = ((end ≢ Whole) × WatchLines jobs workers 1 lines 0 old new end)
+    ⊎ ((mid : SinkView) × WatchLines jobs workers 1 lines 0 old mid Whole × LinePrinted (last_text jobs told) mid new end)
+
+-- so many workers were watched: the lines, by how many jobs there are
+pub record HasWatched {D S K C E : Type 0} (clock : C → ClockView) (sink : E → SinkView) (jobs workers : ℕ) (old new : Beside D S K C)
+    (before after : E)
+    (end : LineEnd) : Type 0 where
+  pub watchers : length new.watch.watchers.items ≡ workers
+  pub paused : Grew (clock old.watch.clock).moments (clock new.watch.clock).moments []
+  pub printed : WatchLines jobs workers 1 old.watch.lines 0 (sink before) (sink after) end
+
+-- the last line follows where all others were printed
+abbrev pub AfterLines : ℕ → LineEnd → Bool → SinkView → SinkView → LineEnd → Type 0
+AfterLines jobs Whole told old new end = LinePrinted (last_text jobs told) old new end
+AfterLines jobs SinkFault told old new end = (end ≡ SinkFault) × (new ≡ old)
+AfterLines jobs Memory told old new end = (end ≡ Memory) × (new ≡ old)

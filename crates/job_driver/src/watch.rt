@@ -1,0 +1,209 @@
+//! The watcher's part of a build, beside its workers.
+ghost use Rattle.std.specs.Prelude.{◌≡◌, ℕ, ◌^◌, ◌<◌, ◌≤◌, [], All, length, map, slice_index_or, vec_len};
+ghost use Rattle.std.specs.Fork.{AcceptsEach, ChangesEach};
+ghost use Rattle.edge_traits.specs.Told.{Grew};
+ghost use Rattle.farm_machine.specs.Jobs.{AreLimitsOf};
+ghost use Rattle.farm_cell.specs.Passes.{limits_of};
+ghost use Rattle.farm_monitor.specs.Boards.{board_watched};
+ghost use Rattle.watch_lines.specs.Printed.{WatchLines};
+ghost use Rattle.job_driver.specs.Crews.{IsReady, HasWorked};
+ghost use Rattle.farm_machine.specs.Devices.{devices};
+ghost use Rattle.farm_machine.specs.Usable.{job_at, AreDoable};
+ghost use Rattle.job_driver.specs.Watching.{worker_of, marker_of, board_marked, CalledEach, IsFor};
+
+use crate::beside::{Marked, pair, unpair, work_marked};
+use crate::crew::Worker;
+use crate::marker::Marker;
+use edge_traits::{Clock, Dialer, Keeper, Sink, Station};
+use farm_cell::Cell;
+use farm_monitor::Watcher;
+use farm_types::{JobConfig, Jobs};
+use std::alloc::Global;
+use std::sync::Wait;
+use std::thread::{Threads, for_each_mut, join_mut};
+use watch_lines::{LineEnd, watch};
+
+/// Who reads the boards of all workers, pauses between two reads, and prints so many lines.
+pub struct Watch<C> {
+    pub watchers: Vec<Watcher>,
+    pub clock: C,
+    pub lines: u32,
+}
+
+/// What a watched build has beside its workers: what marks how far they have come, room to put both together, and who watches.
+pub struct Beside<D, S, K, C> {
+    pub markers: Vec<Marker>,
+    pub crew: Vec<Marked<D, S, K, C>>,
+    pub watch: Watch<C>,
+}
+
+impl<C: Clock> Watch<C> {
+    /// Prints the lines of so many jobs.
+    fn print<E: Sink>(&mut self, jobs: u32, err: &mut E) -> LineEnd
+        requires few { length self.old.watchers.items < 2 ^ 32 }
+        requires most { self.old.lines < 1000 }
+        ensures watchers { map board_watched self.new.watchers.items ≡ map board_watched self.old.watchers.items }
+        ensures paused { Grew (C.shows self.old.clock).moments (C.shows self.new.clock).moments [] }
+        ensures printed { WatchLines jobs (length self.old.watchers.items) 1 self.old.lines 0 (E.shows err.old) (E.shows err.new) result }
+    {
+        watch(
+            &mut self.clock,
+            self.watchers.as_mut_slice(),
+            jobs,
+            self.lines,
+            err,
+        )
+    }
+}
+
+/// Calls `f` once for each of the crew, each in a thread of its own where one can be made.
+fn call_each<R: Threads + Sync, T: Send, F: Fn(usize, &mut T) + Sync>(
+    rt: &R,
+    crew: &mut Vec<T>,
+    f: &F,
+)
+    requires some { 0 < length crew.old.items }
+    requires accepts { AcceptsEach F.Fn f.now crew.old.items }
+    ensures len { (vec_len crew.new ≡ vec_len crew.old) × (length crew.new.items ≡ length crew.old.items) }
+    ensures each { CalledEach F.Fn f.now crew.old.items crew.new.items }
+{
+    let threads = crew.len();
+    for_each_mut(rt, crew.as_mut_slice(), threads, f);
+}
+
+/// Calls `f` once for each of the crew, and prints the lines beside that, where a thread can be made for it.
+fn call_beside<R: Threads + Sync, T: Send, F: Fn(usize, &mut T) + Sync, C: Clock, E: Sink>(
+    rt: &R,
+    crew: &mut Vec<T>,
+    f: &F,
+    watch: &mut Watch<C>,
+    jobs: u32,
+    err: &mut E,
+) -> LineEnd
+    requires some { 0 < length crew.old.items }
+    requires accepts { AcceptsEach F.Fn f.now crew.old.items }
+    requires few { length watch.old.watchers.items < 2 ^ 32 }
+    requires lines { watch.old.lines < 1000 }
+    ensures len { (vec_len crew.new ≡ vec_len crew.old) × (length crew.new.items ≡ length crew.old.items) }
+    ensures each { ChangesEach F.Fn f.now crew.old.items crew.new.items }
+    ensures watchers { map board_watched watch.new.watchers.items ≡ map board_watched watch.old.watchers.items }
+    ensures paused { Grew (C.shows watch.old.clock).moments (C.shows watch.new.clock).moments [] }
+    ensures printed { WatchLines jobs (length watch.old.watchers.items) 1 watch.old.lines 0 (E.shows err.old) (E.shows err.new) result }
+{
+    let (_, end) = join_mut(
+        rt,
+        &mut ||
+            requires { (0 < length crew.now.items) × AcceptsEach F.Fn f.now crew.now.items }
+            ensures { (vec_len crew.exit.now ≡ vec_len crew.entry.now) × (length crew.exit.now.items ≡ length crew.entry.now.items)
+                × CalledEach F.Fn f.entry.now crew.entry.now.items crew.exit.now.items }
+        { call_each(rt, crew, f) },
+        &mut || watch.print(jobs, err),
+    );
+    end
+}
+
+/// The workers do jobs until there are none, and the watcher prints its lines beside them, where a thread can be made for that.
+pub fn work_and_watch<
+    R: Threads + Wait + Sync,
+    D: Dialer + Send,
+    S: Station + Send,
+    K: Keeper + Send,
+    C: Clock + Send,
+    L: Clock,
+    E: Sink,
+>(
+    rt: &R,
+    alloc: Global,
+    jobs: &Jobs,
+    config: &JobConfig,
+    cell: &Cell<16, 34>,
+    crew: &mut Vec<Marked<D, S, K, C>>,
+    watch: &mut Watch<L>,
+    err: &mut E,
+) -> LineEnd
+where
+    D::Link: Send,
+    requires some_workers { 0 < length crew.old.items }
+    requires jobs { AreDoable jobs.now }
+    requires number { (limits_of cell.now).jobs ≡ length jobs.now }
+    requires hosts { AreLimitsOf (limits_of cell.now) config.now.hosts }
+    requires entries { length config.now.hosts.list ≤ 16 }
+    requires some { 1 ≤ config.now.tries }
+    requires tries { config.now.tries ≤ 16 }
+    requires ready { All (λ marked. IsReady (devices D.shows S.shows K.shows C.shows D.may_give S.ran) cell.now (length jobs.now) (worker_of marked)) crew.old.items }
+    requires few { length watch.old.watchers.items < 2 ^ 32 }
+    requires lines { watch.old.lines < 1000 }
+    ensures len { (vec_len crew.new ≡ vec_len crew.old) × (length crew.new.items ≡ length crew.old.items) }
+    ensures each { (number : ℕ) (d : _) → number < length crew.old.items →
+        HasWorked (devices D.shows S.shows K.shows C.shows D.may_give S.ran) cell.now (job_at jobs.now config.now) config.now.period
+        (worker_of (slice_index_or crew.old.items number d)) (worker_of (slice_index_or crew.new.items number d)) }
+    ensures boards { (number : ℕ) (d : _) → number < length crew.old.items →
+        board_marked (marker_of (slice_index_or crew.new.items number d)) ≡ board_marked (marker_of (slice_index_or crew.old.items number d)) }
+    ensures watchers { map board_watched watch.new.watchers.items ≡ map board_watched watch.old.watchers.items }
+    ensures paused { Grew (L.shows watch.old.clock).moments (L.shows watch.new.clock).moments [] }
+    ensures printed { WatchLines (length jobs.now) (length watch.old.watchers.items) 1 watch.old.lines 0 (E.shows err.old) (E.shows err.new) result }
+{
+    call_beside(
+        rt,
+        crew,
+        &|_, marked| { work_marked(rt, alloc, jobs, config, cell, marked) },
+        watch,
+        jobs.len() as u32,
+        err,
+    )
+}
+
+/// The workers do jobs as in a build that nobody watches, each marks its own, and the watcher prints its lines beside them.
+pub fn work_beside<
+    R: Threads + Wait + Sync,
+    D: Dialer + Send + Drop,
+    S: Station + Send + Drop,
+    K: Keeper + Send + Drop,
+    C: Clock + Send + Drop,
+    E: Sink,
+>(
+    rt: &R,
+    alloc: Global,
+    jobs: &Jobs,
+    config: &JobConfig,
+    cell: &Cell<16, 34>,
+    workers: &mut Vec<Worker<D, S, K, C>>,
+    beside: &mut Beside<D, S, K, C>,
+    err: &mut E,
+) -> LineEnd
+where
+    D::Link: Send,
+    requires some_workers { 0 < length workers.old.items }
+    requires jobs { AreDoable jobs.now }
+    requires number { (limits_of cell.now).jobs ≡ length jobs.now }
+    requires hosts { AreLimitsOf (limits_of cell.now) config.now.hosts }
+    requires entries { length config.now.hosts.list ≤ 16 }
+    requires some { 1 ≤ config.now.tries }
+    requires tries { config.now.tries ≤ 16 }
+    requires ready { All (λ worker. IsReady (devices D.shows S.shows K.shows C.shows D.may_give S.ran) cell.now (length jobs.now) worker) workers.old.items }
+    requires few { length workers.old.items ≤ 16 }
+    requires fits { IsFor (length workers.old.items) beside.old }
+    ensures len { (vec_len workers.new ≡ vec_len workers.old) × (length workers.new.items ≡ length workers.old.items) }
+    ensures each { (number : ℕ) (d : _) → number < length workers.old.items →
+        HasWorked (devices D.shows S.shows K.shows C.shows D.may_give S.ran) cell.now (job_at jobs.now config.now) config.now.period
+        (slice_index_or workers.old.items number d) (slice_index_or workers.new.items number d) }
+    ensures boards { map board_marked beside.new.markers.items ≡ map board_watched beside.new.watch.watchers.items }
+    ensures watchers { length beside.new.watch.watchers.items ≡ length workers.old.items }
+    ensures crew { beside.new.crew.items ≡ [] }
+    ensures paused { Grew (C.shows beside.old.watch.clock).moments (C.shows beside.new.watch.clock).moments [] }
+    ensures printed { WatchLines (length jobs.now) (length workers.old.items) 1 beside.old.watch.lines 0 (E.shows err.old) (E.shows err.new) result }
+{
+    pair(workers, &mut beside.markers, &mut beside.crew);
+    let end = work_and_watch(
+        rt,
+        alloc,
+        jobs,
+        config,
+        cell,
+        &mut beside.crew,
+        &mut beside.watch,
+        err,
+    );
+    unpair(&mut beside.crew, workers, &mut beside.markers);
+    end
+}

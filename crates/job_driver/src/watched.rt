@@ -1,0 +1,237 @@
+//! All jobs of a list, while somebody watches.
+ghost use Rattle.std.specs.Prelude.{◌≡◌, ◌+◌, ◌^◌, ◌<◌, ◌≤◌, [], All, IfOk, OnErr, true, length, map, vec_capacity};
+ghost use Rattle.edge_traits.specs.Keepers.{IsIdle};
+ghost use Rattle.farm_machine.specs.Jobs.{AreLimitsOf};
+ghost use Rattle.farm_cell.specs.Passes.{seen_of};
+ghost use Rattle.farm_monitor.specs.Boards.{board_watched};
+ghost use Rattle.job_driver.specs.Driven.{devices, JobsRan};
+ghost use Rattle.farm_machine.specs.Usable.{job_at, AreDoable, IsUsable};
+ghost use Rattle.job_driver.specs.Watching.{board_marked, IsFor, HasWatched, AfterLines, WatchedRan, WatchPrinted};
+
+use crate::beside::Marked;
+use crate::boards::{end_boards, make_boards, tell_all};
+use crate::crew::{dismiss, gather, hire};
+use crate::driver::{Built, desks_for};
+use crate::marker::Marker;
+use crate::watch::{Beside, Watch, work_beside};
+use edge_traits::{Clock, Dialer, Keeper, Kit, Sink, Station};
+use farm_cell::Cell;
+use farm_machine::{ReportList, limits_of};
+use farm_monitor::Watcher;
+use farm_types::{JobConfig, Jobs};
+use std::alloc::{AllocError, Global};
+use std::sync::Wait;
+use std::thread::Threads;
+use watch_lines::{LineEnd, watch_last};
+
+/// What a watched run of jobs left: what a run leaves, how the printing of lines ended, and whether the last line says that all
+/// jobs have ended.
+#[derive(Drop)]
+pub struct Watched {
+    pub built: Built,
+    pub printed: LineEnd,
+    pub told: bool,
+}
+
+/// A run of jobs with its workers' marks, and a watcher beside the workers: else as `build`.
+fn build_beside<
+    R: Threads + Wait + Sync,
+    D: Dialer + Send + Drop,
+    S: Station + Send + Drop,
+    K: Keeper + Send + Drop,
+    C: Clock + Send + Drop,
+    E: Sink,
+>(
+    rt: &R,
+    alloc: Global,
+    jobs: &Jobs,
+    config: &JobConfig,
+    kits: &mut Vec<Kit<D, S, K, C>>,
+    workers: u32,
+    beside: &mut Beside<D, S, K, C>,
+    err: &mut E,
+) -> Result<(Built, LineEnd), AllocError>
+where
+    D::Link: Send,
+    requires jobs { AreDoable jobs.now }
+    requires config { IsUsable config.now }
+    requires some { 1 ≤ workers }
+    requires kits { workers ≤ length kits.old.items }
+    requires most { length kits.old.items ≤ 16 }
+    requires idle { All (λ kit. IsIdle (K.shows kit.keeper)) kits.old.items }
+    requires fits { IsFor workers beside.old }
+    ensures ran { IfOk result (λ made. JobsRan (devices D.shows S.shows K.shows C.shows D.may_give S.ran)
+        made.0.last.limits (job_at jobs.now config.now) config.now.period workers
+        made.0.reports (seen_of made.0.pass) made.0.last.state kits.old.items kits.new.items) }
+    ensures limits { IfOk result (λ made. AreLimitsOf made.0.last.limits config.now.hosts) }
+    ensures jobs { IfOk result (λ made. made.0.last.limits.jobs ≡ length jobs.now) }
+    ensures undone { OnErr result (kits.new.items ≡ kits.old.items) }
+    ensures same { OnErr result ((beside.new ≡ beside.old) × (err.new ≡ err.old)) }
+    ensures len { length kits.new.items ≡ length kits.old.items }
+    ensures kept { vec_capacity kits.old ≤ vec_capacity kits.new }
+    ensures boards { map board_marked beside.new.markers.items ≡ map board_watched beside.new.watch.watchers.items }
+    ensures crew { beside.new.crew.items ≡ [] }
+    ensures watched { IfOk result (λ made. HasWatched C.shows E.shows (length jobs.now) workers beside.old beside.new err.old err.new made.1) }
+{
+    let count = workers as usize;
+    let limits = limits_of(&config.hosts, jobs.len() as u32);
+    let mut reports = Vec::with_capacity(alloc, jobs.len())?;
+    let mut crew = Vec::with_capacity(alloc, count)?;
+    let mut desks = desks_for(alloc, count, jobs.len())?;
+    let (cell, mut passes) = Cell::new(rt, alloc, limits, workers)?;
+    let mut unused = kits.split_off(count)?;
+    hire(kits, &mut passes, &mut desks, &mut crew);
+    let end = work_beside(rt, alloc, jobs, config, &cell, &mut crew, beside, err);
+    dismiss(crew, kits, &mut passes, &mut desks);
+    let Ok(()) = kits.append(&mut unused) else {
+        unreachable!()
+    };
+    let (last, pass) = cell.close(rt, passes);
+    gather(desks, &mut reports);
+    reports.sort_unstable_by_key(|report| report.number);
+    let reports = ReportList::from_vec(reports);
+    Ok((
+        Built {
+            reports,
+            last,
+            pass,
+        },
+        end,
+    ))
+}
+
+// The last line, where all others were printed. How the printing ended, and whether that line says that all jobs have ended.
+fn print_after<E: Sink>(
+    end: LineEnd,
+    watchers: &mut [Watcher],
+    jobs: u32,
+    told: bool,
+    err: &mut E,
+) -> (LineEnd, bool)
+    requires few { length watchers.old < 2 ^ 32 }
+    ensures told { result.1 ≡ true → told ≡ true }
+    ensures printed { AfterLines jobs end result.1 (E.shows err.old) (E.shows err.new) result.0 }
+{
+    match end {
+        LineEnd::Whole => watch_last(watchers, jobs, told, err),
+        LineEnd::SinkFault => (LineEnd::SinkFault, told),
+        LineEnd::Memory => (LineEnd::Memory, told),
+    }
+}
+
+// Boards for so many workers, none of which has a row, and room for the workers beside them.
+fn boards_for<R: Wait, D, S, K, C>(
+    rt: &R,
+    alloc: Global,
+    count: usize,
+) -> Result<(Vec<Marker>, Vec<Watcher>, Vec<Marked<D, S, K, C>>), AllocError>
+    ensures markers { IfOk result (λ made. length made.0.items ≡ count) }
+    ensures boards { IfOk result (λ made. map board_marked made.0.items ≡ map board_watched made.1.items) }
+    ensures crew { IfOk result (λ made. (made.2.items ≡ []) × (count ≤ vec_capacity made.2)) }
+{
+    let mut watchers = Vec::with_capacity(alloc, count)?;
+    let mut markers = Vec::with_capacity(alloc, count)?;
+    match make_boards(rt, alloc, count, &mut markers, &mut watchers) {
+        Ok(()) => match Vec::with_capacity(alloc, count) {
+            Ok(crew) => Ok((markers, watchers, crew)),
+            Err(e) => {
+                end_boards(rt, markers);
+                Err(e)
+            }
+        },
+        Err(e) => {
+            end_boards(rt, markers);
+            Err(e)
+        }
+    }
+}
+
+/// Does all jobs as `build` does, with all kits but the last, while somebody watches how far the workers have come: at most 100 lines
+/// are printed, and one more behind the last job. The last kit lends its clock, on which the watcher pauses between two lines.
+///
+/// Where the sink stops or wants memory, no further line is printed; the jobs go on. An error says that memory was wanting; then no
+/// job began, and no line was printed.
+pub fn build_watched<
+    R: Threads + Wait + Sync,
+    D: Dialer + Send + Drop,
+    S: Station + Send + Drop,
+    K: Keeper + Send + Drop,
+    C: Clock + Send + Drop,
+    E: Sink,
+>(
+    rt: &R,
+    alloc: Global,
+    jobs: &Jobs,
+    config: &JobConfig,
+    kits: &mut Vec<Kit<D, S, K, C>>,
+    workers: u32,
+    lines: u32,
+    err: &mut E,
+) -> Result<Watched, AllocError>
+where
+    D::Link: Send,
+    requires jobs { AreDoable jobs.now }
+    requires config { IsUsable config.now }
+    requires some { 1 ≤ workers }
+    requires kits { workers < length kits.old.items }
+    requires most { length kits.old.items ≤ 16 }
+    requires lines { lines ≤ 100 }
+    requires idle { All (λ kit. IsIdle (K.shows kit.keeper)) kits.old.items }
+    ensures ran { IfOk result (λ watched. WatchedRan (devices D.shows S.shows K.shows C.shows D.may_give S.ran)
+        watched.built.last.limits (job_at jobs.now config.now) config.now.period workers
+        watched.built.reports (seen_of watched.built.pass) watched.built.last.state kits.old.items kits.new.items) }
+    ensures limits { IfOk result (λ watched. AreLimitsOf watched.built.last.limits config.now.hosts) }
+    ensures jobs { IfOk result (λ watched. watched.built.last.limits.jobs ≡ length jobs.now) }
+    ensures undone { OnErr result ((kits.new.items ≡ kits.old.items) × (err.new ≡ err.old)) }
+    ensures printed { IfOk result (λ watched. WatchPrinted (length jobs.now) workers lines watched.told
+        (E.shows err.old) (E.shows err.new) watched.printed) }
+{
+    let (markers, watchers, crew) = boards_for(rt, alloc, workers as usize)?;
+    let Some(lender) = kits.pop() else {
+        unreachable!()
+    };
+    let Kit {
+        dialer,
+        station,
+        keeper,
+        clock,
+    } = lender;
+    let mut beside = Beside {
+        markers,
+        crew,
+        watch: Watch {
+            watchers,
+            clock,
+            lines,
+        },
+    };
+    let done = build_beside(rt, alloc, jobs, config, kits, workers, &mut beside, err);
+    let Beside {
+        mut markers,
+        crew,
+        watch,
+    } = beside;
+    let Watch {
+        mut watchers,
+        clock,
+        lines: _,
+    } = watch;
+    crew.destroy_empty();
+    let Ok(()) = kits.push(Kit {
+        dialer,
+        station,
+        keeper,
+        clock,
+    }) else {
+        unreachable!()
+    };
+    let told = tell_all(rt, markers.as_mut_slice(), watchers.as_mut_slice());
+    end_boards(rt, markers);
+    let (built, end) = done?;
+    let (printed, told) = print_after(end, watchers.as_mut_slice(), jobs.len() as u32, told, err);
+    Ok(Watched {
+        built,
+        printed,
+        told,
+    })
+}

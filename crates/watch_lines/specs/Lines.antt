@@ -1,0 +1,30 @@
+-- The lines of a watched build.
+use Rattle.std.specs.Prelude.{ℕ, ◌+◌, nat_le, Bool, true, ◌&&◌, List, [], ◌∷◌, ◌++◌, codes, decimal, if◌then◌else◌}
+use Rattle.watch_lines.specs.declared.count.Count.{Count}
+
+-- the line with this number: so many of the jobs have ended, and so many workers are at a job
+abbrev pub watch_line : ℕ → ℕ → Count → List ℕ
+watch_line number jobs c =
+    codes "watch " ++ decimal number ++ codes " ended " ++ decimal c.ended ++ codes " of " ++ decimal jobs ++ codes " busy "
+    ++ decimal c.busy ++ codes "\n"
+
+-- the last line, where each board told all its rows: all jobs have ended, and no worker is at one
+abbrev pub last_line : ℕ → List ℕ
+last_line jobs = codes "watch last ended " ++ decimal jobs ++ codes " of " ++ decimal jobs ++ codes " busy 0\n"
+
+-- and where memory was wanting for a row
+abbrev pub no_memory_line : List ℕ
+no_memory_line = codes "watch last no memory\n"
+
+abbrev pub last_text : ℕ → Bool → List ℕ
+last_text jobs told = if told then last_line jobs else no_memory_line
+
+-- lines with these counts, numbered on from `at`
+abbrev pub lines_text : ℕ → ℕ → List Count → List ℕ
+lines_text at jobs [] = []
+lines_text at jobs (c ∷ counts) = watch_line at jobs c ++ lines_text (at + 1) jobs counts
+
+-- the jobs ended are so many in the first at least, and in none fewer than in the one before it
+abbrev pub counts_rise : ℕ → List Count → Bool
+counts_rise least [] = true
+counts_rise least (c ∷ counts) = nat_le least c.ended && counts_rise c.ended counts

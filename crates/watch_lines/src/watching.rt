@@ -1,0 +1,84 @@
+//! The lines that are printed while workers work.
+ghost use Rattle.std.specs.Prelude.{◌≡◌, ◌+◌, ◌^◌, ◌<◌, [], length, map, min};
+ghost use Rattle.edge_traits.specs.Told.{Grew};
+ghost use Rattle.farm_monitor.specs.Boards.{board_watched};
+ghost use Rattle.watch_lines.specs.Counts.{total};
+ghost use Rattle.watch_lines.specs.Lines.{watch_line};
+ghost use Rattle.watch_lines.specs.Printed.{LinePrinted, WatchLines};
+
+use crate::count::{Count, count_rows};
+use crate::line_end::LineEnd;
+use crate::room::LineText;
+use edge_traits::{Clock, Sink};
+use farm_monitor::Watcher;
+use stream_print::{PrintStop, print};
+
+// Prints the line with this number and this count.
+fn print_line<E: Sink>(number: u32, jobs: u32, count: Count, err: &mut E) -> LineEnd
+    ensures { LinePrinted (watch_line number jobs count) (E.shows err.old) (E.shows err.new) result }
+{
+    let line = LineText::line(number, jobs, count);
+    match print(err, line.as_slice()) {
+        Ok(()) => LineEnd::Whole,
+        Err(PrintStop::Stopped) => LineEnd::SinkFault,
+        Err(PrintStop::Memory) => LineEnd::Memory,
+    }
+}
+
+// Pauses where more than one line is left.
+fn pause_between<C: Clock>(clock: &mut C, left: u32)
+    ensures { Grew (C.shows clock.old).moments (C.shows clock.new).moments [] }
+{
+    if left > 1 {
+        clock.pause();
+    }
+}
+
+// Goes on with the line of this number, where so many are left.
+fn watch_on<C: Clock, E: Sink>(
+    clock: &mut C,
+    watchers: &mut [Watcher],
+    jobs: u32,
+    number: u32,
+    left: u32,
+    err: &mut E,
+) -> LineEnd
+    requires few { length watchers.old < 2 ^ 32 }
+    requires room { number + left < 2 ^ 32 }
+    ensures same { map board_watched watchers.new ≡ map board_watched watchers.old }
+    ensures paused { Grew (C.shows clock.old).moments (C.shows clock.new).moments [] }
+    ensures printed { WatchLines jobs (length watchers.old) number left (min jobs (total watchers.old))
+        (E.shows err.old) (E.shows err.new) result }
+{
+    if left == 0 {
+        return LineEnd::Whole;
+    }
+    let count = count_rows(watchers, jobs);
+    match print_line(number, jobs, count, err) {
+        LineEnd::Whole => {
+            pause_between(clock, left);
+            watch_on(clock, watchers, jobs, number + 1, left - 1, err)
+        }
+        LineEnd::SinkFault => LineEnd::SinkFault,
+        LineEnd::Memory => LineEnd::Memory,
+    }
+}
+
+/// Reads all boards so many times, and prints a line each time; between two of them it pauses. It ends early where the sink
+/// stops or wants memory. It waits for nobody, and takes no memory of its own.
+pub fn watch<C: Clock, E: Sink>(
+    clock: &mut C,
+    watchers: &mut [Watcher],
+    jobs: u32,
+    lines: u32,
+    err: &mut E,
+) -> LineEnd
+    requires few { length watchers.old < 2 ^ 32 }
+    requires most { lines < 1000 }
+    ensures same { map board_watched watchers.new ≡ map board_watched watchers.old }
+    ensures paused { Grew (C.shows clock.old).moments (C.shows clock.new).moments [] }
+    ensures printed { WatchLines jobs (length watchers.old) 1 lines (min jobs (total watchers.old))
+        (E.shows err.old) (E.shows err.new) result }
+{
+    watch_on(clock, watchers, jobs, 1, lines, err)
+}
