@@ -20,7 +20,7 @@ pub struct Rule {
 /// Rules, in order.
 pub type RuleVec = Items<Rule>;
 
-/// What is wrong with the text of a rule (docs/access.md).
+/// What is wrong with the text of a rule (docs/daemon.md).
 #[derive(Clone, Copy, Debug, PartialEq, Eq)]
 pub enum AccessFault {
     /// The text before the first `/` is no IPv4 address.
