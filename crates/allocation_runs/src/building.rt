@@ -1,4 +1,4 @@
-//! Twelve jobs over devices in memory.
+//! Twelve jobs over devices in memory, as a list or as a graph.
 
 ghost use Rattle.std.specs.Prelude.{◌≤◌, length, All, IfOk};
 ghost use Rattle.edge_traits.specs.Keepers.{IsIdle};
@@ -22,12 +22,30 @@ type FileKit = Kit<MemDialer, MemStation, FileKeeper<MemFiles>, MemClock>;
 
 const REPLY: &[u8] = b"DONE00000001STAT00000000SERR00000000SOUT00000000DOTO0000000dSCO1\ndef a 1\n";
 
-const WORDS: [&str; 5] = ["build", "--hosts", "H:3632/4 localhost/2", "--workers", "4"];
+/// How the jobs are run.
+#[derive(Clone, Copy, PartialEq, Eq)]
+pub enum Shape {
+    /// As a list, by one worker.
+    One,
+    /// As a list, by four workers.
+    Four,
+    /// As a graph of three levels with four jobs each, by one worker.
+    Graph,
+}
 
-// Each of twelve jobs has an object of its own name.
-fn job_list(alloc: Global) -> Result<Bytes, AllocError> {
+const WORDS: [&str; 4] = ["--hosts", "H:3632/4 localhost/2", "--workers", "4"];
+
+// How many jobs a level of the graph has.
+const LEVEL: u32 = 4;
+
+// Each of twelve jobs has an object of its own name. In a graph each job above the first level needs one of the level below.
+fn job_list(alloc: Global, shape: Shape) -> Result<Bytes, AllocError> {
     let mut text = Bytes::new(alloc);
     for number in 1..=JOBS {
+        if shape == Shape::Graph && number > LEVEL {
+            let needs = format!(in alloc; "needs: {}\n", number - LEVEL)?;
+            text.try_extend(needs.as_bytes())?;
+        }
         let line = format!(in alloc; "scc -I. -DN=3 -O2 -MD -c f{number}.c -o f{number}.o\n")?;
         text.try_extend(line.as_bytes())?;
     }
@@ -66,6 +84,21 @@ fn kit(alloc: Global) -> Result<FileKit, AllocError>
     })
 }
 
+// The words of the command line.
+fn words_of(alloc: Global, shape: Shape) -> Result<Vec<String>, AllocError> {
+    let command = if shape == Shape::Graph {
+        "graph"
+    } else {
+        "build"
+    };
+    let mut words = Vec::new(alloc);
+    words.push(String::from_str(alloc, command)?)?;
+    for word in WORDS {
+        words.push(String::from_str(alloc, word)?)?;
+    }
+    Ok(words)
+}
+
 // One kit, or four of them.
 fn kits(alloc: Global, four: bool) -> Result<Vec<FileKit>, AllocError>
     ensures some { IfOk result (λ kits. 1 ≤ length kits.items) }
@@ -82,12 +115,19 @@ fn kits(alloc: Global, four: bool) -> Result<Vec<FileKit>, AllocError>
     Ok(kits)
 }
 
-// Whether every slot is back.
+// Whether every slot of each run of jobs is back.
 fn is_all_back(ended: &Ended) -> bool {
-    match ended.built.as_slice().first() {
-        Some(built) => built.last.state.local_held == 0 && built.last.state.held == [0; 16],
-        None => true,
+    ended.built.as_slice().iter().all(|built| built.last.state.local_held == 0
+        && built.last.state.held == [0; 16])
+}
+
+// How many jobs have a report, over all runs of jobs.
+fn report_count(ended: &Ended) -> usize {
+    let mut count: usize = 0;
+    for built in ended.built.as_slice() {
+        count = count.saturating_add(built.reports.len());
     }
+    count
 }
 
 // How many objects were put, where each is whole and nothing is left of a put.
@@ -102,8 +142,8 @@ fn all_objects(alloc: Global, kits: Vec<FileKit>) -> Result<Option<u32>, AllocEr
     Ok(Some(whole))
 }
 
-// How a run ended that answered this, printed so, and put so many objects.
-fn judge(status: u8, out: &[u8], err: &[u8], whole: u32) -> Verdict {
+// How a run ended that answered this, printed so, has so many reports, and put so many objects.
+fn judge(status: u8, out: &[u8], err: &[u8], reports: usize, whole: u32) -> Verdict {
     let Some(seen) = std::str::from_utf8(out).ok().and_then(lines_of) else {
         return Verdict::Wrong("a line is none of this run");
     };
@@ -116,24 +156,22 @@ fn judge(status: u8, out: &[u8], err: &[u8], whole: u32) -> Verdict {
     if !seen.total && !err.starts_with(b"farm: no") {
         return Verdict::Wrong("the lines end without a word");
     }
-    if whole < seen.ok || seen.total && whole != seen.ok {
+    if reports < whole as usize || whole < seen.ok || seen.total && whole != seen.ok {
         return Verdict::Wrong("an object is missing, or one too many");
     }
     Verdict::Wanting
 }
 
-/// Does twelve jobs, by one worker or by four.
+/// Does twelve jobs in this shape.
 pub fn twelve_jobs<W: Threads + Wait + Sync>(
     rt: &W,
     alloc: Global,
-    four: bool,
+    shape: Shape,
 ) -> Result<Verdict, AllocError> {
-    let mut words = Vec::new(alloc);
-    for word in WORDS {
-        words.push(String::from_str(alloc, word)?)?;
-    }
-    let mut input = MemSource::new(job_list(alloc)?, CallNumbers::new(alloc), 4_096);
-    let mut kits = kits(alloc, four)?;
+    let words = words_of(alloc, shape)?;
+    let text = job_list(alloc, shape)?;
+    let mut input = MemSource::new(text, CallNumbers::new(alloc), 4_096);
+    let mut kits = kits(alloc, shape == Shape::Four)?;
     let mut out = MemSink::new(alloc, moves(alloc));
     let mut err = MemSink::new(alloc, moves(alloc));
     let ended = farm(
@@ -149,8 +187,9 @@ pub fn twelve_jobs<W: Threads + Wait + Sync>(
     if !is_all_back(&ended) {
         return Ok(Verdict::Wrong("a slot isn't back"));
     }
+    let reports = report_count(&ended);
     match all_objects(alloc, kits)? {
-        Some(whole) => Ok(judge(ended.status, out.written(), err.written(), whole)),
+        Some(whole) => Ok(judge(ended.status, out.written(), err.written(), reports, whole)),
         None => Ok(Verdict::Wrong("a put is there in part")),
     }
 }

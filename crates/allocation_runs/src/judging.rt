@@ -34,7 +34,18 @@ fn numbered(line: &str, rest: &str) -> Option<u32> {
     line.strip_suffix(rest)?.parse().ok()
 }
 
-// One line more: of the next job, which succeeded or wanted memory, or the total of all of them.
+// Whether a line says that this job of a graph was skipped for one before it.
+fn is_skip(line: &str, job: u32) -> bool {
+    let Some((number, by)) = line.split_once(" skipped by ") else {
+        return false;
+    };
+    let (Ok(number), Ok(by)) = (number.parse::<u32>(), by.parse::<u32>()) else {
+        return false;
+    };
+    number == job && by < job
+}
+
+// One line more: of the next job, which succeeded, wanted memory or was skipped, or the total of all of them.
 fn with_line(printed: Printed, line: &str) -> Option<Printed> {
     if printed.total {
         return None;
@@ -47,7 +58,7 @@ fn with_line(printed: Printed, line: &str) -> Option<Printed> {
             total: false,
         });
     }
-    if numbered(line, " failed memory") == Some(next) {
+    if numbered(line, " failed memory") == Some(next) || is_skip(line, next) {
         return Some(Printed {
             lines: next,
             ..printed

@@ -1,5 +1,5 @@
 //! Runs over devices in memory, in which a test has one allocation after another refused. The argument names the run: `one` and `four` are
-//! twelve jobs by one worker and by four, `daemon` is a whole request of the daemon.
+//! twelve jobs by one worker and by four, `graph` is a graph of twelve jobs, `daemon` is a whole request of the daemon.
 //!
 //! It ends with 0 and prints nothing where the run ended as usual, and with 105 where memory was wanting and it ended as it may then. Where
 //! it ended otherwise it ends with 0, too, and prints how, so that a refused allocation shows as other output with the same status.
@@ -9,6 +9,7 @@ mod building;
 mod judging;
 mod serving;
 
+use building::{Shape, twelve_jobs};
 use judging::Verdict;
 use std::env;
 use std::process::ExitCode;
@@ -29,8 +30,9 @@ fn run<W: Threads + Wait + Sync>(
 ) -> anyhow::Result<Option<Verdict>> {
     let alloc = rt.alloc();
     match name {
-        "one" => Ok(Some(building::twelve_jobs(waits, alloc, false)?)),
-        "four" => Ok(Some(building::twelve_jobs(waits, alloc, true)?)),
+        "one" => Ok(Some(twelve_jobs(waits, alloc, Shape::One)?)),
+        "four" => Ok(Some(twelve_jobs(waits, alloc, Shape::Four)?)),
+        "graph" => Ok(Some(twelve_jobs(waits, alloc, Shape::Graph)?)),
         "daemon" => Ok(Some(serving::one_request(waits, alloc)?)),
         _ => Ok(None),
     }

@@ -48,6 +48,13 @@ const LISTS: &[ListRow] = &[
     ),
     (TWO_FOLDERS, Some("/a"), 1, None, "\"gcc\" \"-c\" \"z.c\"\n"),
     (
+        "[{\"directory\":\"/a\",\"command\":\"gcc -MD -c x.c -o o/x.o\"},{\"directory\":\"/a\",\"command\":\"gcc -MD y.c -o y\"}]",
+        None,
+        0,
+        None,
+        "\"gcc\" \"-MD\" \"-c\" \"x.c\" \"-o\" \"o/x.o\" \"-MF\" \"o/x.d\" \"-MQ\" \"o/x.o\"\n\"gcc\" \"-MD\" \"y.c\" \"-o\" \"y\"\n",
+    ),
+    (
         TWO_FOLDERS,
         Some("/a"),
         0,

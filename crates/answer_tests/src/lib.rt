@@ -1,4 +1,5 @@
-//! Tests of what is printed: the lines of reports, answers without a job, and job lists of compile databases.
+//! Tests of what is printed: the lines of reports and of a watched build, answers without a job, and job lists of compile
+//! databases.
 #![tactic(auto)]
 
 #[cfg(test)]
@@ -7,3 +8,5 @@ mod answers;
 mod databases;
 #[cfg(test)]
 mod reports;
+#[cfg(test)]
+mod watching;

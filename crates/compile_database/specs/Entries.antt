@@ -1,7 +1,9 @@
 -- What an entry of a compile database says.
-use Rattle.std.specs.Prelude.{ℕ, List, [], ◌∷◌, codes, Option, Some, None, option_map, option_and_then, Result, Ok, Err}
+use Rattle.std.specs.Prelude.{ℕ, Bool, true, false, List, [], ◌∷◌, codes, Option, Some, None, option_map, option_and_then, Result, Ok, Err}
 use Rattle.serde_json.specs.Data.{Data, Items, no_items, item}
 use Rattle.serde_json.specs.Find.{get, as_str, as_array}
+use Rattle.arg_scan.specs.Class.{is_remote_verdict, verdict_of}
+use Rattle.dependency_words.specs.Words.{with_dependencies}
 use Rattle.compile_database.specs.declared.entry.NoWords.{NoWords}
 use Rattle.compile_database.specs.declared.entry.NoWords.TheVariants.{NoForm, OpenQuote}
 use Rattle.compile_database.specs.Shell.{shell_words}
@@ -42,6 +44,22 @@ abbrev pub words_by : Option Data → Data → Result (List (List ℕ)) NoWords
 words_by (Some arguments) entry = words_of_array (as_array arguments)
 words_by None entry = words_of_text (text_of (codes "command") entry)
 
--- the words of an entry: those of `arguments` where it stands, and else those of `command`
+-- the words that an entry says: those of `arguments` where it stands, and else those of `command`
+abbrev pub said_words : Data → Result (List (List ℕ)) NoWords
+said_words entry = words_by (get (codes "arguments") entry) entry
+
+abbrev pub completed_by : Bool → List (List ℕ) → List (List ℕ)
+completed_by true words = with_dependencies words
+completed_by false words = words
+
+-- the words of a command as a job has them: with those of its dependency file, where it may be sent
+abbrev pub completed : List (List ℕ) → List (List ℕ)
+completed words = completed_by (is_remote_verdict (verdict_of words)) words
+
+abbrev pub completed_so : Result (List (List ℕ)) NoWords → Result (List (List ℕ)) NoWords
+completed_so (Ok words) = Ok (completed words)
+completed_so (Err reason) = Err reason
+
+-- the words of the job of an entry
 abbrev pub words_of : Data → Result (List (List ℕ)) NoWords
-words_of entry = words_by (get (codes "arguments") entry) entry
+words_of entry = completed_so (said_words entry)

@@ -5,10 +5,12 @@ ghost use Rattle.std.specs.Option.{option_copied};
 ghost use Rattle.serde_json.specs.View.{view};
 ghost use Rattle.serde_json.specs.Find.{as_array};
 ghost use Rattle.compile_database.specs.Entries as entries;
-ghost use Rattle.compile_database.specs.Entries.{texts_of, words_of_array, words_of_text, words_of};
+ghost use Rattle.compile_database.specs.Entries.{texts_of, words_of_array, words_of_text, said_words, words_of};
 ghost use Rattle.compile_database.specs.Unread.{IsUnread};
 
 use crate::shell::split_command;
+use arg_strip::is_remote;
+use dependency_words::dependency_words;
 use farm_types::{Bytes, Words};
 use serde_json::Value;
 use std::alloc::{AllocError, Global};
@@ -99,13 +101,26 @@ fn words_of_text(alloc: Global, command: Option<&str>) -> Result<Words, Unread>
     }
 }
 
-/// The words of an entry: those of `arguments` where it stands, and else those of `command`.
-pub(crate) fn words_of(alloc: Global, entry: &Value) -> Result<Words, Unread>
-    ensures words { IfOk result (λ words. words_of (view entry.now) ≡ Ok words) }
-    ensures unread { IfErr result (IsUnread (words_of (view entry.now))) }
+// The words that an entry says: those of `arguments` where it stands, and else those of `command`.
+fn said_words(alloc: Global, entry: &Value) -> Result<Words, Unread>
+    ensures words { IfOk result (λ words. said_words (view entry.now) ≡ Ok words) }
+    ensures unread { IfErr result (IsUnread (said_words (view entry.now))) }
 {
     match entry.get("arguments") {
         Some(arguments) => words_of_array(alloc, arguments),
         None => words_of_text(alloc, text_of(entry, "command")),
     }
+}
+
+/// The words of the job of an entry: those that it says, and behind them those of its dependency
+/// file where the command may be sent.
+pub(crate) fn words_of(alloc: Global, entry: &Value) -> Result<Words, Unread>
+    ensures words { IfOk result (λ words. words_of (view entry.now) ≡ Ok words) }
+    ensures unread { IfErr result (IsUnread (words_of (view entry.now))) }
+{
+    let words = said_words(alloc, entry)?;
+    if !is_remote(&words) {
+        return Ok(words);
+    }
+    Ok(dependency_words(alloc, &words)?)
 }

@@ -32,7 +32,7 @@ use Rattle.daemon_worker.specs.declared.log.Met.TheVariants as met
 use Rattle.daemon_worker.specs.Paths.{MetCalls, Path, DoorsPaths}
 use Rattle.daemon_worker.specs.Logs.{DoorsServed}
 use Rattle.daemon_worker.proofs.Logging.{few_entries}
-use Rattle.object_cache.specs.declared.entry.Entry.{Entry as Kept}
+use Rattle.object_cache.specs.Entries.{Entry as Kept}
 use Rattle.object_cache.specs.Keys.{is_cacheable}
 use Rattle.object_cache.specs.Books.{BookView, new_book, after_miss, Keeps}
 use Rattle.object_cache.specs.declared.book.Stats.{Stats}

@@ -10,6 +10,7 @@ use std::{io, rt, thread};
 #[derive(Drop)]
 pub struct WallClock<R> {
     rt: R,
+    pause_millis: u64,
 }
 
 impl<R: rt::Clock> WallClock<R> {
@@ -17,7 +18,14 @@ impl<R: rt::Clock> WallClock<R> {
     pub fn new(rt: R) -> WallClock<R>
         ensures { runtime_of result ≡ rt }
     {
-        WallClock { rt }
+        WallClock::pausing(rt, PAUSE_MILLIS)
+    }
+
+    /// A clock of this system, of which a pause lasts so many milliseconds.
+    pub fn pausing(rt: R, pause_millis: u64) -> WallClock<R>
+        ensures { runtime_of result ≡ rt }
+    {
+        WallClock { rt, pause_millis }
     }
 }
 
@@ -29,7 +37,7 @@ impl<R: rt::Clock> Clock for WallClock<R> {
     }
 
     fn pause(&mut self) {
-        thread::sleep(&self.rt, Duration::from_millis(PAUSE_MILLIS));
+        thread::sleep(&self.rt, Duration::from_millis(self.pause_millis));
     }
 }
 
@@ -53,5 +61,5 @@ fn seconds_since_1970(time: SystemTime) -> u64
     }
 }
 
-/// How long a pause is.
-const PAUSE_MILLIS: u64 = 5;
+/// How many milliseconds a pause lasts where nothing else is said.
+pub const PAUSE_MILLIS: u64 = 5;

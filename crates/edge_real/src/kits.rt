@@ -1,6 +1,7 @@
-ghost use Rattle.std.specs.Prelude.{◌≡◌, IfOk, All, vec_len, string_bytes};
+ghost use Rattle.std.specs.Prelude.{◌≡◌, ◌+◌, IfOk, All, vec_len, string_bytes};
 ghost use Rattle.edge_real.specs.Kits.{IsSystemKit};
 
+use crate::clock::PAUSE_MILLIS;
 use crate::notices::Notices;
 use crate::{ChildStation, DiskFiles, TcpDialer, WallClock};
 use edge_traits::Kit;
@@ -16,7 +17,8 @@ use std::rt;
 /// The devices of one worker of `farm`, over the system.
 pub type SystemKit<R> = Kit<TcpDialer<R>, ChildStation<R>, FileKeeper<DiskFiles<R>>, WallClock<R>>;
 
-/// A worker's devices. What is of its own is in `folder`, and `process` is the number of this process.
+/// A worker's devices. What is of its own is in `folder`, `process` is the number of this process, and a pause of the clock lasts so many
+/// milliseconds.
 pub fn system_kit<
     R: Net + Processes + RandomSource + rt::Files<File = File> + rt::Clock + Eprint + Copy,
 >(
@@ -25,6 +27,7 @@ pub fn system_kit<
     notices: Notices,
     folder: &str,
     process: u32,
+    pause_millis: u64,
 ) -> Result<SystemKit<R>, AllocError>
     ensures { IfOk result (IsSystemKit rt folder.now process) }
 {
@@ -33,7 +36,7 @@ pub fn system_kit<
         dialer: TcpDialer::new(rt, notices),
         station: ChildStation::new(rt, String::from_str(alloc, folder)?),
         keeper: FileKeeper::new(DiskFiles::new(rt, staging, process)),
-        clock: WallClock::new(rt),
+        clock: WallClock::pausing(rt, pause_millis),
     })
 }
 
@@ -53,7 +56,27 @@ pub fn system_kits<
 {
     let mut kits = Vec::with_capacity(alloc, count)?;
     for _ in 0..count {
-        kits.push(system_kit(rt, alloc, notices, folder, process)?)?;
+        kits.push(system_kit(rt, alloc, notices, folder, process, PAUSE_MILLIS)?)?;
     }
+    Ok(kits)
+}
+
+/// So many kits, and one more behind them, which may lend its clock: a pause of it lasts so many milliseconds.
+pub fn watch_kits<
+    R: Net + Processes + RandomSource + rt::Files<File = File> + rt::Clock + Eprint + Copy,
+>(
+    rt: R,
+    alloc: Global,
+    notices: Notices,
+    folder: &str,
+    process: u32,
+    count: usize,
+    pause_millis: u64,
+) -> Result<Vec<SystemKit<R>>, AllocError>
+    ensures count { IfOk result (λ kits. vec_len kits ≡ count + 1) }
+    ensures kits { IfOk result (λ kits. All (IsSystemKit rt folder.now process) kits.items) }
+{
+    let mut kits = system_kits(rt, alloc, notices, folder, process, count)?;
+    kits.push(system_kit(rt, alloc, notices, folder, process, pause_millis)?)?;
     Ok(kits)
 }

@@ -27,12 +27,12 @@ mod tcp;
 mod waiting_room;
 
 pub use child::{ChildStation, WordPolicy};
-pub use clock::WallClock;
+pub use clock::{PAUSE_MILLIS, WallClock};
 pub use disk::DiskFiles;
 pub use door::TcpDoor;
 pub use door_link::DoorLink;
 pub use environment::{command_words, current_folder, own_folder, variable};
-pub use kits::{SystemKit, system_kits};
+pub use kits::{SystemKit, system_kits, watch_kits};
 pub use notices::Notices;
 pub use stream::{StdSink, StdSource};
 pub use tcp::{TcpDialer, TcpLink};

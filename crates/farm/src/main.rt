@@ -4,8 +4,12 @@
 mod command;
 mod reasons;
 
-use command::{add_dependencies, bytes_of, compile_command, replaces_source, tell_input};
-use edge_real::{Notices, StdSink, StdSource, command_words, own_folder, system_kits, variable};
+use command::{
+    add_dependencies, bytes_of, compile_command, is_watched, replaces_source, tell_input,
+};
+use edge_real::{
+    Notices, PAUSE_MILLIS, StdSink, StdSource, command_words, own_folder, variable, watch_kits,
+};
 use farm_program::farm;
 use host_turns::{spread, turned};
 use kept_input::KeptSource;
@@ -17,6 +21,9 @@ use std::thread::Threads;
 
 /// How many kits there are: the most workers.
 const KITS: usize = 16;
+
+/// How many milliseconds lie between two lines of a build that tells how far it has come.
+const LINE_MILLIS: u64 = 1_000;
 
 /// The variable with the host list.
 const HOSTS: &str = "DISTCC_HOSTS";
@@ -69,6 +76,15 @@ fn notices_of(rt: &HostRuntime) -> Result<Notices, AllocError> {
     Ok(Notices::by(value.as_ref().map(|value| value.as_str())))
 }
 
+// How many milliseconds a pause of the last kit's clock lasts: it is on that clock that lines which tell of a build are apart.
+fn last_pause(words: &[String]) -> u64 {
+    if is_watched(words) {
+        LINE_MILLIS
+    } else {
+        PAUSE_MILLIS
+    }
+}
+
 // Runs `farm` on these words, the environment and the standard streams, tells in plain words what was refused, and answers the exit
 // status. It may wait for a slot.
 fn run<W: Threads + Wait + Sync>(
@@ -80,7 +96,16 @@ fn run<W: Threads + Wait + Sync>(
     let variables = variables_of(rt, compile_command(words).is_some())?;
     let folder = own_folder(rt)?;
     let process = process::id(rt.process());
-    let mut kits = system_kits(*rt, alloc, notices_of(rt)?, folder.as_str(), process, KITS)?;
+    let pause = last_pause(words);
+    let mut kits = watch_kits(
+        *rt,
+        alloc,
+        notices_of(rt)?,
+        folder.as_str(),
+        process,
+        KITS - 1,
+        pause,
+    )?;
     let mut input = KeptSource::new(alloc, StdSource::new(rt.stdin()));
     let mut out = StdSink::new(rt.stdout());
     let mut err = StdSink::new(rt.stderr());

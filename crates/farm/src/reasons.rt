@@ -1,8 +1,9 @@
 // What a refusal is told as in plain words, on the standard error, behind the line that has its numbers.
 use farm_words::{Command, back_off_period, host_text, lookup, parse_command};
 use host_list::HostError;
+use job_graph::GraphError;
 use job_list::JobError;
-use refusal_notes::{Advice, advice_on, host_reason, job_reason};
+use refusal_notes::{Advice, advice_on, host_reason, job_reason, needs_reason};
 use std::alloc::Global;
 use std::fmt::{self, Display, Formatter};
 use std::io::Eprint;
@@ -15,14 +16,20 @@ pub struct Given<'a> {
     pub list: &'a [u8],
 }
 
-/// Tells why this was refused, where it was: words, a period, a host list or a job list.
+/// Tells why this was refused, where it was: words, a period, a host list, a job list or a job graph.
 pub fn tell_refusal<R: Eprint>(rt: &R, alloc: Global, given: &Given<'_>) {
     match parse_command(given.words) {
         Err(place) => tell_words(rt, given.words, place),
-        Ok(Command::Build(options)) => {
+        Ok(Command::Build(options) | Command::Watch(options)) => {
             let fits = fits_period(rt, given) && fit_hosts(rt, alloc, given, options.hosts);
             if fits {
                 tell_jobs(rt, alloc, given.list);
+            }
+        }
+        Ok(Command::Graph(options)) => {
+            let fits = fits_period(rt, given) && fit_hosts(rt, alloc, given, options.hosts);
+            if fits {
+                tell_graph(rt, alloc, given.list);
             }
         }
         Ok(Command::Cc { .. }) => {
@@ -94,16 +101,33 @@ fn fit_hosts<R: Eprint>(rt: &R, alloc: Global, given: &Given<'_>, option: Option
 
 fn tell_jobs<R: Eprint>(rt: &R, alloc: Global, list: &[u8]) {
     if let Err(JobError::Fault { line, fault }) = job_list::parse(alloc, list) {
-        let reason = job_reason(fault);
-        let _ = if line == 0 {
-            eprintln!(rt; "farm: {reason}")
-        } else {
-            eprintln!(rt;
-                "farm: line {line} of the job list: {reason}: {}",
-                Shown(line_of(list, line))
-            )
-        };
+        tell_line(rt, list, line, job_reason(fault));
     }
+}
+
+fn tell_graph<R: Eprint>(rt: &R, alloc: Global, list: &[u8]) {
+    match job_graph::parse(alloc, list) {
+        Err(GraphError::Jobs { line, fault }) => tell_line(rt, list, line, job_reason(fault)),
+        Err(GraphError::Fault { line, fault }) => tell_line(rt, list, line, needs_reason(fault)),
+        Err(GraphError::Cycle(_)) => {
+            let _ = eprintln!(rt;
+                "farm: each of these jobs needs the next one, and the last the first"
+            );
+        }
+        Ok(_) | Err(GraphError::Memory) => {}
+    }
+}
+
+// Tells why a line of the job list is wrong, or the whole list, which is line 0.
+fn tell_line<R: Eprint>(rt: &R, list: &[u8], line: u32, reason: &str) {
+    let _ = if line == 0 {
+        eprintln!(rt; "farm: {reason}")
+    } else {
+        eprintln!(rt;
+            "farm: line {line} of the job list: {reason}: {}",
+            Shown(line_of(list, line))
+        )
+    };
 }
 
 /// Tells the first line of a job list that ends with CR LF, since the CR is a part of the line.

@@ -1,10 +1,13 @@
 -- The texts that `farm` prints where it does no job.
-use Rattle.std.specs.Prelude.{ℕ, List, ◌++◌, codes}
+use Rattle.std.specs.Prelude.{ℕ, ◌+◌, List, ◌++◌, codes}
 use Rattle.std.specs.Fmt.{decimal}
+use Rattle.std.specs.List.{flat_map}
 use Rattle.host_list.specs.declared.fault.HostFault.{HostFault}
 use Rattle.host_list.specs.Faults.{number_of}
 use Rattle.job_list.specs.declared.fault.JobFault.{JobFault}
 use Rattle.job_list.specs.Faults.{number_of as job_number_of}
+use Rattle.job_graph.specs.declared.fault.GraphFault.{GraphFault}
+use Rattle.job_graph.specs.Faults.{number_of as graph_number_of}
 use Rattle.stream_print.specs.declared.pieces.SinkKind.TheVariants.{Out}
 use Rattle.stream_print.specs.declared.pieces.Piece.{Piece}
 use Rattle.farm_words.specs.Help.{version}
@@ -33,6 +36,18 @@ host_fault_text at fault = codes "farm: host list: fault " ++ decimal (number_of
 -- a fault of the job list, by its number and its line
 abbrev pub job_fault_text : ℕ → JobFault → List ℕ
 job_fault_text line fault = codes "farm: job list: fault " ++ decimal (job_number_of fault) ++ codes " at line " ++ decimal line ++ codes "\n"
+
+-- a line of needs that is wrong, by the number of its fault and its line
+abbrev pub needs_fault_text : ℕ → GraphFault → List ℕ
+needs_fault_text line fault = codes "farm: needs: fault " ++ decimal (graph_number_of fault) ++ codes " at line " ++ decimal line ++ codes "\n"
+
+-- a job by its printed number, which counts from 1
+abbrev pub job_text : ℕ → List ℕ
+job_text job = codes " " ++ decimal (job + 1)
+
+-- jobs that need one another in a ring
+abbrev pub cycle_text : List ℕ → List ℕ
+cycle_text cycle = codes "farm: needs: cycle" ++ flat_map job_text cycle ++ codes "\n"
 
 -- what a rehearsal of so many jobs came to: how many were done with status 0, and how many bytes their objects have together
 abbrev pub rehearsal_text : ℕ → ℕ → ℕ → List ℕ

@@ -2,12 +2,14 @@
 #![tactic(auto)]
 
 mod hosts;
+mod needs;
 mod number;
 mod refuse;
 mod scan;
 mod tell;
 
 pub use hosts::answer_hosts;
+pub use needs::{refuse_cycle, refuse_needs};
 pub use number::number_of;
 pub use refuse::{
     NO_MEMORY_TEXT, refuse_host_list, refuse_job_list, refuse_period, refuse_unread, refuse_words,

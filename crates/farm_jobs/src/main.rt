@@ -3,8 +3,10 @@
 
 use compile_database::farm_jobs;
 use edge_real::{StdSink, StdSource};
+use kept_input::KeptSource;
 use std::alloc::AllocError;
 use std::env;
+use std::io::Eprint;
 use std::process::ExitCode;
 
 /// The exit status for want of memory.
@@ -24,12 +26,29 @@ fn words_of(rt: &HostRuntime) -> Result<Vec<String>, AllocError> {
     Ok(words)
 }
 
+// Tells that a text of the database ends with a carriage return, as `"gcc -c x.c\r"` does: it is a part of the last word.
+fn tell_carriage_return<R: Eprint>(rt: &R, database: &[u8]) {
+    let mut last = [0u8; 3];
+    for byte in database {
+        let [before, backslash, letter] = last;
+        if *byte == b'"' && before != b'\\' && backslash == b'\\' && letter == b'r' {
+            let _ = eprintln!(rt;
+                "farm_jobs: a text of the database ends with CR: the CR is a part of its last word"
+            );
+            return;
+        }
+        last = [backslash, letter, *byte];
+    }
+}
+
 // Runs `farm_jobs` on these words and the standard streams, and answers its exit status.
 fn run(rt: &HostRuntime, words: &[String]) -> u8 {
-    let mut input = StdSource::new(rt.stdin());
+    let mut input = KeptSource::new(rt.alloc(), StdSource::new(rt.stdin()));
     let mut out = StdSink::new(rt.stdout());
     let mut err = StdSink::new(rt.stderr());
-    farm_jobs(rt.alloc(), words, &mut input, &mut out, &mut err)
+    let status = farm_jobs(rt.alloc(), words, &mut input, &mut out, &mut err);
+    tell_carriage_return(rt, input.kept().unwrap_or(&[]));
+    status
 }
 
 fn main(rt: HostRuntime) -> ExitCode {

@@ -11,8 +11,9 @@ use Rattle.edge_traits.specs.Sources.{SourceView}
 use Rattle.farm_machine.specs.declared.reports.Report.{Report}
 use Rattle.input_read.specs.Reads.{AllRead, ReadTo, BrokeOff, HasReadSome}
 use Rattle.job_driver.specs.declared.driver.Built.{Built}
-use Rattle.job_driver.specs.Driven.{Devices, JobsRan}
-use Rattle.job_driver.specs.Jobs.{job_at, AreDoable, AreUsable}
+use Rattle.farm_machine.specs.Devices.{Devices}
+use Rattle.job_driver.specs.Driven.{JobsRan}
+use Rattle.farm_machine.specs.Usable.{job_at, AreDoable, AreUsable}
 use Rattle.job_list.specs.declared.fault.JobFault.TheVariants.{TooLong}
 use Rattle.job_list.specs.Jobs.{JobsOf, JobFaultStands}
 use Rattle.job_list.specs.Prints.{AreJobWords}
@@ -25,7 +26,6 @@ use Rattle.report_text.specs.Numbers.{number}
 use Rattle.stream_print.specs.Prints.{SinksView}
 use Rattle.stream_print.specs.Ends.{complaint, Ends, WantOf}
 use Rattle.farm_answers.specs.Texts.{bad_jobs_status, cannot_read_status, cannot_read_text, job_fault_text, no_memory_text}
-use Rattle.farm_program.specs.Worlds.{World}
 use Rattle.farm_program.specs.Builds.{JobsDone, input_limit, Builds, built, faulty, unread, wanted, whole_text, long_text, RunsText, text_ran, text_faulty, text_wanted}
 
 -- the hosts of a list are usable

@@ -1,12 +1,12 @@
 -- From the parts of a command to the whole.
-use Rattle.std.proofs.Common.{◌≡◌, ◌<◌, ℕ, Bool, List, [], subst, sym, refl}
+use Rattle.std.proofs.Common.{◌≡◌, ℕ, Bool, List, [], subst, sym, refl}
 use Rattle.farm_types.specs.declared.hosts.Hosts.{Hosts}
 use Rattle.edge_traits.specs.Sources.{SourceView}
 use Rattle.stream_print.specs.Prints.{SinksView}
 use Rattle.stream_print.specs.declared.pieces.Piece.{Piece}
 use Rattle.stream_print.specs.Ends.{Ends}
 use Rattle.job_driver.specs.declared.driver.Built.{Built}
-use Rattle.job_driver.specs.Driven.{Devices}
+use Rattle.farm_machine.specs.Devices.{Devices}
 use Rattle.farm_answers.specs.Texts.{no_memory_text}
 use Rattle.farm_answers.specs.ByHosts.{ByHosts}
 use Rattle.farm_program.specs.Worlds.{World, Untouched}

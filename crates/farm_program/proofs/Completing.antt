@@ -1,5 +1,5 @@
 -- Where source and sinks do nothing wrong, a build is completed, or memory was wanting.
-use Rattle.std.proofs.Common.{◌≡◌, ◌⊎◌, ◌≤◌, ℕ, IsTrue, List, [], ◌∷◌, ◌++◌, ◌∙◌, length, sym, ap, subst, refl, inl, inr, arith}
+use Rattle.std.proofs.Common.{◌≡◌, ◌⊎◌, ◌≤◌, ℕ, IsTrue, List, [], ◌++◌, ◌∙◌, length, sym, ap, subst, refl, inl, inr, arith}
 use Rattle.std.proofs.lemmas.List.{append-nil, length-append}
 use Rattle.farm_types.specs.declared.hosts.Hosts.{Hosts}
 use Rattle.farm_types.specs.declared.jobs.JobConfig.{JobConfig}
@@ -11,18 +11,17 @@ use Rattle.stream_print.specs.Prints.{SinksView, DidStop, DidStopOn}
 use Rattle.stream_print.specs.Ends.{Ends, all_printed, sink_stopped, memory_wanted, memory_status, WantTold, told_whole, told_stopped, told_wanted}
 use Rattle.input_read.specs.Reads.{AllRead}
 use Rattle.host_list.proofs.TextReading.{one_hosts, no_both}
-use Rattle.job_driver.specs.Driven.{Devices}
+use Rattle.farm_machine.specs.Devices.{Devices}
 use Rattle.job_list.specs.declared.fault.JobFault.{JobFault}
-use Rattle.job_list.specs.Jobs.{JobsOf, JobFaultStands}
+use Rattle.job_list.specs.Jobs.{JobsOf}
 use Rattle.job_list.proofs.TextReading.{one_jobs, no_both as no_list_and_fault}
 use Rattle.report_text.specs.Numbers.{number}
 use Rattle.farm_words.specs.Commands.{Build}
 use Rattle.farm_words.specs.Options.{worker_count}
-use Rattle.farm_words.specs.Environment.{PeriodOf}
 use Rattle.farm_words.proofs.Periods.{one_period, no_bad_period}
 use Rattle.farm_program.specs.Worlds.{World}
 use Rattle.farm_program.specs.Builds.{JobsDone, worker_number, Builds, built, faulty, unread, wanted, HasListFault, whole_text, long_text}
-use Rattle.farm_program.specs.Commands.{Answers, OnHosts, on_hosts, bad_period, bad_hosts, no_hosts, build_config, IsBuildBy}
+use Rattle.farm_program.specs.Commands.{Answers, on_hosts, bad_period, bad_hosts, no_hosts, build_config, IsBuildBy}
 use Rattle.farm_program.specs.Smooth.{IsSmooth, Completed}
 
 -- no sink stopped
@@ -30,19 +29,21 @@ no_stop : (sink : SinkKind) (old new : SinksView) → ¬ (DidStop old.out new.ou
 no_stop Out old new out err stop = out stop
 no_stop ErrSink old new out err stop = err stop
 
-want_answer : {notice : List ℕ} {told : List Piece} (old new : SinksView) (answer : ℕ) → ¬ (DidStop old.err new.err) → WantTold notice old new answer told → answer ≡ memory_status
+pub want_answer : {notice : List ℕ} {told : List Piece} (old new : SinksView) (answer : ℕ) → ¬ (DidStop old.err new.err)
+    → WantTold notice old new answer told → answer ≡ memory_status
 want_answer old new answer err (told_whole goes is) = is
 want_answer old new answer err (told_stopped part stop is) = absurd (err stop)
 want_answer old new answer err (told_wanted part goes is) = is
 
 -- so the status is answered, or that for want of memory
-answered : {notice : List ℕ} (texts : List Piece) (status : ℕ) (old new : SinksView) (answer : ℕ) → ¬ (DidStop old.out new.out) → ¬ (DidStop old.err new.err) → Ends notice texts status old new answer → (answer ≡ status) ⊎ (answer ≡ memory_status)
+pub answered : {notice : List ℕ} (texts : List Piece) (status : ℕ) (old new : SinksView) (answer : ℕ) → ¬ (DidStop old.out new.out) → ¬
+    (DidStop old.err new.err) → Ends notice texts status old new answer → (answer ≡ status) ⊎ (answer ≡ memory_status)
 answered texts status old new answer out err (all_printed printed go is) = inl is
 answered texts status old new answer out err (sink_stopped part is) = absurd (no_stop part.next.sink old new out err (part.stopped refl))
 answered texts status old new answer out err (memory_wanted front want) = inr (want_answer old new answer err want.end)
 
 -- what was read is what was left, where the end was read
-all_left : (old new : SourceView) (text : List ℕ) → IsTrue new.left.known → AllRead old new text → old.left.value ≡ text
+pub all_left : (old new : SourceView) (text : List ℕ) → IsTrue new.left.known → AllRead old new text → old.left.value ≡ text
 all_left old new text known read = read.took.left.lost known ∙ ap (λ rest. text ++ rest) (read.nothing_left known) ∙ append-nil text
 
 module _ {K : Type 0} (d : Devices K) (config : JobConfig) (most : ℕ) (old new : World K) (answer : ℕ) (known : IsTrue new.source.left.known) (smooth : IsSmooth old new) (jobs : List (List (List ℕ))) (asks : JobsOf old.source.left.value jobs) where

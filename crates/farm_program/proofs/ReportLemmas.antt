@@ -12,7 +12,7 @@ use Rattle.stream_print.proofs.PrintLemmas.{Printed-join, Printed-nothing, Print
 use Rattle.report_text.specs.Pieces.{job_pieces, jobs_pieces, total_piece, pieces}
 
 -- a front of some texts, after those before them
-IsFront-after : {texts done all : List Piece} (before after : List Piece) → before ++ (texts ++ after) ≡ all → IsFront texts done → IsFront all (before ++ done)
+pub IsFront-after : {texts done all : List Piece} (before after : List Piece) → before ++ (texts ++ after) ≡ all → IsFront texts done → IsFront all (before ++ done)
 IsFront-after {texts = texts} {done = done} before after are (inl (next, rest, whole)) =
     inl (next, rest ++ after, sym are ∙ ap (λ ts. before ++ (ts ++ after)) whole ∙ grind (arith, common_steps))
 IsFront-after {texts = texts} {done = done} before after are (inr (next, part)) =

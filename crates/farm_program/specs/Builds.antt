@@ -9,8 +9,9 @@ use Rattle.farm_machine.specs.declared.reports.Report.{Report}
 use Rattle.farm_machine.specs.Jobs.{AreLimitsOf}
 use Rattle.input_read.specs.Reads.{AllRead, ReadTo, BrokeOff, HasReadSome}
 use Rattle.job_driver.specs.declared.driver.Built.{Built}
-use Rattle.job_driver.specs.Driven.{Devices, JobsRan}
-use Rattle.job_driver.specs.Jobs.{job_at}
+use Rattle.farm_machine.specs.Devices.{Devices}
+use Rattle.job_driver.specs.Driven.{JobsRan}
+use Rattle.farm_machine.specs.Usable.{job_at}
 use Rattle.job_list.specs.declared.fault.JobFault.{JobFault}
 use Rattle.job_list.specs.Jobs.{JobsOf, JobFaultStands}
 use Rattle.report_text.specs.Pieces.{pieces, command_pieces}

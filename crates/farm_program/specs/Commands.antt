@@ -1,20 +1,22 @@
 -- What each command of `farm` does.
-use Rattle.std.specs.Prelude.{◌≡◌, ℕ, Bool, true, List, [], ◌∷◌, None}
+use Rattle.std.specs.Prelude.{◌≡◌, ℕ, true, List, [], ◌∷◌, None}
 use Rattle.farm_types.specs.declared.jobs.JobConfig.{JobConfig}
 use Rattle.farm_types.specs.declared.hosts.Hosts.{Hosts}
 use Rattle.host_list.specs.declared.fault.HostFault.{HostFault}
 use Rattle.host_list.specs.HostLists.{HostListOf, HostFaultStands, printed}
-use Rattle.farm_words.specs.Commands.{IsCommand, Meaning, Build, Cc, Hosts as HostsCommand, Scan, Rehearse, Help, Version}
-use Rattle.farm_words.specs.Options.{Given, worker_count, try_count}
+use Rattle.farm_words.specs.Commands.{IsCommand, Meaning, Build, Watch, Graph, Cc, Hosts as HostsCommand, Scan, Rehearse, Help, Version}
+use Rattle.farm_words.specs.Options.{Given, worker_count, try_count, line_count}
 use Rattle.farm_words.specs.Environment.{host_text_of, is_fallback_on, PeriodOf, HasBadPeriod}
 use Rattle.farm_words.specs.Help.{help_of}
-use Rattle.job_driver.specs.Driven.{Devices}
+use Rattle.farm_machine.specs.Devices.{Devices}
 use Rattle.stream_print.specs.Ends.{complaint, Ends, WantOf}
 use Rattle.farm_answers.specs.Texts.{bad_hosts_status, bad_period_text, bad_words_status, host_fault_text, no_memory_text, output, version_text}
 use Rattle.farm_answers.specs.Lines.{class_line}
 use Rattle.farm_answers.specs.ByHosts.{ByHosts}
 use Rattle.farm_program.specs.Worlds.{World, Untouched, Answered}
 use Rattle.farm_program.specs.Builds.{Builds, RunsCommand, config_of}
+use Rattle.farm_program.specs.GraphBuilds.{BuildsGraph}
+use Rattle.farm_program.specs.WatchBuilds.{Watches}
 use Rattle.farm_program.specs.Rehearsed.{DidRehearse}
 
 -- A command that runs jobs, by the back-off period of the environment and by the text of a host list. Both are right, and then this is done;
@@ -43,6 +45,10 @@ command_config variables hosts period = config_of hosts (is_fallback_on true var
 abbrev pub Answers : {K : Type 0} → Devices K → List (List ℕ × List ℕ) → World K → World K → ℕ → Meaning → Type 0
 Answers d variables old new answer (Build options) =
     OnHosts (host_text_of options.hosts variables) variables (λ hosts period. Builds d (build_config options variables hosts period) (worker_count options) old new answer) old new answer
+Answers d variables old new answer (Watch options) =
+    OnHosts (host_text_of options.hosts variables) variables (λ hosts period. Watches d (build_config options variables hosts period) (worker_count options) (line_count options) old new answer) old new answer
+Answers d variables old new answer (Graph options) =
+    OnHosts (host_text_of options.hosts variables) variables (λ hosts period. BuildsGraph d (build_config options variables hosts period) (worker_count options) old new answer) old new answer
 Answers d variables old new answer (Cc words) =
     OnHosts (host_text_of None variables) variables (λ hosts period. RunsCommand d (command_config variables hosts period) words old new answer) old new answer
 Answers d variables old new answer (HostsCommand text) = ListsHosts (host_text_of text variables) old new answer
@@ -57,6 +63,17 @@ pub record IsBuildBy (words : List (List ℕ)) (variables : List (List ℕ × Li
   pub hosts : Hosts
   pub period : ℕ
   pub command : IsCommand words (Build options)
+  pub lasts : PeriodOf variables period
+  pub listed : HostListOf (host_text_of options.hosts variables) hosts
+  pub meant : config ≡ build_config options variables hosts period
+  pub workers : most ≡ worker_count options
+
+-- the words are `graph`, with this configuration and this many workers at most
+pub record IsGraphBy (words : List (List ℕ)) (variables : List (List ℕ × List ℕ)) (config : JobConfig) (most : ℕ) : Type 0 where
+  pub options : Given
+  pub hosts : Hosts
+  pub period : ℕ
+  pub command : IsCommand words (Graph options)
   pub lasts : PeriodOf variables period
   pub listed : HostListOf (host_text_of options.hosts variables) hosts
   pub meant : config ≡ build_config options variables hosts period

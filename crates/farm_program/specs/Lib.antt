@@ -1,5 +1,9 @@
 pub mod Worlds
 pub mod Builds
-pub mod Smooth
-pub mod Commands
+pub mod Outcomes
+pub mod Levels
+pub mod GraphBuilds
+pub mod WatchBuilds
 pub mod Rehearsed
+pub mod Commands
+pub mod Smooth

@@ -2,7 +2,7 @@
 use Rattle.std.specs.Prelude.{◌≡◌, ℕ, List, []}
 use Rattle.farm_types.specs.declared.jobs.JobConfig.{JobConfig}
 use Rattle.edge_traits.specs.Causes.{Rose}
-use Rattle.job_driver.specs.Driven.{Devices}
+use Rattle.farm_machine.specs.Devices.{Devices}
 use Rattle.report_text.specs.Numbers.{number}
 use Rattle.stream_print.specs.Prints.{DidStop}
 use Rattle.farm_program.specs.Worlds.{World}

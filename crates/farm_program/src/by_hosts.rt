@@ -4,7 +4,7 @@ ghost use Rattle.edge_traits.specs.Keepers.{IsIdle};
 ghost use Rattle.farm_words.specs.Environment.{host_text_of};
 ghost use Rattle.farm_words.specs.Options.{given};
 ghost use Rattle.farm_words.specs.Commands as commands;
-ghost use Rattle.job_driver.specs.Driven.{devices};
+ghost use Rattle.farm_machine.specs.Devices.{devices};
 ghost use Rattle.edge_traits.specs.Sources.{SourceView};
 ghost use Rattle.stream_print.specs.Prints.{sinks_view};
 ghost use Rattle.farm_program.specs.Worlds.{world};
@@ -28,6 +28,7 @@ const NO_OPTIONS: Options<'static> = Options {
     hosts: None,
     workers: None,
     tries: None,
+    lines: None,
     fallback: true,
     retry: true,
 };

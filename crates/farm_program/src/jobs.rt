@@ -1,8 +1,8 @@
 //! The jobs of one command, and what the program hands back.
 ghost use Rattle.std.specs.Prelude.{◌≡◌, ◌≤◌, [], All, IfOk, OnErr, length};
 ghost use Rattle.edge_traits.specs.Keepers.{IsIdle};
-ghost use Rattle.job_driver.specs.Driven.{devices};
-ghost use Rattle.job_driver.specs.Jobs.{AreDoable, IsUsable};
+ghost use Rattle.farm_machine.specs.Devices.{devices};
+ghost use Rattle.farm_machine.specs.Usable.{AreDoable, IsUsable};
 ghost use Rattle.farm_program.specs.Builds.{JobsDone};
 
 use edge_traits::{Clock, Dialer, Keeper, Kit, Station};

@@ -1,8 +1,8 @@
 //! A build of a job list.
 ghost use Rattle.std.specs.Prelude.{◌≡◌, ◌≤◌, [], false, All, length};
 ghost use Rattle.edge_traits.specs.Keepers.{IsIdle};
-ghost use Rattle.job_driver.specs.Driven.{devices};
-ghost use Rattle.job_driver.specs.Jobs.{IsUsable};
+ghost use Rattle.farm_machine.specs.Devices.{devices};
+ghost use Rattle.farm_machine.specs.Usable.{IsUsable};
 ghost use Rattle.stream_print.specs.Prints.{sinks_view};
 ghost use Rattle.farm_program.specs.Worlds.{world};
 ghost use Rattle.farm_program.specs.Builds.{Builds, RunsText};
@@ -19,7 +19,7 @@ use std::sync::Wait;
 use std::thread::Threads;
 
 /// The most bytes of an input that are read: one more than a job list may have.
-const INPUT_MAX: usize = 16_777_217;
+pub const INPUT_MAX: usize = 16_777_217;
 
 // Runs the jobs of a text, and prints their reports.
 fn build_text<

@@ -4,7 +4,7 @@ ghost use Rattle.std.specs.Prelude.{◌≡◌, [], ◌∷◌, length, OnOk, IfEr
 ghost use Rattle.farm_machine.specs.declared.reports.Report.{Report};
 ghost use Rattle.stream_print.specs.Prints.{sinks_view, Printed, BothGoOn};
 ghost use Rattle.stream_print.specs.Ends.{Ends, PrintedFront};
-ghost use Rattle.report_text.specs.Pieces.{command_pieces, job_pieces, jobs_pieces, total_piece, pieces};
+ghost use Rattle.report_text.specs.Pieces.{command_pieces, job_pieces_at, jobs_pieces, total_piece, pieces};
 ghost use Rattle.report_text.specs.Numbers.{number};
 ghost use Rattle.farm_answers.specs.Texts.{no_memory_text};
 
@@ -12,27 +12,28 @@ use edge_traits::Sink;
 use farm_answers::{NO_MEMORY_TEXT, want_memory};
 use farm_machine::{Report, ReportList};
 use farm_types::Hosts;
-use report_text::{command_lines, lines, status, total};
+use report_text::{command_lines, lines_at, status, total};
 use std::alloc::Global;
 use stream_print::{Piece, PrintStop, STOPPED, SinkKind, finish, print_all, print_piece};
 
-// Prints the pieces of one job.
-fn print_job<O: Sink, E: Sink>(
+/// Prints the pieces of one job, whose line is that of this place.
+pub fn print_job<O: Sink, E: Sink>(
     alloc: Global,
     hosts: &Hosts,
     report: &Report,
+    job: u32,
     out: &mut O,
     err: &mut E,
 ) -> Result<(), PrintStop>
     ensures all { OnOk result (Printed (sinks_view O.shows E.shows out.old err.old)
-        (sinks_view O.shows E.shows out.new err.new) (job_pieces hosts.now.list report.now)) }
-    ensures front { IfErr result (λ stop. PrintedFront (job_pieces hosts.now.list report.now) stop
+        (sinks_view O.shows E.shows out.new err.new) (job_pieces_at hosts.now.list job report.now.end)) }
+    ensures front { IfErr result (λ stop. PrintedFront (job_pieces_at hosts.now.list job report.now.end) stop
         (sinks_view O.shows E.shows out.old err.old)
         (sinks_view O.shows E.shows out.new err.new)) }
     ensures goes_on { OnOk result (BothGoOn (sinks_view O.shows E.shows out.old err.old)
         (sinks_view O.shows E.shows out.new err.new)) }
 {
-    let printed = match lines(alloc, hosts, report) {
+    let printed = match lines_at(alloc, hosts, report, job) {
         Ok(printed) => printed,
         Err(_) => return Err(PrintStop::Memory),
     };
@@ -94,7 +95,7 @@ fn print_jobs<O: Sink, E: Sink>(
         (sinks_view O.shows E.shows out.new err.new)) }
 {
     for report in reports {
-        match print_job(alloc, hosts, report, out, err) {
+        match print_job(alloc, hosts, report, report.number, out, err) {
             Ok(()) => {}
             Err(stop) => return Err(stop),
         }

@@ -1,8 +1,8 @@
 //! A single command, run as one job.
 ghost use Rattle.std.specs.Prelude.{◌≡◌, ◌<◌, ◌≤◌, [], ◌∷◌, All, IfOk, length, map, string_bytes};
 ghost use Rattle.edge_traits.specs.Keepers.{IsIdle};
-ghost use Rattle.job_driver.specs.Driven.{devices};
-ghost use Rattle.job_driver.specs.Jobs.{IsUsable};
+ghost use Rattle.farm_machine.specs.Devices.{devices};
+ghost use Rattle.farm_machine.specs.Usable.{IsUsable};
 ghost use Rattle.edge_traits.specs.Sources.{SourceView};
 ghost use Rattle.stream_print.specs.Prints.{sinks_view};
 ghost use Rattle.farm_program.specs.Builds.{RunsCommand};

@@ -3,16 +3,21 @@ ghost use Rattle.std.specs.Prelude.{◌≡◌, ◌≤◌, ◌⊎◌, IsTrue, fal
 ghost use Rattle.farm_types.specs.declared.jobs.JobConfig.{JobConfig};
 ghost use Rattle.edge_traits.specs.Keepers.{IsIdle};
 ghost use Rattle.stream_print.specs.Ends.{complaint, memory_status};
-ghost use Rattle.job_driver.specs.Driven.{devices};
+ghost use Rattle.farm_machine.specs.Devices.{devices};
 ghost use Rattle.job_list.specs.Jobs.{JobsOf};
 ghost use Rattle.farm_words.specs.Commands.{BadAt, IsCommand, Meaning, meaning};
 ghost use Rattle.farm_answers.specs.Texts.{bad_words_status, bad_words_text};
 ghost use Rattle.farm_program.specs.Worlds.{world, Answered};
 ghost use Rattle.farm_program.specs.Smooth.{IsSmooth, Completed};
 ghost use Rattle.farm_words.specs.Within.{IsWithin};
-ghost use Rattle.farm_program.specs.Commands.{Answers, IsBuildBy};
+ghost use Rattle.farm_program.specs.Commands.{Answers, IsBuildBy, IsGraphBy};
+ghost use Rattle.farm_program.specs.GraphBuilds.{GraphCompleted};
+ghost use Rattle.job_graph.specs.Graphs.{GraphOf};
+ghost use Rattle.job_graph.specs.declared.graph.Graph.{Graph};
 
+use crate::by_graph::graph_by;
 use crate::by_hosts::{build_by, command_by};
+use crate::by_watch::watch_by;
 use crate::jobs::Ended;
 use crate::rehearsing::run_rehearsal;
 use edge_traits::{Clock, Dialer, Keeper, Kit, Sink, Source, Station};
@@ -31,7 +36,7 @@ fn answer<
     C: Clock + Send + Drop,
     R: Source,
     O: Sink,
-    E: Sink,
+    E: Sink + Send,
 >(
     rt: &T,
     alloc: Global,
@@ -57,6 +62,8 @@ where
 {
     match command {
         Command::Build(options) => build_by(rt, alloc, options, env, input, kits, out, err),
+        Command::Watch(options) => watch_by(rt, alloc, options, env, input, kits, out, err),
+        Command::Graph(options) => graph_by(rt, alloc, options, env, input, kits, out, err),
         Command::Cc { words } => command_by(rt, alloc, words, env, kits, out, err),
         Command::Hosts { hosts } => {
             let text = host_text(hosts, env).as_bytes();
@@ -73,7 +80,7 @@ where
 /// `DISTCC_FALLBACK` and `DISTCC_BACKOFF_PERIOD` are read. There are 1 to 16 kits, in none of which a put is pending; the
 /// input may not have ended, and neither sink may be stopped. It may wait for a slot or a worker.
 ///
-/// Words are one command, or none; so one clause speaks of each call, and `complete` says more of a build.
+/// Words are one command, or none; so one clause speaks of each call, `complete` says more of a build, and `complete_graph` of a graph's.
 pub fn farm<
     T: Threads + Wait + Sync,
     D: Dialer + Send + Drop,
@@ -82,7 +89,7 @@ pub fn farm<
     C: Clock + Send + Drop,
     R: Source,
     O: Sink,
-    E: Sink,
+    E: Sink + Send,
 >(
     rt: &T,
     alloc: Global,
@@ -124,6 +131,19 @@ where
         IsSmooth (world R.shows O.shows E.shows input.old kits.old.items out.old err.old [])
         (world R.shows O.shows E.shows input.new kits.new.items out.new err.new result.built) →
         Completed (devices D.shows S.shows K.shows C.shows D.may_give S.ran) config most jobs
+        (world R.shows O.shows E.shows input.old kits.old.items out.old err.old [])
+        (world R.shows O.shows E.shows input.new kits.new.items out.new err.new result.built) result.status
+        ⊎ (result.status ≡ memory_status) }
+
+    // The same of a job graph: nothing is left unread, all its levels were run, and the status is the number of what became of its
+    // jobs, or memory was wanting.
+    ensures complete_graph { (config : JobConfig) (most : ℕ) (graph : Graph) →
+        IsGraphBy (map string_bytes words.now)
+        (map (λ v. (string_bytes v.0, string_bytes v.1)) env.now) config most →
+        IsTrue (R.shows input.new).left.known → GraphOf (R.shows input.old).left.value graph →
+        IsSmooth (world R.shows O.shows E.shows input.old kits.old.items out.old err.old [])
+        (world R.shows O.shows E.shows input.new kits.new.items out.new err.new result.built) →
+        GraphCompleted (devices D.shows S.shows K.shows C.shows D.may_give S.ran) config most graph
         (world R.shows O.shows E.shows input.old kits.old.items out.old err.old [])
         (world R.shows O.shows E.shows input.new kits.new.items out.new err.new result.built) result.status
         ⊎ (result.status ≡ memory_status) }

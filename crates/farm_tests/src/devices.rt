@@ -330,7 +330,7 @@ pub(crate) fn call<
     K: Keeper + Send + Drop,
     C: Clock + Send + Drop,
     O: Sink,
-    E: Sink,
+    E: Sink + Send,
 >(
     rt: &W,
     alloc: Global,

@@ -6,7 +6,7 @@ ghost use Rattle.edge_traits.specs.Keepers.{IsIdle};
 ghost use Rattle.edge_memory.specs.Clocks.{clock_state, clock_shows};
 ghost use Rattle.edge_memory.specs.Keepers.{keeper_state, keeper_shows};
 ghost use Rattle.farm_program.specs.Builds.{JobsDone};
-ghost use Rattle.job_driver.specs.Jobs.{job_at};
+ghost use Rattle.farm_machine.specs.Usable.{job_at};
 ghost use Rattle.rehearsal.specs.Loops.{IsLoop, loop_kits, AllCompilers};
 
 use crate::devices::{Page, content_of, empty_keeper, standing_clock, strings};

@@ -10,6 +10,10 @@ mod files;
 #[cfg(test)]
 mod gates;
 #[cfg(test)]
+mod graphs;
+#[cfg(test)]
+mod held;
+#[cfg(test)]
 mod honest;
 #[cfg(test)]
 mod jobs;
@@ -19,6 +23,8 @@ mod loops;
 mod rehearsals;
 #[cfg(test)]
 mod services;
+#[cfg(test)]
+mod watching;
 #[cfg(test)]
 mod words;
 #[cfg(test)]

@@ -6,7 +6,7 @@ use Rattle.farm_words.specs.declared.name.CommandName.{CommandName}
 use Rattle.farm_words.specs.declared.name.OptionName.{OptionName}
 use Rattle.farm_words.specs.declared.name.OptionName.TheVariants as option
 use Rattle.farm_words.specs.Names.{same_option}
-use Rattle.farm_words.specs.Numbers.{workers_of, tries_of}
+use Rattle.farm_words.specs.Numbers.{workers_of, tries_of, lines_of}
 use Rattle.farm_words.specs.Options.{Given, Item, value_fits, value_in, stands_in, given_by, AreItems, no_items, one_more}
 use Rattle.farm_words.specs.Steps.{is_given}
 
@@ -39,6 +39,7 @@ same_itself : (name : OptionName) → same_option name name ≡ true
 same_itself option.Hosts = refl
 same_itself option.Workers = refl
 same_itself option.Tries = refl
+same_itself option.Lines = refl
 same_itself option.NoFallback = refl
 same_itself option.NoRetry = refl
 
@@ -46,6 +47,7 @@ same_is : (a b : OptionName) → same_option a b ≡ true → a ≡ b
 same_is option.Hosts option.Hosts h = refl
 same_is option.Workers option.Workers h = refl
 same_is option.Tries option.Tries h = refl
+same_is option.Lines option.Lines h = refl
 same_is option.NoFallback option.NoFallback h = refl
 same_is option.NoRetry option.NoRetry h = refl
 same_is a b h = absurd (let e : false ≡ true = h in cc)
@@ -65,8 +67,8 @@ kept name other value items apart =
     ∙ ap (λ b. first_of (value_in other items) (if b then Some value else None)) apart
     ∙ first_none (value_in other items)
 
-given_is : (a b : Given) → a.hosts ≡ b.hosts → a.workers ≡ b.workers → a.tries ≡ b.tries → a.fallback ≡ b.fallback → a.retry ≡ b.retry → a ≡ b
-given_is a b h w t f r = λ i. record { hosts = h i; workers = w i; tries = t i; fallback = f i; retry = r i }
+given_is : (a b : Given) → a.hosts ≡ b.hosts → a.workers ≡ b.workers → a.tries ≡ b.tries → a.lines ≡ b.lines → a.fallback ≡ b.fallback → a.retry ≡ b.retry → a ≡ b
+given_is a b h w t l f r = λ i. record { hosts = h i; workers = w i; tries = t i; lines = l i; fallback = f i; retry = r i }
 
 module _ (value : List ℕ) (items : List Item) where
   hosts_as : (name : OptionName) → same_option name option.Hosts ≡ false → (given_by (items ++ (record { name = name; value = value }) ∷ [])).hosts ≡ (given_by items).hosts
@@ -78,6 +80,9 @@ module _ (value : List ℕ) (items : List Item) where
   tries_as : (name : OptionName) → same_option name option.Tries ≡ false → (given_by (items ++ (record { name = name; value = value }) ∷ [])).tries ≡ (given_by items).tries
   tries_as name apart = ap (option_and_then tries_of) (kept name option.Tries value items apart)
 
+  lines_as : (name : OptionName) → same_option name option.Lines ≡ false → (given_by (items ++ (record { name = name; value = value }) ∷ [])).lines ≡ (given_by items).lines
+  lines_as name apart = ap (option_and_then lines_of) (kept name option.Lines value items apart)
+
   fallback_as : (name : OptionName) → same_option name option.NoFallback ≡ false → (given_by (items ++ (record { name = name; value = value }) ∷ [])).fallback ≡ (given_by items).fallback
   fallback_as name apart = ap (λ o. not (is_some o)) (kept name option.NoFallback value items apart)
 
@@ -85,23 +90,27 @@ module _ (value : List ℕ) (items : List Item) where
   retry_as name apart = ap (λ o. not (is_some o)) (kept name option.NoRetry value items apart)
 
   pub hosts_more : stands_in option.Hosts items ≡ false → given_by (items ++ (record { name = option.Hosts; value = value }) ∷ []) ≡ record (given_by items) { hosts = Some value }
-  hosts_more absent = given_is _ _ (put option.Hosts value items absent) (workers_as option.Hosts refl) (tries_as option.Hosts refl) (fallback_as option.Hosts refl) (retry_as option.Hosts refl)
+  hosts_more absent = given_is _ _ (put option.Hosts value items absent) (workers_as option.Hosts refl) (tries_as option.Hosts refl) (lines_as option.Hosts refl) (fallback_as option.Hosts refl) (retry_as option.Hosts refl)
 
   pub workers_more : stands_in option.Workers items ≡ false → given_by (items ++ (record { name = option.Workers; value = value }) ∷ []) ≡ record (given_by items) { workers = workers_of value }
   workers_more absent =
-      given_is _ _ (hosts_as option.Workers refl) (ap (option_and_then workers_of) (put option.Workers value items absent)) (tries_as option.Workers refl) (fallback_as option.Workers refl) (retry_as option.Workers refl)
+      given_is _ _ (hosts_as option.Workers refl) (ap (option_and_then workers_of) (put option.Workers value items absent)) (tries_as option.Workers refl) (lines_as option.Workers refl) (fallback_as option.Workers refl) (retry_as option.Workers refl)
 
   pub tries_more : stands_in option.Tries items ≡ false → given_by (items ++ (record { name = option.Tries; value = value }) ∷ []) ≡ record (given_by items) { tries = tries_of value }
   tries_more absent =
-      given_is _ _ (hosts_as option.Tries refl) (workers_as option.Tries refl) (ap (option_and_then tries_of) (put option.Tries value items absent)) (fallback_as option.Tries refl) (retry_as option.Tries refl)
+      given_is _ _ (hosts_as option.Tries refl) (workers_as option.Tries refl) (ap (option_and_then tries_of) (put option.Tries value items absent)) (lines_as option.Tries refl) (fallback_as option.Tries refl) (retry_as option.Tries refl)
+
+  pub lines_more : stands_in option.Lines items ≡ false → given_by (items ++ (record { name = option.Lines; value = value }) ∷ []) ≡ record (given_by items) { lines = lines_of value }
+  lines_more absent =
+      given_is _ _ (hosts_as option.Lines refl) (workers_as option.Lines refl) (tries_as option.Lines refl) (ap (option_and_then lines_of) (put option.Lines value items absent)) (fallback_as option.Lines refl) (retry_as option.Lines refl)
 
   pub fallback_more : stands_in option.NoFallback items ≡ false → given_by (items ++ (record { name = option.NoFallback; value = value }) ∷ []) ≡ record (given_by items) { fallback = false }
   fallback_more absent =
-      given_is _ _ (hosts_as option.NoFallback refl) (workers_as option.NoFallback refl) (tries_as option.NoFallback refl) (ap (λ o. not (is_some o)) (put option.NoFallback value items absent)) (retry_as option.NoFallback refl)
+      given_is _ _ (hosts_as option.NoFallback refl) (workers_as option.NoFallback refl) (tries_as option.NoFallback refl) (lines_as option.NoFallback refl) (ap (λ o. not (is_some o)) (put option.NoFallback value items absent)) (retry_as option.NoFallback refl)
 
   pub retry_more : stands_in option.NoRetry items ≡ false → given_by (items ++ (record { name = option.NoRetry; value = value }) ∷ []) ≡ record (given_by items) { retry = false }
   retry_more absent =
-      given_is _ _ (hosts_as option.NoRetry refl) (workers_as option.NoRetry refl) (tries_as option.NoRetry refl) (fallback_as option.NoRetry refl) (ap (λ o. not (is_some o)) (put option.NoRetry value items absent))
+      given_is _ _ (hosts_as option.NoRetry refl) (workers_as option.NoRetry refl) (tries_as option.NoRetry refl) (lines_as option.NoRetry refl) (fallback_as option.NoRetry refl) (ap (λ o. not (is_some o)) (put option.NoRetry value items absent))
 
 -- the value of each option fits
 right_more : (name item_name : OptionName) (value item_value : List ℕ) (o : Option (List ℕ)) → ((v : List ℕ) → o ≡ Some v → value_fits name v ≡ true) → value_fits item_name item_value ≡ true
@@ -134,5 +143,6 @@ pub given_stands : (command : CommandName) (items : List Item) → AreItems comm
 given_stands command items right option.Hosts = refl
 given_stands command items right option.Workers = some_as workers_of (value_in option.Workers items) (value_right command items right option.Workers)
 given_stands command items right option.Tries = some_as tries_of (value_in option.Tries items) (value_right command items right option.Tries)
+given_stands command items right option.Lines = some_as lines_of (value_in option.Lines items) (value_right command items right option.Lines)
 given_stands command items right option.NoFallback = not_twice (stands_in option.NoFallback items)
 given_stands command items right option.NoRetry = not_twice (stands_in option.NoRetry items)

@@ -11,10 +11,10 @@ use Rattle.farm_words.specs.declared.name.OptionName.TheVariants as option
 use Rattle.farm_words.specs.declared.options.Expected.{Expected}
 use Rattle.farm_words.specs.declared.options.Expected.TheVariants as expected
 use Rattle.farm_words.specs.Names.{option_text, option_named, takes_value, has_option}
-use Rattle.farm_words.specs.Numbers.{workers_of, tries_of}
+use Rattle.farm_words.specs.Numbers.{workers_of, tries_of, lines_of}
 use Rattle.farm_words.specs.Options.{Given, Item, item_words, items_words, value_fits, stands_in, given_by, MayFollow, AreItems, no_items, one_more, StopAt, no_option, no_value, bad_value, OptionsRead}
 use Rattle.farm_words.specs.Steps.{State, is_given, begin_option, after_option, after_word, at_end}
-use Rattle.farm_words.proofs.Items.{hosts_more, workers_more, tries_more, fallback_more, retry_more, given_stands}
+use Rattle.farm_words.proofs.Items.{hosts_more, workers_more, tries_more, lines_more, fallback_more, retry_more, given_stands}
 use Rattle.farm_words.proofs.Walk.{options_from, options_of, next_state, no_state}
 
 -- behind these options
@@ -26,6 +26,7 @@ abbrev awaits : OptionName → Expected
 awaits option.Hosts = expected.HostList
 awaits option.Workers = expected.WorkerCount
 awaits option.Tries = expected.TryCount
+awaits option.Lines = expected.LineCount
 awaits option.NoFallback = expected.Option
 awaits option.NoRetry = expected.Option
 
@@ -33,6 +34,7 @@ text_named : (name : OptionName) → option_named (option_text name) ≡ Some na
 text_named option.Hosts = refl
 text_named option.Workers = refl
 text_named option.Tries = refl
+text_named option.Lines = refl
 text_named option.NoFallback = refl
 text_named option.NoRetry = refl
 
@@ -48,9 +50,10 @@ text_of_named word name is =
     named_by (bytes_eq word (option_text option.Hosts)) option.Hosts name word _ (bytes_eq-Decides word (option_text option.Hosts)).0
     (named_by (bytes_eq word (option_text option.Workers)) option.Workers name word _ (bytes_eq-Decides word (option_text option.Workers)).0
     (named_by (bytes_eq word (option_text option.Tries)) option.Tries name word _ (bytes_eq-Decides word (option_text option.Tries)).0
+    (named_by (bytes_eq word (option_text option.Lines)) option.Lines name word _ (bytes_eq-Decides word (option_text option.Lines)).0
     (named_by (bytes_eq word (option_text option.NoFallback)) option.NoFallback name word _ (bytes_eq-Decides word (option_text option.NoFallback)).0
     (named_by (bytes_eq word (option_text option.NoRetry)) option.NoRetry name word None (bytes_eq-Decides word (option_text option.NoRetry)).0
-    (λ found. absurd (let e : ◌≡◌ {A = Option OptionName} None (Some name) = found in cc))))))
+    (λ found. absurd (let e : ◌≡◌ {A = Option OptionName} None (Some name) = found in cc)))))))
     is
 
 module _ (command : CommandName) (items : List Item) (right : AreItems command items) where
@@ -102,6 +105,9 @@ value_taken command items option.Workers value absent takes fits =
 value_taken command items option.Tries value absent takes fits =
     map_some (λ n. record { given = record (given_by items) { tries = Some n }; expected = expected.Option }) (λ (o : Option ℕ). record { given = record (given_by items) { tries = o }; expected = expected.Option }) (tries_of value) (λ n. refl) fits
     ∙ ap (λ (g : Given). Some (record { given = g; expected = expected.Option })) (sym (tries_more value items absent))
+value_taken command items option.Lines value absent takes fits =
+    map_some (λ n. record { given = record (given_by items) { lines = Some n }; expected = expected.Option }) (λ (o : Option ℕ). record { given = record (given_by items) { lines = o }; expected = expected.Option }) (lines_of value) (λ n. refl) fits
+    ∙ ap (λ (g : Given). Some (record { given = g; expected = expected.Option })) (sym (lines_more value items absent))
 value_taken command items option.NoFallback value absent takes fits = absurd (let e : false ≡ true = takes in cc)
 value_taken command items option.NoRetry value absent takes fits = absurd (let e : false ≡ true = takes in cc)
 
@@ -111,6 +117,7 @@ value_refused : (command : CommandName) (items : List Item) (name : OptionName) 
 value_refused command items option.Hosts value takes fits = absurd (let e : true ≡ false = fits in cc)
 value_refused command items option.Workers value takes fits = map_none _ (workers_of value) fits
 value_refused command items option.Tries value takes fits = map_none _ (tries_of value) fits
+value_refused command items option.Lines value takes fits = map_none _ (lines_of value) fits
 value_refused command items option.NoFallback value takes fits = absurd (let e : false ≡ true = takes in cc)
 value_refused command items option.NoRetry value takes fits = absurd (let e : false ≡ true = takes in cc)
 
@@ -119,6 +126,7 @@ begun_valued : (items : List Item) (name : OptionName) → takes_value name ≡ 
 begun_valued items option.Hosts takes = refl
 begun_valued items option.Workers takes = refl
 begun_valued items option.Tries takes = refl
+begun_valued items option.Lines takes = refl
 begun_valued items option.NoFallback takes = absurd (let e : false ≡ true = takes in cc)
 begun_valued items option.NoRetry takes = absurd (let e : false ≡ true = takes in cc)
 
@@ -129,12 +137,14 @@ begun_plain items option.NoRetry value absent takes = ap (λ (g : Given). record
 begun_plain items option.Hosts value absent takes = absurd (let e : true ≡ false = takes in cc)
 begun_plain items option.Workers value absent takes = absurd (let e : true ≡ false = takes in cc)
 begun_plain items option.Tries value absent takes = absurd (let e : true ≡ false = takes in cc)
+begun_plain items option.Lines value absent takes = absurd (let e : true ≡ false = takes in cc)
 
 -- no value may be missing at the end
 missing : (items : List Item) (name : OptionName) (place : ℕ) → takes_value name ≡ true → at_end (given_by items) (awaits name) place ≡ Err place
 missing items option.Hosts place takes = refl
 missing items option.Workers place takes = refl
 missing items option.Tries place takes = refl
+missing items option.Lines place takes = refl
 missing items option.NoFallback place takes = absurd (let e : false ≡ true = takes in cc)
 missing items option.NoRetry place takes = absurd (let e : false ≡ true = takes in cc)
 

@@ -9,11 +9,11 @@ use Rattle.farm_words.specs.declared.name.CommandName.TheVariants as name
 use Rattle.farm_words.specs.declared.name.FirstWord.{FirstWord}
 use Rattle.farm_words.specs.declared.name.FirstWord.TheVariants as first
 use Rattle.farm_words.specs.declared.name.OptionName.TheVariants as option
-use Rattle.farm_words.specs.Limits.{count_digits, workers_max, jobs_max, tries_digits, tries_max}
+use Rattle.farm_words.specs.Limits.{count_digits, workers_max, jobs_max, tries_digits, tries_max, lines_max}
 use Rattle.farm_words.specs.Names.{first_word}
-use Rattle.farm_words.specs.Numbers.{is_short_number, number_of, workers_of, tries_of, jobs_of}
-use Rattle.farm_words.specs.Commands.{Meaning, Build, Cc, Hosts, Scan, Rehearse, Help, Version, IsCommand, WordsRead, ByFirstWord, NamedCommand, asks_help, at_most, at_least_one, counted, rehearse_words, with_options}
-use Rattle.farm_words.specs.Options.{Given, Item, value_in, given_by, OptionsRead, AreOptions, worker_count, try_count}
+use Rattle.farm_words.specs.Numbers.{is_short_number, number_of, workers_of, tries_of, lines_of, jobs_of}
+use Rattle.farm_words.specs.Commands.{Meaning, Build, Watch, Graph, Cc, Hosts, Scan, Rehearse, Help, Version, IsCommand, WordsRead, ByFirstWord, NamedCommand, asks_help, at_most, at_least_one, counted, rehearse_words, with_options}
+use Rattle.farm_words.specs.Options.{Given, Item, value_in, given_by, OptionsRead, AreOptions, worker_count, try_count, line_count}
 use Rattle.farm_words.specs.Within.{AreWithin, IsWithin}
 
 -- a number that is read is within its limits
@@ -40,6 +40,8 @@ options-within command words says are = subst AreWithin (sym are.said) (record {
   some_workers = (within-or count_digits workers_max 4 (value_in option.Workers are.items) (omega arith, omega arith)).0;
   some_tries = (within-or tries_digits tries_max 1 (value_in option.Tries are.items) (omega arith, omega arith)).0;
   most_tries = (within-or tries_digits tries_max 1 (value_in option.Tries are.items) (omega arith, omega arith)).1;
+  some_lines = (within-or count_digits lines_max 10 (value_in option.Lines are.items) (omega arith, omega arith)).0;
+  most_lines = (within-or count_digits lines_max 10 (value_in option.Lines are.items) (omega arith, omega arith)).1;
 })
 
 abbrev ResultWithin : Result Meaning ℕ → Type 0
@@ -70,6 +72,10 @@ rehearsed (word ∷ words) = go (jobs_of word) refl
 named : (command : CommandName) (words : List (List ℕ)) (answer : Result Meaning ℕ) → NamedCommand command words answer → ResultWithin answer
 named name.Build words answer (Ok says, read, is) = subst ResultWithin (sym is) (options-within name.Build words says read)
 named name.Build words answer (Err place, read, is) = subst ResultWithin (sym is) tt
+named name.Watch words answer (Ok says, read, is) = subst ResultWithin (sym is) (options-within name.Watch words says read)
+named name.Watch words answer (Err place, read, is) = subst ResultWithin (sym is) tt
+named name.Graph words answer (Ok says, read, is) = subst ResultWithin (sym is) (options-within name.Graph words says read)
+named name.Graph words answer (Err place, read, is) = subst ResultWithin (sym is) tt
 named name.Cc words answer is = subst ResultWithin (sym is) (some-words words (length words == 0) refl)
 named name.Hosts words answer (Ok says, read, is) = subst ResultWithin (sym is) tt
 named name.Hosts words answer (Err place, read, is) = subst ResultWithin (sym is) tt

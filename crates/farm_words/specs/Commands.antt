@@ -14,6 +14,8 @@ use Rattle.farm_words.specs.Options.{Given, given, OptionsRead}
 -- what a command is to do
 pub data Meaning : Type 0 where
   Build : Given → Meaning
+  Watch : Given → Meaning
+  Graph : Given → Meaning
   Cc : List (List ℕ) → Meaning
   Hosts : Option (List ℕ) → Meaning
   Scan : List (List ℕ) → Meaning
@@ -23,6 +25,8 @@ pub data Meaning : Type 0 where
 
 abbrev pub meaning : Command → Meaning
 meaning (command.Build options) = Build (given options)
+meaning (command.Watch options) = Watch (given options)
+meaning (command.Graph options) = Graph (given options)
 meaning (command.Cc words) = Cc (map string_bytes words.now)
 meaning (command.Hosts hosts) = Hosts (option_copied hosts)
 meaning (command.Scan words) = Scan (map string_bytes words.now)
@@ -62,6 +66,8 @@ OptionCommand name meant words answer = (read : Result Given ℕ) × OptionsRead
 -- a command by the words behind its name
 abbrev pub NamedCommand : CommandName → List (List ℕ) → Result Meaning ℕ → Type 0
 NamedCommand name.Build words answer = OptionCommand name.Build Build words answer
+NamedCommand name.Watch words answer = OptionCommand name.Watch Watch words answer
+NamedCommand name.Graph words answer = OptionCommand name.Graph Graph words answer
 NamedCommand name.Cc words answer = answer ≡ at_least_one (Cc words) words
 NamedCommand name.Hosts words answer = OptionCommand name.Hosts (λ options. Hosts options.hosts) words answer
 NamedCommand name.Scan words answer = answer ≡ at_least_one (Scan words) words

@@ -16,6 +16,8 @@ program_help =
     ++ codes "\n"
     ++ codes "Usage: farm COMMAND [WORD]...\n"
     ++ codes "  build     do the jobs on standard input, one compile command a line\n"
+    ++ codes "  watch     the same, and say meanwhile how many jobs have ended\n"
+    ++ codes "  graph     as build, for jobs that may need one another\n"
     ++ codes "  cc        do one compile command, on the hosts of DISTCC_HOSTS: as the compiler's\n"
     ++ codes "            launcher, make CC='farm cc gcc'\n"
     ++ codes "  hosts     print the host list\n"
@@ -42,8 +44,9 @@ program_help =
     ++ codes "  107  the input couldn't be read; a send, a receive, a program, a put or the\n"
     ++ codes "       reading of a source failed\n"
     ++ codes "  108  the host's reply was cut off\n"
-    ++ codes "  109  the job list, or a host's reply, has a fault\n"
+    ++ codes "  109  the job list or a line of its needs, or a host's reply, has a fault\n"
     ++ codes "  116  no host was up, and the job may not be compiled here\n"
+    ++ codes "  117  the job was skipped: another that it needs was not done with status 0\n"
     ++ codes "That of a build is that of its first job that wasn't done with status 0. Where\n"
     ++ codes "the compiler said no, it is its own.\n"
     ++ codes "\n"
@@ -53,6 +56,7 @@ program_help =
     ++ codes "  job list    1 an open quote, 2 a backslash at the end of a line, 3 no jobs,\n"
     ++ codes "              4 more than 512 jobs, 5 more than 16777216 bytes, 6 an output that\n"
     ++ codes "              an earlier job has, 7 no UTF-8 or a zero byte\n"
+    ++ codes "  needs       1 a word that is no number of a job, 2 no job behind the line\n"
     ++ codes "  reply       1 a wrong name of a token, 2 a bad digit, 3 another version, 5 a\n"
     ++ codes "              length above its limit, 6 an object beside a failure\n"
 
@@ -82,12 +86,44 @@ build_help =
     ++ codes "farm hosts prints it as it is read. A compile database becomes a job list by\n"
     ++ codes "farm_jobs.\n"
 
+abbrev pub watch_help : List ℕ
+watch_help =
+    codes "Usage: farm watch [OPTION]...\n"
+    ++ codes "Does the jobs on standard input as farm build does. While they are done it prints\n"
+    ++ codes "on standard error, about each second, how far it has come, and then what farm\n"
+    ++ codes "build prints.\n"
+    ++ codes "\n"
+    ++ codes "  watch I ended E of N busy B     line I: E of N jobs have ended, B are under way\n"
+    ++ codes "  watch last ended N of N busy 0  all jobs have ended\n"
+    ++ codes "  watch last no memory            the same, where memory for the lines was wanting\n"
+    ++ codes "\n"
+    ++ codes "  --lines N      print N lines before the last, 1 to 100; 10 where it isn't given\n"
+    ++ codes "\n"
+    ++ codes "The other options and the host list are those of farm build. One of the 16 workers\n"
+    ++ codes "that there may be keeps the time, so at most 15 jobs are done at once.\n"
+
+abbrev pub graph_help : List ℕ
+graph_help =
+    codes "Usage: farm graph [OPTION]...\n"
+    ++ codes "Does the jobs on standard input as farm build does, but level by level: a job\n"
+    ++ codes "begins once all jobs that it needs were done with status 0. It is skipped where\n"
+    ++ codes "one of them wasn't. Then it prints a line for each job, in their order.\n"
+    ++ codes "\n"
+    ++ codes "  needs: N...    a line of the list; the next job needs these jobs, by their\n"
+    ++ codes "                 numbers, which count from 1. Several such lines add up.\n"
+    ++ codes "\n"
+    ++ codes "The options and the host list are those of farm build.\n"
+
 abbrev pub cc_help : List ℕ
 cc_help =
     codes "Usage: farm cc WORD...\n"
     ++ codes "Does the compile command that the words are, on the hosts of DISTCC_HOSTS, and\n"
     ++ codes "ends with the compiler's status. A command that may not be sent is run here as\n"
     ++ codes "it stands.\n"
+    ++ codes "\n"
+    ++ codes "Each command asks the hosts in the order of the list, from the first on. With\n"
+    ++ codes "--randomize in the list each process begins at another one, so that make -j\n"
+    ++ codes "uses them all.\n"
 
 abbrev pub hosts_help : List ℕ
 hosts_help =
@@ -123,6 +159,8 @@ rehearse_help =
 abbrev pub help_of : Option CommandName → List ℕ
 help_of None = program_help
 help_of (Some command.Build) = build_help
+help_of (Some command.Watch) = watch_help
+help_of (Some command.Graph) = graph_help
 help_of (Some command.Cc) = cc_help
 help_of (Some command.Hosts) = hosts_help
 help_of (Some command.Scan) = scan_help

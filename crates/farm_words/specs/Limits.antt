@@ -1,7 +1,7 @@
 -- The limits of what the words and the environment say, and what holds where they say nothing.
 use Rattle.std.specs.Prelude.{ℕ}
 
--- the most decimal digits of a number of workers or of jobs
+-- the most decimal digits of a number of workers, of jobs or of lines
 abbrev pub count_digits : ℕ
 count_digits = 3
 
@@ -28,6 +28,14 @@ tries_max = 16
 -- the exchanges where no number is given
 abbrev pub tries_default : ℕ
 tries_default = 1
+
+-- the most lines that tell of a build while it goes on
+abbrev pub lines_max : ℕ
+lines_max = 100
+
+-- these lines where no number is given
+abbrev pub lines_default : ℕ
+lines_default = 10
 
 -- the most decimal digits of a back-off period
 abbrev pub period_digits : ℕ

@@ -11,19 +11,22 @@ use Rattle.farm_words.specs.declared.name.OptionName.TheVariants as option
 abbrev pub first_word : List ℕ → Option FirstWord
 first_word word =
     if bytes_eq word (codes "build") then Some (first.Name command.Build)
+    else (if bytes_eq word (codes "watch") then Some (first.Name command.Watch)
+    else (if bytes_eq word (codes "graph") then Some (first.Name command.Graph)
     else (if bytes_eq word (codes "cc") then Some (first.Name command.Cc)
     else (if bytes_eq word (codes "hosts") then Some (first.Name command.Hosts)
     else (if bytes_eq word (codes "scan") then Some (first.Name command.Scan)
     else (if bytes_eq word (codes "rehearse") then Some (first.Name command.Rehearse)
     else (if bytes_eq word (codes "--help") then Some first.Help
     else (if bytes_eq word (codes "--version") then Some first.Version
-    else None))))))
+    else None))))))))
 
 -- the word that names an option
 abbrev pub option_text : OptionName → List ℕ
 option_text option.Hosts = codes "--hosts"
 option_text option.Workers = codes "--workers"
 option_text option.Tries = codes "--tries"
+option_text option.Lines = codes "--lines"
 option_text option.NoFallback = codes "--no-fallback"
 option_text option.NoRetry = codes "--no-retry"
 
@@ -33,9 +36,10 @@ option_named word =
     if bytes_eq word (option_text option.Hosts) then Some option.Hosts
     else (if bytes_eq word (option_text option.Workers) then Some option.Workers
     else (if bytes_eq word (option_text option.Tries) then Some option.Tries
+    else (if bytes_eq word (option_text option.Lines) then Some option.Lines
     else (if bytes_eq word (option_text option.NoFallback) then Some option.NoFallback
     else (if bytes_eq word (option_text option.NoRetry) then Some option.NoRetry
-    else None))))
+    else None)))))
 
 -- a word stands behind it
 abbrev pub takes_value : OptionName → Bool
@@ -47,13 +51,18 @@ abbrev pub same_option : OptionName → OptionName → Bool
 same_option option.Hosts option.Hosts = true
 same_option option.Workers option.Workers = true
 same_option option.Tries option.Tries = true
+same_option option.Lines option.Lines = true
 same_option option.NoFallback option.NoFallback = true
 same_option option.NoRetry option.NoRetry = true
 same_option _ _ = false
 
--- `build` has all options, and `hosts` has `--hosts`
+-- `watch` has all options, `build` and `graph` all but `--lines`, and `hosts` has `--hosts`
 abbrev pub has_option : CommandName → OptionName → Bool
+has_option command.Watch name = true
+has_option command.Build option.Lines = false
 has_option command.Build name = true
+has_option command.Graph option.Lines = false
+has_option command.Graph name = true
 has_option command.Hosts option.Hosts = true
 has_option _ _ = false
 

@@ -2,7 +2,7 @@
 use Rattle.std.specs.Prelude.{◌≡◌, ◌≤◌, ℕ, Bool, true, ◌&&◌, nat_le, nat_lt, List, [], ◌∷◌, length, Option, Some, None, if◌then◌else◌}
 use Rattle.std.specs.Char.{digit_value}
 use Rattle.std.specs.Str.Parse.{IsNumeral, digits_value}
-use Rattle.farm_words.specs.Limits.{count_digits, workers_max, jobs_max, tries_digits, tries_max, period_digits, period_max}
+use Rattle.farm_words.specs.Limits.{count_digits, workers_max, jobs_max, tries_digits, tries_max, lines_max, period_digits, period_max}
 
 -- The word spells this number in at most so many decimal digits, with nothing beside them, and the number is within these two.
 pub record IsNumber (digits least greatest : ℕ) (word : List ℕ) (n : ℕ) : Type 0 where
@@ -33,6 +33,10 @@ workers_of word = number_of count_digits 1 workers_max word
 -- the number of `--tries`
 abbrev pub tries_of : List ℕ → Option ℕ
 tries_of word = number_of tries_digits 1 tries_max word
+
+-- the number of `--lines`
+abbrev pub lines_of : List ℕ → Option ℕ
+lines_of word = number_of count_digits 1 lines_max word
 
 -- the number of jobs of a rehearsal
 abbrev pub jobs_of : List ℕ → Option ℕ

@@ -6,20 +6,21 @@ use Rattle.farm_words.specs.declared.name.CommandName.{CommandName}
 use Rattle.farm_words.specs.declared.name.OptionName.{OptionName}
 use Rattle.farm_words.specs.declared.name.OptionName.TheVariants as option
 use Rattle.farm_words.specs.declared.options.Options.{Options}
-use Rattle.farm_words.specs.Limits.{workers_default, tries_default}
+use Rattle.farm_words.specs.Limits.{workers_default, tries_default, lines_default}
 use Rattle.farm_words.specs.Names.{option_text, takes_value, same_option, has_option}
-use Rattle.farm_words.specs.Numbers.{workers_of, tries_of}
+use Rattle.farm_words.specs.Numbers.{workers_of, tries_of, lines_of}
 
 -- what options say
 pub record Given : Type 0 where
   pub hosts : Option (List ℕ)
   pub workers : Option ℕ
   pub tries : Option ℕ
+  pub lines : Option ℕ
   pub fallback : Bool
   pub retry : Bool
 
 abbrev pub given : Options → Given
-given options = record { hosts = option_copied options.hosts; workers = options.workers; tries = options.tries; fallback = options.fallback; retry = options.retry }
+given options = record { hosts = option_copied options.hosts; workers = options.workers; tries = options.tries; lines = options.lines; fallback = options.fallback; retry = options.retry }
 
 -- the number of workers, and of exchanges that a job may make
 abbrev pub worker_count : Given → ℕ
@@ -27,6 +28,10 @@ worker_count given = unwrap_or given.workers workers_default
 
 abbrev pub try_count : Given → ℕ
 try_count given = unwrap_or given.tries tries_default
+
+-- how many lines tell of a build while it goes on
+abbrev pub line_count : Given → ℕ
+line_count given = unwrap_or given.lines lines_default
 
 -- an option, and the word behind it where it has a value
 pub record Item : Type 0 where
@@ -45,6 +50,7 @@ abbrev pub value_fits : OptionName → List ℕ → Bool
 value_fits option.Hosts word = true
 value_fits option.Workers word = is_some (workers_of word)
 value_fits option.Tries word = is_some (tries_of word)
+value_fits option.Lines word = is_some (lines_of word)
 value_fits option.NoFallback word = true
 value_fits option.NoRetry word = true
 
@@ -63,6 +69,7 @@ given_by items = record {
   hosts = value_in option.Hosts items;
   workers = option_and_then workers_of (value_in option.Workers items);
   tries = option_and_then tries_of (value_in option.Tries items);
+  lines = option_and_then lines_of (value_in option.Lines items);
   fallback = not (stands_in option.NoFallback items);
   retry = not (stands_in option.NoRetry items);
 }

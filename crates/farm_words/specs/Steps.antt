@@ -8,7 +8,7 @@ use Rattle.farm_words.specs.declared.options.Expected.{Expected}
 use Rattle.farm_words.specs.declared.options.Expected.TheVariants as expected
 use Rattle.farm_words.specs.declared.options.Reading.{Reading}
 use Rattle.farm_words.specs.Names.{option_named, has_option}
-use Rattle.farm_words.specs.Numbers.{workers_of, tries_of}
+use Rattle.farm_words.specs.Numbers.{workers_of, tries_of, lines_of}
 use Rattle.farm_words.specs.Options.{Given, given}
 
 -- what the words so far say, and what the next word has to be
@@ -24,6 +24,7 @@ abbrev pub is_given : Given → OptionName → Bool
 is_given given option.Hosts = is_some given.hosts
 is_given given option.Workers = is_some given.workers
 is_given given option.Tries = is_some given.tries
+is_given given option.Lines = is_some given.lines
 is_given given option.NoFallback = not given.fallback
 is_given given option.NoRetry = not given.retry
 
@@ -32,6 +33,7 @@ abbrev pub begin_option : Given → OptionName → State
 begin_option given option.Hosts = record { given = given; expected = expected.HostList }
 begin_option given option.Workers = record { given = given; expected = expected.WorkerCount }
 begin_option given option.Tries = record { given = given; expected = expected.TryCount }
+begin_option given option.Lines = record { given = given; expected = expected.LineCount }
 begin_option given option.NoFallback = record { given = record given { fallback = false }; expected = expected.Option }
 begin_option given option.NoRetry = record { given = record given { retry = false }; expected = expected.Option }
 
@@ -50,6 +52,8 @@ after_word command given expected.WorkerCount word =
     option_map (λ workers. record { given = record given { workers = Some workers }; expected = expected.Option }) (workers_of word)
 after_word command given expected.TryCount word =
     option_map (λ tries. record { given = record given { tries = Some tries }; expected = expected.Option }) (tries_of word)
+after_word command given expected.LineCount word =
+    option_map (λ lines. record { given = record given { lines = Some lines }; expected = expected.Option }) (lines_of word)
 
 -- behind the last word no value may be missing
 abbrev pub at_end : Given → Expected → ℕ → Result Given ℕ

@@ -14,6 +14,10 @@ use crate::options::{Options, parse_options};
 pub enum Command<'a> {
     /// `build` and its options.
     Build(Options<'a>),
+    /// `watch` and its options, which are those of `build` and `--lines`.
+    Watch(Options<'a>),
+    /// `graph` and its options, which are those of `build`.
+    Graph(Options<'a>),
     /// `cc` and the words of a compile command, at least one.
     Cc { words: &'a [String] },
     /// `hosts`, with the text of its option `--hosts`.
@@ -80,6 +84,24 @@ fn parse_build(words: &[String]) -> Result<Command<'_>, usize>
     }
 }
 
+fn parse_watch(words: &[String]) -> Result<Command<'_>, usize>
+    ensures { NamedCommand CommandName.Watch (map string_bytes words.now) (command_meant result) }
+{
+    match parse_options(CommandName::Watch, words) {
+        Ok(options) => Ok(Command::Watch(options)),
+        Err(place) => Err(place),
+    }
+}
+
+fn parse_graph(words: &[String]) -> Result<Command<'_>, usize>
+    ensures { NamedCommand CommandName.Graph (map string_bytes words.now) (command_meant result) }
+{
+    match parse_options(CommandName::Graph, words) {
+        Ok(options) => Ok(Command::Graph(options)),
+        Err(place) => Err(place),
+    }
+}
+
 fn parse_hosts(words: &[String]) -> Result<Command<'_>, usize>
     ensures { NamedCommand CommandName.Hosts (map string_bytes words.now) (command_meant result) }
 {
@@ -116,6 +138,8 @@ fn parse_named(name: CommandName, words: &[String]) -> Result<Command<'_>, usize
 {
     match name {
         CommandName::Build => parse_build(words),
+        CommandName::Watch => parse_watch(words),
+        CommandName::Graph => parse_graph(words),
         CommandName::Cc => with_words(Command::Cc { words }, words),
         CommandName::Hosts => parse_hosts(words),
         CommandName::Scan => with_words(Command::Scan { words }, words),

@@ -15,6 +15,8 @@ Compiles each line of the file jobs on build1 and build2, by distcc's protocol.
 
 Usage: farm COMMAND [WORD]...
   build     do the jobs on standard input, one compile command a line
+  watch     the same, and say meanwhile how many jobs have ended
+  graph     as build, for jobs that may need one another
   cc        do one compile command, on the hosts of DISTCC_HOSTS: as the compiler's
             launcher, make CC='farm cc gcc'
   hosts     print the host list
@@ -41,8 +43,9 @@ Exit status:
   107  the input couldn't be read; a send, a receive, a program, a put or the
        reading of a source failed
   108  the host's reply was cut off
-  109  the job list, or a host's reply, has a fault
+  109  the job list or a line of its needs, or a host's reply, has a fault
   116  no host was up, and the job may not be compiled here
+  117  the job was skipped: another that it needs was not done with status 0
 That of a build is that of its first job that wasn't done with status 0. Where
 the compiler said no, it is its own.
 
@@ -52,6 +55,7 @@ Faults by their numbers:
   job list    1 an open quote, 2 a backslash at the end of a line, 3 no jobs,
               4 more than 512 jobs, 5 more than 16777216 bytes, 6 an output that
               an earlier job has, 7 no UTF-8 or a zero byte
+  needs       1 a word that is no number of a job, 2 no job behind the line
   reply       1 a wrong name of a token, 2 a bad digit, 3 another version, 5 a
               length above its limit, 6 an object beside a failure
 ";
@@ -81,11 +85,43 @@ farm hosts prints it as it is read. A compile database becomes a job list by
 farm_jobs.
 ";
 
+/// What `farm watch --help` prints.
+pub const WATCH_HELP: &[u8] = b"Usage: farm watch [OPTION]...
+Does the jobs on standard input as farm build does. While they are done it prints
+on standard error, about each second, how far it has come, and then what farm
+build prints.
+
+  watch I ended E of N busy B     line I: E of N jobs have ended, B are under way
+  watch last ended N of N busy 0  all jobs have ended
+  watch last no memory            the same, where memory for the lines was wanting
+
+  --lines N      print N lines before the last, 1 to 100; 10 where it isn't given
+
+The other options and the host list are those of farm build. One of the 16 workers
+that there may be keeps the time, so at most 15 jobs are done at once.
+";
+
+/// What `farm graph --help` prints.
+pub const GRAPH_HELP: &[u8] = b"Usage: farm graph [OPTION]...
+Does the jobs on standard input as farm build does, but level by level: a job
+begins once all jobs that it needs were done with status 0. It is skipped where
+one of them wasn't. Then it prints a line for each job, in their order.
+
+  needs: N...    a line of the list; the next job needs these jobs, by their
+                 numbers, which count from 1. Several such lines add up.
+
+The options and the host list are those of farm build.
+";
+
 /// What `farm cc --help` prints.
 pub const CC_HELP: &[u8] = b"Usage: farm cc WORD...
 Does the compile command that the words are, on the hosts of DISTCC_HOSTS, and
 ends with the compiler's status. A command that may not be sent is run here as
 it stands.
+
+Each command asks the hosts in the order of the list, from the first on. With
+--randomize in the list each process begins at another one, so that make -j
+uses them all.
 ";
 
 /// What `farm hosts --help` prints.
@@ -131,6 +167,12 @@ fn build_help() -> &'static [u8]
     BUILD_HELP
 }
 
+fn watch_help() -> &'static [u8]
+    ensures { result.now ≡ help.watch_help }
+{
+    WATCH_HELP
+}
+
 fn scan_help() -> &'static [u8]
     ensures { result.now ≡ help.scan_help }
 {
@@ -144,6 +186,8 @@ pub fn help_text(name: Option<CommandName>) -> &'static [u8]
     match name {
         None => program_help(),
         Some(CommandName::Build) => build_help(),
+        Some(CommandName::Watch) => watch_help(),
+        Some(CommandName::Graph) => GRAPH_HELP,
         Some(CommandName::Cc) => CC_HELP,
         Some(CommandName::Hosts) => HOSTS_HELP,
         Some(CommandName::Scan) => scan_help(),

@@ -8,6 +8,10 @@ ghost use Rattle.farm_words.specs.Names.{first_word, has_option, option_named, t
 pub enum CommandName {
     /// `build`
     Build,
+    /// `watch`
+    Watch,
+    /// `graph`
+    Graph,
     /// `cc`
     Cc,
     /// `hosts`
@@ -32,6 +36,7 @@ pub(crate) enum OptionName {
     Hosts,
     Workers,
     Tries,
+    Lines,
     NoFallback,
     NoRetry,
 }
@@ -42,7 +47,8 @@ impl CommandName {
         ensures { result ≡ has_option self option }
     {
         match self {
-            CommandName::Build => true,
+            CommandName::Watch => true,
+            CommandName::Build | CommandName::Graph => !matches!(option, OptionName::Lines),
             CommandName::Hosts => matches!(option, OptionName::Hosts),
             CommandName::Cc | CommandName::Scan | CommandName::Rehearse => false,
         }
@@ -69,6 +75,8 @@ pub(crate) fn parse_first_word(word: &str) -> Option<FirstWord>
 {
     match word {
         "build" => Some(FirstWord::Name(CommandName::Build)),
+        "watch" => Some(FirstWord::Name(CommandName::Watch)),
+        "graph" => Some(FirstWord::Name(CommandName::Graph)),
         "cc" => Some(FirstWord::Name(CommandName::Cc)),
         "hosts" => Some(FirstWord::Name(CommandName::Hosts)),
         "scan" => Some(FirstWord::Name(CommandName::Scan)),
@@ -87,6 +95,7 @@ pub(crate) fn parse_option_name(word: &str) -> Option<OptionName>
         "--hosts" => Some(OptionName::Hosts),
         "--workers" => Some(OptionName::Workers),
         "--tries" => Some(OptionName::Tries),
+        "--lines" => Some(OptionName::Lines),
         "--no-fallback" => Some(OptionName::NoFallback),
         "--no-retry" => Some(OptionName::NoRetry),
         _ => None,

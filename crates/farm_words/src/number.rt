@@ -1,11 +1,11 @@
 //! Numbers in words.
 
 ghost use Rattle.std.specs.Prelude.{◌≡◌, ◌≤◌, ℕ, MatchOption};
-ghost use Rattle.farm_words.specs.Numbers.{IsNumber, IsPeriod, jobs_of, tries_of, workers_of};
+ghost use Rattle.farm_words.specs.Numbers.{IsNumber, IsPeriod, jobs_of, lines_of, tries_of, workers_of};
 
 use farm_types::limits::{JOBS_MAX, PERIOD_MAX, WORKERS_MAX};
 
-/// The most decimal digits of a number of workers or of jobs.
+/// The most decimal digits of a number of workers, of jobs or of lines.
 const COUNT_DIGITS: usize = 3;
 
 /// The most decimal digits of a number of tries.
@@ -13,6 +13,9 @@ const TRIES_DIGITS: usize = 2;
 
 /// The most exchanges that a job may make.
 const TRIES_MAX: u32 = 16;
+
+/// The most lines that tell of a build while it goes on.
+const LINES_MAX: u32 = 100;
 
 /// The most decimal digits of a back-off period.
 const PERIOD_DIGITS: usize = 7;
@@ -47,6 +50,16 @@ pub(crate) fn parse_tries(word: &str) -> Option<u8>
 {
     match parse_number(word, TRIES_DIGITS, 1, TRIES_MAX) {
         Some(tries) => Some(tries as u8),
+        None => None,
+    }
+}
+
+// The number of lines that a word spells.
+pub(crate) fn parse_lines(word: &str) -> Option<u8>
+    ensures { result ≡ lines_of word.now }
+{
+    match parse_number(word, COUNT_DIGITS, 1, LINES_MAX) {
+        Some(lines) => Some(lines as u8),
         None => None,
     }
 }

@@ -2,11 +2,11 @@
 
 ghost use Rattle.std.specs.Prelude.{◌≡◌, map, string_bytes};
 ghost use Rattle.std.specs.Option.{option_map};
-ghost use Rattle.farm_words.specs.Options.{OptionsRead, given, options_meant, try_count, worker_count};
+ghost use Rattle.farm_words.specs.Options.{OptionsRead, given, line_count, options_meant, try_count, worker_count};
 ghost use Rattle.farm_words.specs.Steps.{after_word, at_end, begin_option, is_given, state};
 
 use crate::name::{CommandName, OptionName, parse_option_name};
-use crate::number::{parse_tries, parse_workers};
+use crate::number::{parse_lines, parse_tries, parse_workers};
 use farm_types::limits::WORKERS_DEFAULT;
 
 /// What the options of a command say.
@@ -18,6 +18,8 @@ pub struct Options<'a> {
     pub workers: Option<u8>,
     /// The number of `--tries`, 1 to 16.
     pub tries: Option<u8>,
+    /// The number of `--lines`, 1 to 100.
+    pub lines: Option<u8>,
     /// False with `--no-fallback`.
     pub fallback: bool,
     /// False with `--no-retry`.
@@ -26,6 +28,9 @@ pub struct Options<'a> {
 
 /// The exchanges that a job may make where `--tries` isn't given.
 const TRIES_DEFAULT: u8 = 1;
+
+/// The lines that tell of a build while it goes on, where `--lines` isn't given.
+const LINES_DEFAULT: u8 = 10;
 
 impl Options<'_> {
     /// The number of workers: that of `--workers`, or else 4.
@@ -41,6 +46,13 @@ impl Options<'_> {
     {
         self.tries.unwrap_or(TRIES_DEFAULT)
     }
+
+    /// How many lines tell of a build while it goes on: the number of `--lines`, or else 10.
+    pub fn line_count(&self) -> u8
+        ensures { result ≡ line_count (given self.now) }
+    {
+        self.lines.unwrap_or(LINES_DEFAULT)
+    }
 }
 
 // What the next word has to be.
@@ -50,6 +62,7 @@ pub(crate) enum Expected {
     HostList,
     WorkerCount,
     TryCount,
+    LineCount,
 }
 
 // What the words so far say.
@@ -67,6 +80,7 @@ fn is_option_given(options: &Options<'_>, option: OptionName) -> bool
         OptionName::Hosts => options.hosts.is_some(),
         OptionName::Workers => options.workers.is_some(),
         OptionName::Tries => options.tries.is_some(),
+        OptionName::Lines => options.lines.is_some(),
         OptionName::NoFallback => !options.fallback,
         OptionName::NoRetry => !options.retry,
     }
@@ -88,6 +102,10 @@ fn with_option(options: Options<'_>, option: OptionName) -> Reading<'_>
         OptionName::Tries => Reading {
             options,
             expected: Expected::TryCount,
+        },
+        OptionName::Lines => Reading {
+            options,
+            expected: Expected::LineCount,
         },
         OptionName::NoFallback => Reading {
             options: Options {
@@ -150,6 +168,16 @@ fn with_word<'a>(
                 expected: Expected::Option,
             })
         }
+        Expected::LineCount => {
+            let lines = parse_lines(word)?;
+            Some(Reading {
+                options: Options {
+                    lines: Some(lines),
+                    ..options
+                },
+                expected: Expected::Option,
+            })
+        }
     }
 }
 
@@ -159,7 +187,9 @@ fn finish(options: Options<'_>, expected: Expected, place: usize) -> Result<Opti
 {
     match expected {
         Expected::Option => Ok(options),
-        Expected::HostList | Expected::WorkerCount | Expected::TryCount => Err(place),
+        Expected::HostList | Expected::WorkerCount | Expected::TryCount | Expected::LineCount => {
+            Err(place)
+        }
     }
 }
 
@@ -176,6 +206,7 @@ pub(crate) fn parse_options<'a>(
             hosts: None,
             workers: None,
             tries: None,
+            lines: None,
             fallback: true,
             retry: true,
         },

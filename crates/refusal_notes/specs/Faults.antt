@@ -1,7 +1,9 @@
--- What the faults of host lists and job lists are told as.
+-- What the faults of host lists, job lists and lines of needs are told as.
 use Rattle.std.specs.Prelude.{ℕ, List, codes}
 use Rattle.host_list.specs.declared.fault.HostFault.{HostFault}
 use Rattle.host_list.specs.declared.fault.HostFault.TheVariants as host
+use Rattle.job_graph.specs.declared.fault.GraphFault.{GraphFault}
+use Rattle.job_graph.specs.declared.fault.GraphFault.TheVariants.{BadNeed, NoJobAfter}
 use Rattle.job_list.specs.declared.fault.JobFault.{JobFault}
 use Rattle.job_list.specs.declared.fault.JobFault.TheVariants as job
 
@@ -23,3 +25,7 @@ job_reason job.TooMany = codes "it is the 513th job, and 512 are taken"
 job_reason (job.TooLong bytes) = codes "the list has more than 16777216 bytes"
 job_reason (job.SameOutput first second) = codes "an earlier job writes the same output"
 job_reason job.NotText = codes "the line isn't UTF-8, or holds a zero byte"
+
+abbrev pub needs_reason : GraphFault → List ℕ
+needs_reason BadNeed = codes "each word behind needs: has to be the number of a job"
+needs_reason NoJobAfter = codes "no job stands behind the line"

@@ -1,9 +1,10 @@
-//! What the faults of host lists and job lists are told as.
+//! What the faults of host lists, job lists and lines of needs are told as.
 
 ghost use Rattle.std.specs.Prelude.{◌≡◌};
-ghost use Rattle.refusal_notes.specs.Faults.{host_reason, job_reason};
+ghost use Rattle.refusal_notes.specs.Faults.{host_reason, job_reason, needs_reason};
 
 use host_list::HostFault;
+use job_graph::GraphFault;
 use job_list::JobFault;
 
 /// What is wrong with a word of a host list that has this fault.
@@ -34,5 +35,15 @@ pub fn job_reason(fault: JobFault) -> &'static str
         JobFault::TooLong { .. } => "the list has more than 16777216 bytes",
         JobFault::SameOutput { .. } => "an earlier job writes the same output",
         JobFault::NotText => "the line isn't UTF-8, or holds a zero byte",
+    }
+}
+
+/// What is wrong with a line of needs that has this fault.
+pub fn needs_reason(fault: GraphFault) -> &'static str
+    ensures { result.now ≡ needs_reason fault }
+{
+    match fault {
+        GraphFault::BadNeed => "each word behind needs: has to be the number of a job",
+        GraphFault::NoJobAfter => "no job stands behind the line",
     }
 }

@@ -5,4 +5,4 @@ mod advice;
 mod faults;
 
 pub use advice::{Advice, advice_on};
-pub use faults::{host_reason, job_reason};
+pub use faults::{host_reason, job_reason, needs_reason};

@@ -24,19 +24,35 @@ type CommandRow = (&'static str, &'static str);
 const COMMANDS: &[CommandRow] = &[
     (
         "build",
-        "Build(Options { hosts: None, workers: None, tries: None, fallback: true, retry: true })",
+        "Build(Options { hosts: None, workers: None, tries: None, lines: None, fallback: true, retry: true })",
     ),
     (
         "build --hosts red/2 --workers 16 --tries 16 --no-fallback --no-retry",
-        "Build(Options { hosts: Some(\"red/2\"), workers: Some(16), tries: Some(16), fallback: false, retry: false })",
+        "Build(Options { hosts: Some(\"red/2\"), workers: Some(16), tries: Some(16), lines: None, fallback: false, retry: false })",
     ),
     (
         "build --no-retry --tries 01 --workers 016 --hosts --hosts",
-        "Build(Options { hosts: Some(\"--hosts\"), workers: Some(16), tries: Some(1), fallback: true, retry: false })",
+        "Build(Options { hosts: Some(\"--hosts\"), workers: Some(16), tries: Some(1), lines: None, fallback: true, retry: false })",
     ),
     (
         "build --workers 001",
-        "Build(Options { hosts: None, workers: Some(1), tries: None, fallback: true, retry: true })",
+        "Build(Options { hosts: None, workers: Some(1), tries: None, lines: None, fallback: true, retry: true })",
+    ),
+    (
+        "graph --tries 2 --hosts a",
+        "Graph(Options { hosts: Some(\"a\"), workers: None, tries: Some(2), lines: None, fallback: true, retry: true })",
+    ),
+    (
+        "watch",
+        "Watch(Options { hosts: None, workers: None, tries: None, lines: None, fallback: true, retry: true })",
+    ),
+    (
+        "watch --lines 100 --workers 15 --no-retry",
+        "Watch(Options { hosts: None, workers: Some(15), tries: None, lines: Some(100), fallback: true, retry: false })",
+    ),
+    (
+        "watch --hosts a --lines 001",
+        "Watch(Options { hosts: Some(\"a\"), workers: None, tries: None, lines: Some(1), fallback: true, retry: true })",
     ),
     ("hosts", "Hosts { hosts: None }"),
     ("hosts --hosts @red", "Hosts { hosts: Some(\"@red\") }"),
@@ -52,6 +68,8 @@ const COMMANDS: &[CommandRow] = &[
     ("--help", "Help(None)"),
     ("--version", "Version"),
     ("build --help", "Help(Some(Build))"),
+    ("watch --help", "Help(Some(Watch))"),
+    ("graph --help", "Help(Some(Graph))"),
     ("cc --help", "Help(Some(Cc))"),
     ("hosts --help", "Help(Some(Hosts))"),
     ("scan --help", "Help(Some(Scan))"),
@@ -104,6 +122,18 @@ const BAD_WORDS: &[BadRow] = &[
     ("build --hosts=a", 1),
     ("build --no-retry x", 2),
     ("build --help x", 2),
+    ("build --lines 10", 1),
+    ("graph --lines 10", 1),
+    ("hosts --lines 10", 1),
+    ("watch --lines 0", 2),
+    ("watch --lines 101", 2),
+    ("watch --lines 0010", 2),
+    ("watch --lines +1", 2),
+    ("watch --lines", 2),
+    ("watch --lines 1 --lines 2", 3),
+    ("watch x", 1),
+    ("graph --workers 17", 2),
+    ("graph x", 1),
     ("hosts --workers 3", 1),
     ("hosts --tries 3", 1),
     ("hosts --no-fallback", 1),
@@ -132,23 +162,24 @@ fn bad_words(rt: HostRuntime) -> Result<(), Fail> {
     Ok(())
 }
 
-// A line of `build`, and its number of workers and of tries.
-type CountRow = (&'static str, u8, u8);
+// A line of `watch`, and its number of workers, of tries and of lines.
+type CountRow = (&'static str, u8, u8, u8);
 
 const COUNTS: &[CountRow] = &[
-    ("build", 4, 1),
-    ("build --workers 16", 16, 1),
-    ("build --tries 16 --workers 1", 1, 16),
+    ("watch", 4, 1, 10),
+    ("watch --workers 16", 16, 1, 10),
+    ("watch --tries 16 --workers 1 --lines 99", 1, 16, 99),
 ];
 
 #[test]
 fn counts(rt: HostRuntime) -> Result<(), Fail> {
-    for (line, workers, tries) in COUNTS {
+    for (line, workers, tries, lines) in COUNTS {
         let words = words_of(rt.alloc(), line)?;
         match parse_command(words.as_slice()) {
-            Ok(Command::Build(options)) => {
+            Ok(Command::Watch(options)) => {
                 assert_eq!(rt; options.worker_count(), *workers, "{line}");
                 assert_eq!(rt; options.try_count(), *tries, "{line}");
+                assert_eq!(rt; options.line_count(), *lines, "{line}");
             }
             _ => panic!(rt; "{line}"),
         }
@@ -193,6 +224,7 @@ fn environment(rt: HostRuntime) -> Result<(), Fail> {
             hosts: *hosts,
             workers: None,
             tries: None,
+            lines: None,
             fallback: true,
             retry: true,
         };
@@ -238,9 +270,11 @@ fn periods(rt: HostRuntime) -> Result<(), Fail> {
 
 #[test]
 fn texts(rt: HostRuntime) -> Result<(), Fail> {
-    let rows: [(Option<CommandName>, &[u8]); 6] = [
+    let rows: [(Option<CommandName>, &[u8]); 8] = [
         (None, b"Usage: farm build --hosts"),
         (Some(CommandName::Build), b"Usage: farm build"),
+        (Some(CommandName::Watch), b"Usage: farm watch"),
+        (Some(CommandName::Graph), b"Usage: farm graph"),
         (Some(CommandName::Cc), b"Usage: farm cc"),
         (Some(CommandName::Hosts), b"Usage: farm hosts"),
         (Some(CommandName::Scan), b"Usage: farm scan"),

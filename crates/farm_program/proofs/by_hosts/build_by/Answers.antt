@@ -1,10 +1,10 @@
-use Rattle.std.proofs.Common.{◌≡◌, ◌∷◌, [], refl, ap, sym, ◌∙◌, subst, List, ℕ, arith}
+use Rattle.std.proofs.Common.{◌∷◌, [], ◌∙◌, subst, List, ℕ, arith}
 use Rattle.host_list.specs.HostLists.{HostListOf, HostFaultStands}
 use Rattle.stream_print.specs.Ends.{complaint, Ends}
 use Rattle.stream_print.specs.Prints.{sinks_view}
 use Rattle.farm_answers.specs.Texts.{bad_hosts_status, host_fault_text, no_memory_text}
-use Rattle.farm_program.specs.Commands.{on_hosts, bad_period, bad_hosts, no_hosts}
-use Rattle.farm_program.proofs.Building.{usable_hosts, status_as, want_as}
+use Rattle.farm_program.specs.Commands.{on_hosts, bad_period, bad_hosts}
+use Rattle.farm_program.proofs.Building.{usable_hosts, status_as}
 use Rattle.farm_program.proofs.Commanding.{printed_alone, builds_as}
 use Rattle.farm_program.proofs.by_hosts.build_by.Goals as goal
 

@@ -1,8 +1,7 @@
-use Rattle.std.proofs.Common.{◌≡◌, List, ℕ, refl, sym, ap, ◌∙◌, subst, arith, length}
-use Rattle.std.proofs.lemmas.Grind.{common_steps}
+use Rattle.std.proofs.Common.{◌≡◌, List, ℕ, refl, sym, ap, ◌∙◌, subst, arith}
 use Rattle.job_list.specs.Jobs.{JobsOf, JobFaultStands}
-use Rattle.farm_program.specs.Builds.{worker_number, text_ran, text_faulty, text_wanted}
-use Rattle.farm_program.proofs.Building.{doable_jobs, status_as, want_as, only-get, reports_as, jobs_as}
+use Rattle.farm_program.specs.Builds.{worker_number, text_ran, text_faulty}
+use Rattle.farm_program.proofs.Building.{status_as, only-get, reports_as, jobs_as}
 use Rattle.farm_program.proofs.list.build_text.Goals as goal
 
 pub returns-in-Err-Fault : goal.returns-in-Err-Fault

@@ -1,6 +1,3 @@
-use Rattle.std.proofs.Common.{refl}
-use Rattle.stream_print.specs.declared.one.PrintStop.TheVariants.{Memory}
-use Rattle.stream_print.specs.Ends.{PrintedFront}
 use Rattle.stream_print.proofs.EndLemmas.{want_front}
 use Rattle.farm_program.proofs.report.finish_build.Goals as goal
 

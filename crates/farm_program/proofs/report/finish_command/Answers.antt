@@ -1,4 +1,4 @@
-use Rattle.std.proofs.Common.{◌≡◌, ◌++◌, [], refl, ap, sym, ◌∙◌}
+use Rattle.std.proofs.Common.{◌++◌, ap, ◌∙◌}
 use Rattle.stream_print.proofs.EndLemmas.{want_first}
 use Rattle.report_text.specs.Pieces.{err_messages, failure_text, out_messages}
 use Rattle.farm_program.proofs.Building.{only-get, command_ends}

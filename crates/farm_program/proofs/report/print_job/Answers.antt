@@ -1,5 +1,5 @@
 use Rattle.std.proofs.Common.{[], refl}
-use Rattle.stream_print.proofs.EndLemmas.{front_whole, front_of_part}
+use Rattle.stream_print.proofs.EndLemmas.{front_whole}
 use Rattle.stream_print.proofs.PrintLemmas.{Printed-nothing, goes-same}
 use Rattle.farm_program.proofs.report.print_job.Goals as goal
 

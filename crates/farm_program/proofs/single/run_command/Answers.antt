@@ -1,11 +1,11 @@
-use Rattle.std.proofs.Common.{◌≡◌, [], refl, ap, sym, ◌∙◌, subst, length}
+use Rattle.std.proofs.Common.{refl, ap, ◌∙◌, subst, length}
 use Rattle.report_text.specs.Numbers.{number}
 use Rattle.report_text.specs.Pieces.{command_pieces}
 use Rattle.stream_print.specs.Ends.{Ends}
 use Rattle.stream_print.specs.Prints.{sinks_view}
 use Rattle.farm_answers.specs.Texts.{no_memory_text}
 use Rattle.farm_program.specs.Builds.{command_ran}
-use Rattle.farm_program.proofs.Building.{one_doable, only-get, one-of, jobs_as}
+use Rattle.farm_program.proofs.Building.{only-get, one-of, jobs_as}
 use Rattle.farm_program.proofs.single.run_command.Goals as goal
 
 pub returns-in-Ok-run_jobs : goal.returns-in-Ok-run_jobs

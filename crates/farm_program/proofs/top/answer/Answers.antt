@@ -1,5 +1,4 @@
-use Rattle.std.proofs.Common.{◌∙◌, sym, subst, ℕ, refl}
-use Rattle.stream_print.specs.Ends.{Ends}
+use Rattle.std.proofs.Common.{◌∙◌, refl}
 use Rattle.farm_program.proofs.Building.{status_as}
 use Rattle.farm_program.proofs.Commanding.{printed_alone, by_hosts_as}
 use Rattle.farm_program.proofs.top.answer.Goals as goal
@@ -24,3 +23,9 @@ returns-in-Help g c = rw c.in-Help.is (record { untouched = printed_alone c.idle
 
 pub returns-in-Version : goal.returns-in-Version
 returns-in-Version g c = rw c.in-Version.is (record { untouched = printed_alone c.idle-in-Version.ensures.none; ends = status_as c.idle-in-Version.ensures.status c.answer_version.ensures })
+
+pub returns-in-Graph : goal.returns-in-Graph
+returns-in-Graph g c = rw c.in-Graph.is c.graph_by.ensures
+
+pub returns-in-Watch : goal.returns-in-Watch
+returns-in-Watch g c = rw c.in-Watch.is c.watch_by.ensures

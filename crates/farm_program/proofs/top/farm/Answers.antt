@@ -1,10 +1,11 @@
-use Rattle.std.proofs.Common.{◌≡◌, map, string_bytes, Global}
-use Rattle.farm_words.specs.Commands.{meaning, Build}
+use Rattle.std.proofs.Common.{map, string_bytes, Global}
+use Rattle.farm_words.specs.Commands.{meaning, Build, Graph}
 use Rattle.farm_words.proofs.Reading.{no_both, one_meaning, one_place}
 use Rattle.farm_words.proofs.Within.{command-within}
 use Rattle.farm_program.proofs.Building.{status_as}
 use Rattle.farm_program.proofs.Commanding.{printed_alone}
 use Rattle.farm_program.proofs.Completing.{completes_on}
+use Rattle.farm_program.proofs.GraphCompleting.{graph_completes_on}
 use Rattle.farm_program.proofs.top.farm.Goals as goal
 
 pub answer-requires-clause-within : goal.answer-requires-clause-within
@@ -20,6 +21,10 @@ pub returns-in-Ok-clause-complete : goal.returns-in-Ok-clause-complete
 returns-in-Ok-clause-complete g c = λ config most jobs build known asks smooth.
     completes_on build known smooth asks (returns-in-Ok-clause-answers g c (Build build.options) build.command)
 
+pub returns-in-Ok-clause-complete_graph : goal.returns-in-Ok-clause-complete_graph
+returns-in-Ok-clause-complete_graph g c = λ config most graph build known asks smooth.
+    graph_completes_on build known smooth asks (returns-in-Ok-clause-answers g c (Graph build.options) build.command)
+
 pub returns-in-Err-clause-bad_words : goal.returns-in-Err-clause-bad_words
 returns-in-Err-clause-bad_words g c = λ place bad.
     rw (one_place (map (string_bytes {Z = Global}) c.args.words.now) place c.in-Err.place bad c.in-Err.ensures) (record { untouched = printed_alone c.idle.ensures.none; ends = status_as c.idle.ensures.status c.refuse_words.ensures })
@@ -29,3 +34,7 @@ returns-in-Err-clause-answers g c = λ meant is. absurd (no_both (map (string_by
 
 pub returns-in-Err-clause-complete : goal.returns-in-Err-clause-complete
 returns-in-Err-clause-complete g c = λ config most jobs build known asks smooth. absurd (no_both (map (string_bytes {Z = Global}) c.args.words.now) (Build build.options) c.in-Err.place build.command c.in-Err.ensures)
+
+pub returns-in-Err-clause-complete_graph : goal.returns-in-Err-clause-complete_graph
+returns-in-Err-clause-complete_graph g c = λ config most graph build known asks smooth. absurd
+    (no_both (map (string_bytes {Z = Global}) c.args.words.now) (Graph build.options) c.in-Err.place build.command c.in-Err.ensures)

@@ -1,5 +1,5 @@
 use Rattle.farm_cell.specs.Passes.{seen_of}
-use Rattle.job_driver.specs.Jobs.{job_at}
+use Rattle.farm_machine.specs.Usable.{job_at}
 use Rattle.farm_tests.proofs.honest.build_over_loops.Goals as goal
 
 pub returns : goal.returns

@@ -1,0 +1,70 @@
+//! How `farm` ends where the jobs are right and their needs are not.
+
+ghost use Rattle.std.specs.Prelude.{◌≡◌, ◌++◌, [], ◌∷◌, IfOk, OnOk};
+ghost use Rattle.stream_print.specs.Prints.{sinks_view};
+ghost use Rattle.stream_print.specs.Ends.{Ends, complaint};
+ghost use Rattle.farm_answers.specs.Texts.{bad_jobs_status, cycle_text, job_text, needs_fault_text, no_memory_text};
+
+use crate::refuse::{BAD_JOBS, NO_MEMORY_TEXT, want_memory};
+use edge_traits::Sink;
+use farm_types::Bytes;
+use job_graph::{GraphFault, Numbers};
+use std::alloc::{AllocError, Global};
+use stream_print::complain;
+
+/// Refuses a line of needs that has this fault.
+pub fn refuse_needs<O: Sink, E: Sink>(
+    alloc: Global,
+    line: u32,
+    fault: GraphFault,
+    out: &mut O,
+    err: &mut E,
+) -> u8
+    ensures { Ends no_memory_text (complaint (needs_fault_text line fault) ∷ []) bad_jobs_status
+        (sinks_view O.shows E.shows out.old err.old)
+        (sinks_view O.shows E.shows out.new err.new) result }
+{
+    let fault = fault.number();
+    match format!(in alloc; "farm: needs: fault {fault} at line {line}\n") {
+        Ok(text) => complain(text.as_bytes(), BAD_JOBS, NO_MEMORY_TEXT, out, err),
+        Err(_) => want_memory(out, err),
+    }
+}
+
+// Adds the printed number of a job.
+fn add_job(alloc: Global, text: &mut Bytes, job: u32) -> Result<(), AllocError>
+    ensures { OnOk result (text.new ≡ text.old ++ job_text job) }
+{
+    let number = (u64::from(job) + 1).to_string(alloc)?;
+    text.try_extend(b" ")?;
+    text.try_extend(number.as_bytes())
+}
+
+// The line of a cycle.
+fn cycle_line(alloc: Global, cycle: &[u32]) -> Result<Bytes, AllocError>
+    ensures { IfOk result (λ text. text ≡ cycle_text cycle.now) }
+{
+    let mut text = Bytes::from_slice(alloc, b"farm: needs: cycle")?;
+    for job in cycle {
+        add_job(alloc, &mut text, *job)?;
+    }
+    text.try_extend(b"\n")?;
+    Ok(text)
+}
+
+/// Refuses jobs of which each needs the next and the last the first.
+pub fn refuse_cycle<O: Sink, E: Sink>(
+    alloc: Global,
+    cycle: &Numbers,
+    out: &mut O,
+    err: &mut E,
+) -> u8
+    ensures { Ends no_memory_text (complaint (cycle_text cycle.now) ∷ []) bad_jobs_status
+        (sinks_view O.shows E.shows out.old err.old)
+        (sinks_view O.shows E.shows out.new err.new) result }
+{
+    match cycle_line(alloc, cycle.as_slice()) {
+        Ok(text) => complain(text.as_slice(), BAD_JOBS, NO_MEMORY_TEXT, out, err),
+        Err(_) => want_memory(out, err),
+    }
+}

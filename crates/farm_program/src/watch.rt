@@ -1,0 +1,236 @@
+//! A build of a job list that tells how far it has come.
+ghost use Rattle.std.specs.Prelude.{◌≡◌, ◌≤◌, [], Bool, false, All, IfOk, OnErr, length};
+ghost use Rattle.edge_traits.specs.Keepers.{IsIdle};
+ghost use Rattle.farm_machine.specs.Devices.{devices};
+ghost use Rattle.farm_machine.specs.Usable.{AreDoable, IsUsable};
+ghost use Rattle.job_driver.specs.Watching.{WatchPrinted};
+ghost use Rattle.stream_print.specs.Prints.{sinks_view};
+ghost use Rattle.farm_program.specs.Worlds.{world};
+ghost use Rattle.farm_program.specs.WatchBuilds.{AfterLines, BuildsWatched, JobsWatched, Watches, WatchesText, watched_workers};
+
+use crate::jobs::{BuiltList, Ended};
+use crate::list::{INPUT_MAX, build_list};
+use crate::report::finish_build;
+use edge_traits::{Clock, Dialer, Keeper, Kit, Sink, Source, Station};
+use farm_answers::{refuse_job_list, refuse_unread, want_memory};
+use farm_machine::ReportList;
+use farm_types::{Bytes, Hosts, JobConfig, Jobs};
+use input_read::{Input, read_input};
+use job_driver::{LineEnd, build_watched};
+use job_list::{JobError, JobFault, parse};
+use std::alloc::{AllocError, Global};
+use std::sync::Wait;
+use std::thread::Threads;
+use stream_print::STOPPED;
+
+/// How jobs are run, by how many workers at most, and how many lines tell of them.
+#[derive(Clone, Copy)]
+pub struct WatchPlan<'a> {
+    pub config: &'a JobConfig,
+    pub most: u8,
+    pub lines: u8,
+}
+
+// Runs jobs while lines tell how far they have come. What was built, and how the printing of the lines ended. An error says that
+// memory was wanting before the first of the jobs began.
+fn watch_jobs<
+    T: Threads + Wait + Sync,
+    D: Dialer + Send + Drop,
+    S: Station + Send + Drop,
+    K: Keeper + Send + Drop,
+    C: Clock + Send + Drop,
+    E: Sink + Send,
+>(
+    rt: &T,
+    alloc: Global,
+    jobs: &Jobs,
+    plan: WatchPlan<'_>,
+    kits: &mut Vec<Kit<D, S, K, C>>,
+    err: &mut E,
+) -> Result<(BuiltList, LineEnd), AllocError>
+where
+    D::Link: Send,
+    requires jobs { AreDoable jobs.now }
+    requires config { IsUsable plan.config.now }
+    requires workers { 1 ≤ plan.most }
+    requires lines { plan.lines ≤ 100 }
+    requires some { 2 ≤ length kits.old.items }
+    requires most { length kits.old.items ≤ 16 }
+    requires idle { All (λ kit. IsIdle (K.shows kit.keeper)) kits.old.items }
+    ensures done { IfOk result (λ made. JobsWatched (devices D.shows S.shows K.shows C.shows D.may_give S.ran)
+        plan.entry.config.now jobs.now (watched_workers plan.entry.most kits.old.items jobs.now) made.0 kits.old.items kits.new.items) }
+    ensures printed { IfOk result (λ made. (told : Bool) × WatchPrinted (length jobs.now)
+        (watched_workers plan.entry.most kits.old.items jobs.now) plan.entry.lines told (E.shows err.old) (E.shows err.new) made.1) }
+    ensures undone { OnErr result ((kits.new.items ≡ kits.old.items) × (err.new ≡ err.old)) }
+{
+    let workers = (plan.most as usize).min(kits.len() - 1).min(jobs.len()) as u32;
+    let mut built = Vec::with_capacity(alloc, 1)?;
+    let watched = build_watched(
+        rt,
+        alloc,
+        jobs,
+        plan.config,
+        kits,
+        workers,
+        plan.lines as u32,
+        err,
+    )?;
+    let printed = watched.printed;
+    let Ok(()) = built.push(watched.built) else {
+        unreachable!()
+    };
+    Ok((BuiltList::from_vec(built), printed))
+}
+
+// Prints the reports where all lines were printed, and answers the exit status.
+fn finish_watched<O: Sink, E: Sink>(
+    alloc: Global,
+    end: LineEnd,
+    hosts: &Hosts,
+    reports: &ReportList,
+    out: &mut O,
+    err: &mut E,
+) -> u8
+    ensures { AfterLines end hosts.now.list reports.now
+        (sinks_view O.shows E.shows out.old err.old)
+        (sinks_view O.shows E.shows out.new err.new) result }
+{
+    match end {
+        LineEnd::Whole => finish_build(alloc, hosts, reports, out, err),
+        LineEnd::SinkFault => STOPPED,
+        LineEnd::Memory => want_memory(out, err),
+    }
+}
+
+// Runs the jobs of a text while lines tell of them, and prints their reports.
+fn watch_text<
+    T: Threads + Wait + Sync,
+    D: Dialer + Send + Drop,
+    S: Station + Send + Drop,
+    K: Keeper + Send + Drop,
+    C: Clock + Send + Drop,
+    O: Sink,
+    E: Sink + Send,
+>(
+    rt: &T,
+    alloc: Global,
+    plan: WatchPlan<'_>,
+    text: &Bytes,
+    kits: &mut Vec<Kit<D, S, K, C>>,
+    out: &mut O,
+    err: &mut E,
+) -> Ended
+where
+    D::Link: Send,
+    requires config { IsUsable plan.config.now }
+    requires workers { 1 ≤ plan.most }
+    requires lines { plan.lines ≤ 100 }
+    requires some { 2 ≤ length kits.old.items }
+    requires most { length kits.old.items ≤ 16 }
+    requires idle { All (λ kit. IsIdle (K.shows kit.keeper)) kits.old.items }
+    ensures { WatchesText (devices D.shows S.shows K.shows C.shows D.may_give S.ran) plan.entry.config.now plan.entry.most plan.entry.lines
+        text.now kits.old.items kits.new.items result.built
+        (sinks_view O.shows E.shows out.old err.old)
+        (sinks_view O.shows E.shows out.new err.new) result.status }
+{
+    let jobs = match parse(alloc, text.as_slice()) {
+        Ok(jobs) => jobs,
+        Err(JobError::Fault { line, fault }) => {
+            return Ended::idle(alloc, refuse_job_list(alloc, line, fault, out, err));
+        }
+        Err(JobError::Memory) => return Ended::idle(alloc, want_memory(out, err)),
+    };
+    match watch_jobs(rt, alloc, &jobs, plan, kits, err) {
+        Ok((built, end)) => {
+            let reports = &built.as_slice()[0].reports;
+            let status = finish_watched(alloc, end, &plan.config.hosts, reports, out, err);
+            Ended { status, built }
+        }
+        Err(_) => Ended::idle(alloc, want_memory(out, err)),
+    }
+}
+
+// Reads the input, runs its jobs while lines tell of them, and prints their reports.
+fn watch_input<
+    T: Threads + Wait + Sync,
+    D: Dialer + Send + Drop,
+    S: Station + Send + Drop,
+    K: Keeper + Send + Drop,
+    C: Clock + Send + Drop,
+    R: Source,
+    O: Sink,
+    E: Sink + Send,
+>(
+    rt: &T,
+    alloc: Global,
+    plan: WatchPlan<'_>,
+    input: &mut R,
+    kits: &mut Vec<Kit<D, S, K, C>>,
+    out: &mut O,
+    err: &mut E,
+) -> Ended
+where
+    D::Link: Send,
+    requires config { IsUsable plan.config.now }
+    requires workers { 1 ≤ plan.most }
+    requires lines { plan.lines ≤ 100 }
+    requires input { (R.shows input.old).ended ≡ false }
+    requires some { 2 ≤ length kits.old.items }
+    requires most { length kits.old.items ≤ 16 }
+    requires idle { All (λ kit. IsIdle (K.shows kit.keeper)) kits.old.items }
+    ensures { BuildsWatched (devices D.shows S.shows K.shows C.shows D.may_give S.ran) plan.entry.config.now plan.entry.most plan.entry.lines
+        (world R.shows O.shows E.shows input.old kits.old.items out.old err.old [])
+        (world R.shows O.shows E.shows input.new kits.new.items out.new err.new result.built) result.status }
+{
+    match read_input(alloc, input, INPUT_MAX) {
+        Ok(Input::Whole(text)) => watch_text(rt, alloc, plan, &text, kits, out, err),
+        Ok(Input::TooLong) => {
+            let fault = JobFault::TooLong {
+                bytes: INPUT_MAX as u64,
+            };
+            Ended::idle(alloc, refuse_job_list(alloc, 0, fault, out, err))
+        }
+        Ok(Input::Unread) => Ended::idle(alloc, refuse_unread(out, err)),
+        Err(_) => Ended::idle(alloc, want_memory(out, err)),
+    }
+}
+
+/// Reads the input, runs its jobs while lines on the sink of errors tell how far they have come, and prints their reports. With one
+/// kit nothing is told, since the last kit lends its clock.
+pub fn watch_list<
+    T: Threads + Wait + Sync,
+    D: Dialer + Send + Drop,
+    S: Station + Send + Drop,
+    K: Keeper + Send + Drop,
+    C: Clock + Send + Drop,
+    R: Source,
+    O: Sink,
+    E: Sink + Send,
+>(
+    rt: &T,
+    alloc: Global,
+    plan: WatchPlan<'_>,
+    input: &mut R,
+    kits: &mut Vec<Kit<D, S, K, C>>,
+    out: &mut O,
+    err: &mut E,
+) -> Ended
+where
+    D::Link: Send,
+    requires config { IsUsable plan.config.now }
+    requires workers { 1 ≤ plan.most }
+    requires lines { plan.lines ≤ 100 }
+    requires input { (R.shows input.old).ended ≡ false }
+    requires some { 1 ≤ length kits.old.items }
+    requires most { length kits.old.items ≤ 16 }
+    requires idle { All (λ kit. IsIdle (K.shows kit.keeper)) kits.old.items }
+    ensures { Watches (devices D.shows S.shows K.shows C.shows D.may_give S.ran) plan.entry.config.now plan.entry.most plan.entry.lines
+        (world R.shows O.shows E.shows input.old kits.old.items out.old err.old [])
+        (world R.shows O.shows E.shows input.new kits.new.items out.new err.new result.built) result.status }
+{
+    if kits.len() == 1 {
+        build_list(rt, alloc, plan.config, plan.most, input, kits, out, err)
+    } else {
+        watch_input(rt, alloc, plan, input, kits, out, err)
+    }
+}
