@@ -14,7 +14,7 @@ defaults = $(DESTDIR)/etc/default
 # The farm whole: farm with two farmds on loopback, of which one is killed in the middle of a build. Where no proved programs are, they are built for
 # this run alone, without proofs.
 demo:
-	tests/demo
+	tools/demo
 
 # The checks need what the gate has built, also under `make -j`.
 .NOTPARALLEL:
@@ -31,8 +31,8 @@ gate:
 # its cache, whole projects, dependency files, two hosts in turn, sources that become a program, the manual pages and the installation; each is skipped
 # where what it needs isn't installed.
 checks:
-	tests/layers
-	tests/believed
+	tools/layers
+	tools/believed
 	tests/interop
 	tests/environment
 	tests/delivery
@@ -50,19 +50,20 @@ checks:
 	tests/manual
 	tests/install
 
-# The same, with each allocation refused and not some of them.
+# The same, with each allocation refused and not some of them, and with a host that is silent for 10 minutes.
 test-all: test
 	tests/allocations --every
+	SLOW=yes tests/faults
 
 # Proves and builds the programs, and all libraries that they stand on.
 build:
-	tests/prove $(PROGRAMS)
+	tools/prove $(PROGRAMS)
 
 # The programs, farmcc, their manual pages, the completion for bash, and the unit of farmd for systemd, below PREFIX; what the unit is started with,
 # in /etc/default/farmd, unless it is there already. DESTDIR stands before these where a package is made. What isn't built yet is proved
 # and built.
 install:
-	@for program in $(PROGRAMS); do [ -x crates/$$program/out/$$program ] || exec tests/prove $(PROGRAMS); done
+	@for program in $(PROGRAMS); do [ -x crates/$$program/out/$$program ] || exec tools/prove $(PROGRAMS); done
 	install -d $(bin) $(man) $(completions) $(units)
 	for program in $(PROGRAMS); do \
 	  install -m 755 crates/$$program/out/$$program $(bin)/$$program && \
@@ -88,9 +89,12 @@ dist:
 bench:
 	bench/run
 	bench/builds
+	bench/make
+	bench/servers
 	bench/transfer
 	bench/memory
 	bench/gaps
+	bench/start
 
 # How many times as long writing and reading 32 MiB takes as a plain copy of as many bytes.
 bench-wire:

@@ -6,27 +6,18 @@ import sys
 import threading
 import time
 
+import wire
+
 PORT, PROCESS, RUNS, COUNT, SECONDS = int(sys.argv[1]), int(sys.argv[2]), sys.argv[3], int(sys.argv[4]), float(sys.argv[5])
 THREADS = 8
 
 
-def token(name, number):
-    return name + b"%08x" % number
-
-
-def request(words, source):
-    text = token(b"DIST", 1) + token(b"ARGC", len(words))
-    for word in words:
-        text += token(b"ARGV", len(word)) + word
-    return text + token(b"DOTI", len(source)) + source
-
-
 SEEDS = [
-    request([b"probe", b"-c", b"a.i", b"-o", b"a.o"], b"int a = 1;\n"),
-    request([b"probe", b"-O2", b"-g", b"-c", b"b.c", b"-o", b"b.o"], b"int b;\n" * 40),
-    request([b"sh", b"-c", b"touch x", b"-o", b"a.o"], b""),
-    request([b"probe", b"-E", b"a.c"], b"int a;\n"),
-    request([b"/bin/sh"], b""),
+    wire.request([b"probe", b"-c", b"a.i", b"-o", b"a.o"], b"int a = 1;\n"),
+    wire.request([b"probe", b"-O2", b"-g", b"-c", b"b.c", b"-o", b"b.o"], b"int b;\n" * 40),
+    wire.request([b"sh", b"-c", b"touch x", b"-o", b"a.o"], b""),
+    wire.request([b"probe", b"-E", b"a.c"], b"int a;\n"),
+    wire.request([b"/bin/sh"], b""),
 ]
 
 
@@ -54,21 +45,14 @@ def mutate(rng, text):
 
 
 def exchange(text):
-    with socket.create_connection(("127.0.0.1", PORT), timeout=30) as link:
+    """What farmd answers, however it ends the link."""
+    with wire.dial(PORT) as link:
         try:
             link.sendall(text)
             link.shutdown(socket.SHUT_WR)
         except OSError:
             pass
-        reply = b""
-        try:
-            while True:
-                piece = link.recv(65536)
-                if not piece:
-                    return reply
-                reply += piece
-        except ConnectionResetError:
-            return reply
+        return wire.read_all(link)
 
 
 def memory(field):
@@ -113,10 +97,10 @@ class Worker(threading.Thread):
 def main():
     begin = memory("VmRSS")
     # peers that announce 32 MiB and send nothing of it
-    big = SEEDS[0][:SEEDS[0].index(b"DOTI")] + token(b"DOTI", 33554432)
+    big = SEEDS[0][:SEEDS[0].index(b"DOTI")] + wire.token(b"DOTI", 33554432)
     idle = []
     for _ in range(7):
-        link = socket.create_connection(("127.0.0.1", PORT))
+        link = wire.dial(PORT)
         link.sendall(big)
         idle.append(link)
     time.sleep(0.5)

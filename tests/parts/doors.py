@@ -6,42 +6,19 @@ denies 127.0.0.2 and lets in all else.
 """
 import random
 import resource
-import socket
 import sys
 import threading
 import time
 
+import wire
+
 PORT, CONNECTIONS, AT_ONCE = int(sys.argv[1]), int(sys.argv[2]), int(sys.argv[3])
 LONGEST = float(sys.argv[4]) if sys.argv[4:] else 2.0
-
-
-def token(name, number):
-    return name + b"%08x" % number
-
-
-def request():
-    words = [b"probe", b"-c", b"a.i", b"-o", b"a.o"]
-    return token(b"DIST", 1) + token(b"ARGC", len(words)) + b"".join(token(b"ARGV", len(word)) + word for word in words) + token(b"DOTI", 1) + b"x"
-
-
-REQUEST = request()
+REQUEST = wire.request(wire.compile_words(b"probe"), b"x")
 REPLY = b"DONE00000001STAT00000000SERR00000000SOUT00000000DOTO00000000"
 stop = threading.Event()
 lock = threading.Lock()
 took, wrong, kinds = [], [], {}
-
-
-def dial(source):
-    return socket.create_connection(("127.0.0.1", PORT), timeout=60, source_address=(source, 0))
-
-
-def read_all(link):
-    text = b""
-    while True:
-        piece = link.recv(65536)
-        if not piece:
-            return text
-        text += piece
 
 
 def drip(link, text=b"x" * 100):
@@ -54,9 +31,9 @@ def drip(link, text=b"x" * 100):
 
 def ask():
     begun = time.monotonic()
-    with dial("127.0.0.1") as link:
+    with wire.dial(PORT) as link:
         link.sendall(REQUEST)
-        reply = read_all(link)
+        reply = wire.read_all(link)
     with lock:
         took.append(time.monotonic() - begun)
         if reply != REPLY:
@@ -65,15 +42,15 @@ def ask():
 
 def after_reply(then):
     """Has a whole request answered, and doesn't end."""
-    with dial("127.0.0.1") as link:
+    with wire.dial(PORT) as link:
         link.sendall(REQUEST)
-        read_all(link)
+        wire.read_all(link)
         then(link)
 
 
 def before_request(then):
     """Sends no whole request."""
-    with dial("127.0.0.1") as link:
+    with wire.dial(PORT) as link:
         then(link)
 
 
@@ -84,7 +61,7 @@ def drip_behind(link):
 
 
 def denied(then):
-    with dial("127.0.0.2") as link:
+    with wire.dial(PORT, "127.0.0.2") as link:
         then(link)
 
 

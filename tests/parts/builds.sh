@@ -1,5 +1,5 @@
 # Whole builds for tests/interop, which sources this file in its working folder: many jobs and hosts, a host that is killed, and single commands.
-# It uses farm, expect, refuses, same and split of that script.
+# It uses farm, expect, refuses, answers, same and split of that script.
 
 # list COUNT: writes COUNT sources, what gcc makes of each, and the list of their jobs
 list() {
@@ -23,25 +23,24 @@ lines() {
     NR <= count && !($1 == NR && $0 ~ "^[0-9]+ (" places ") stat 00000000$") { exit 1 }
     NR == count + 1 && $0 != "total " count " ok " count { exit 1 }
     END { if (NR != count + 1) exit 1 }' "$1.out"; then
-    echo "FAIL $1: the lines"
+    fail "$1: the lines"
     sed 's/^/  /' "$1.out" "$1.err" | tail -5
-    failed=$((failed + 1))
   fi
 }
 
 # 200 files at two hosts
 FIRST_DAEMON=$DAEMON FIRST_PORT=$PORT
 DAEMON=
-start_daemon 4 "$work/log" || { DAEMON=$FIRST_DAEMON; echo "tests/interop: a second distccd can't be started"; exit 1; }
+start_daemon 4 "$work/log" || stop "a second distccd can't be started"
 SECOND_PORT=$PORT
 list 200
 "$FARM" build --workers 8 --hosts "127.0.0.1:$FIRST_PORT/4 127.0.0.1:$SECOND_PORT/4" --no-fallback <jobs >build.out 2>build.err
 echo $? >build.status
 lines build 200 "remote 127.0.0.1:($FIRST_PORT|$SECOND_PORT)"
 objects build 200
-[ "$(cat build.status)" = 0 ] || { echo "FAIL build: status $(cat build.status)"; failed=$((failed + 1)); }
+[ "$(cat build.status)" = 0 ] || fail "build: status $(cat build.status)"
 for port in $FIRST_PORT $SECOND_PORT; do
-  grep -q ":$port stat" build.out || { echo "FAIL build: no job at port $port"; failed=$((failed + 1)); }
+  grep -q ":$port stat" build.out || fail "build: no job at port $port"
 done
 
 # the second host is killed in the middle: the jobs that it had, and those that dial it, are compiled here
@@ -55,11 +54,11 @@ done
 pkill -9 -P "$DAEMON"
 kill -9 "$DAEMON"
 wait "$building"
-[ $? = 0 ] || { echo 'FAIL killed: the status'; failed=$((failed + 1)); }
+[ $? = 0 ] || fail 'killed: the status'
 wait "$DAEMON" 2>/dev/null
 lines killed 200 "remote 127.0.0.1:($FIRST_PORT|$SECOND_PORT)|here"
 objects killed 200
-grep -q ' here stat' killed.out || { echo 'FAIL killed: no job was compiled here'; failed=$((failed + 1)); }
+grep -q ' here stat' killed.out || fail 'killed: no job was compiled here'
 DAEMON=$FIRST_DAEMON PORT=$FIRST_PORT
 
 # single commands
@@ -67,15 +66,14 @@ DISTCC_HOSTS=$HOST DISTCC_FALLBACK=0 "$FARM" cc gcc -O2 -c good.c -o single.o >s
 echo $? >single.status
 : >single.want
 if [ -s single.out ] || [ -s single.err ] || [ "$(cat single.status)" != 0 ]; then
-  echo 'FAIL single: what is printed or answered'
-  failed=$((failed + 1))
+  fail 'single: what is printed or answered'
 fi
 same single single.o good.ref.o
 DISTCC_HOSTS=$HOST "$FARM" cc gcc -O2 good.c -o whole >whole.out 2>whole.err
-[ $? = 0 ] && [ "$(./whole)" = hello ] || { echo 'FAIL whole: a command that stays here'; failed=$((failed + 1)); }
+[ $? = 0 ] && [ "$(./whole)" = hello ] || fail 'whole: a command that stays here'
 DISTCC_HOSTS=127.0.0.1:1 DISTCC_FALLBACK=0 answers unlinked cc gcc -O2 -c good.c -o unlinked.o
 refuses unlinked 103 'farm: failed 127.0.0.1:1 dial'
 
 if [ -z "$(missing python3)" ]; then
-  python3 "$here/tests/builds.py" "$FARM" || failed=$((failed + 1))
+  python3 "$TOP/tests/parts/builds.py" "$FARM" || fail "builds by many workers"
 fi

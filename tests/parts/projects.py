@@ -1,4 +1,7 @@
-"""Writes three projects of 30 sources with a test of their own, by_make, by_cmake and by_configure: tests/projects.py FOLDER."""
+"""Writes three projects of 30 sources with a test of their own, by_make, by_cmake and by_configure: tests/projects.py FOLDER.
+
+tests/projects.py --graph reads what make would run, and writes it as a job graph: a command needs each command before it that makes a
+file that it names."""
 import os
 import sys
 
@@ -65,7 +68,31 @@ def sources(folder):
     return " ".join([f"part{k}.c" for k in numbers] + ["main.c"])
 
 
+def made_by(words):
+    """The file that a command makes."""
+    if "-o" in words:
+        return words[words.index("-o") + 1]
+    return words[2] if words[0] == "ar" else words[-1]
+
+
+def graph():
+    number, makers = 0, {}
+    for line in sys.stdin:
+        words = line.split()
+        if not words or words[0] not in ("gcc", "ar", "ranlib"):
+            continue
+        number += 1
+        needs = sorted({makers[word] for word in words if word in makers})
+        if needs:
+            print("needs:", *needs)
+        print(" ".join(words))
+        makers[made_by(words)] = number
+
+
 def main():
+    if sys.argv[1] == "--graph":
+        graph()
+        return
     top = sys.argv[1]
     sources(f"{top}/by_make")
     write(f"{top}/by_make", "Makefile", MAKEFILE)

@@ -1,16 +1,7 @@
-# What the scripts that run farmd share. To be sourced by bash.
+# A farmd for the checks. To be sourced by bash.
 
-# Sets FARMD to the program, and builds it where that hasn't been done.
-build_farmd() {
-  local top
-  top=$(cd "$(dirname "${BASH_SOURCE[0]}")/.." && pwd)
-  FARMD=${FARMD:-$top/crates/farmd/out/farmd}
-  [ -x "$FARMD" ] && return
-  (cd "$top/crates/farmd" && rt run -- --version </dev/null >/dev/null 2>&1)
-  [ -x "$FARMD" ]
-}
-
-# Starts farmd on loopback with these further words, and sets PORT and FARMD_PROCESS. Its output goes to the file. --trust-options comes first.
+# start_farmd LOG [WORD..]: starts farmd on loopback with these words, and sets PORT and FARMD_PROCESS. Its output goes to the file LOG, its messages to LOG.err.
+# --trust-options comes first.
 start_farmd() {
   local log=$1 trust=
   shift

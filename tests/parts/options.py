@@ -1,38 +1,24 @@
 """Requests with options for farmd: `served PORT RUNS`, `refused PORT RUNS`, and `hostile PORT FOLDER --compiler NAME=PATH..`."""
 import os
-import socket
 import subprocess
 import sys
 import time
+
+import wire
 
 KIND, PORT = sys.argv[1], int(sys.argv[2])
 SECRET = "a line that only this machine has"
 
 
-def token(name, number):
-    return name + b"%08x" % number
-
-
 def request(compiler, options, source):
-    words = [compiler.encode(), *[option.encode() for option in options], b"-c", b"a.c", b"-o", b"a.o"]
-    text = token(b"DIST", 1) + token(b"ARGC", len(words))
-    for word in words:
-        text += token(b"ARGV", len(word)) + word
-    return text + token(b"DOTI", len(source)) + source
+    return wire.request(wire.compile_words(compiler.encode(), *(option.encode() for option in options), name=b"a.c"), source)
 
 
 def exchange(text):
-    with socket.create_connection(("127.0.0.1", PORT), timeout=30) as link:
+    """What farmd answers, and no less where it resets the link behind that."""
+    with wire.dial(PORT) as link:
         link.sendall(text)
-        reply = b""
-        while True:
-            try:
-                piece = link.recv(65536)
-            except ConnectionResetError:
-                return reply
-            if not piece:
-                return reply
-            reply += piece
+        return wire.read_all(link)
 
 
 def lines():

@@ -1,56 +1,25 @@
 """Builds by many workers at a host of this script's own: a worker that waits for a slot sleeps, and many large jobs take bounded memory."""
 import os
-import resource
-import socket
 import subprocess
 import sys
-import threading
 import time
 
-REPLY = b"DONE00000001STAT00000000SERR00000000SOUT00000000DOTO00000004OBJ\n"
+import wire
+from peaks import Peak
+
+REPLY = wire.reply_head(4) + b"OBJ\n"
 MIB = 1 << 20
 
 
-def take(link, count):
-    """Receives so many bytes."""
-    parts = []
-    while count:
-        part = link.recv(min(count, MIB))
-        if not part:
-            raise EOFError
-        parts.append(part)
-        count -= len(part)
-    return b"".join(parts)
+def host(delay):
+    """Starts a host that reads a request, waits, and answers with an object; gives its port."""
 
-
-def number(link, name):
-    token = take(link, 12)
-    assert token[:4] == name, token
-    return int(token[4:], 16)
-
-
-def serve(link, delay):
-    """Reads one request, waits, and answers with an object."""
-    with link:
-        number(link, b"DIST")
-        for _ in range(number(link, b"ARGC")):
-            take(link, number(link, b"ARGV"))
-        take(link, number(link, b"DOTI"))
+    def serve(link):
+        wire.read_request(link)
         time.sleep(delay)
         link.sendall(REPLY)
 
-
-def host(delay):
-    """Starts a host, and gives its port."""
-    door = socket.create_server(("127.0.0.1", 0), backlog=64)
-
-    def accept():
-        while True:
-            link, _ = door.accept()
-            threading.Thread(target=serve, args=(link, delay), daemon=True).start()
-
-    threading.Thread(target=accept, daemon=True).start()
-    return door.getsockname()[1]
+    return wire.start_host(serve)
 
 
 def build(farm, port, limit, workers, count):
@@ -61,6 +30,7 @@ def build(farm, port, limit, workers, count):
     child = subprocess.Popen(words, stdin=subprocess.PIPE, stdout=subprocess.PIPE, text=True)
     child.stdin.write(jobs)
     child.stdin.close()
+    peak = Peak(child.pid)
     out = child.stdout.read()
     _, status, used = os.wait4(child.pid, 0)
     took = time.monotonic() - begin
@@ -69,7 +39,7 @@ def build(farm, port, limit, workers, count):
     for k in range(1, count + 1):
         with open(f"s{k}.o", "rb") as made:
             assert made.read() == b"OBJ\n"
-    return took, used.ru_utime + used.ru_stime, used.ru_maxrss
+    return took, used.ru_utime + used.ru_stime, peak.kib()
 
 
 def source(count, size):

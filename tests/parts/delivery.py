@@ -10,21 +10,14 @@ import resource
 import shutil
 import signal
 import subprocess
-import sys
 import tempfile
 import time
 
-from hosts import read_request, reply_head, start_host
+from farm import FARM, content, expect, leftovers, start_farm, verdict, write
+from peaks import Peak
+from wire import read_request, reply_head, start_host
 
-FARM = os.environ["FARM"]
 MIB = 1048576
-failures = []
-
-
-def expect(name, holds, seen=""):
-    if not holds:
-        failures.append(name)
-        print(f"FAIL {name} {seen}")
 
 
 def serve(link):
@@ -37,42 +30,12 @@ def serve(link):
         size -= link.send(piece[: min(size, len(piece))])
 
 
-def start_farm(folder, job, **more):
-    child = subprocess.Popen(
-        [FARM, "build", "--hosts", f"127.0.0.1:{PORT}", "--no-fallback"],
-        cwd=folder,
-        stdin=subprocess.PIPE,
-        stdout=subprocess.PIPE,
-        stderr=subprocess.STDOUT,
-        **more,
-    )
-    child.stdin.write(job.encode() + b"\n")
-    child.stdin.close()
-    return child
-
-
-def run_farm(folder, job, **more):
-    child = start_farm(folder, job, **more)
+def run(folder, jobs, **more):
+    """The status of a build, what it printed, and its largest resident size."""
+    child = start_farm(folder, jobs, PORT, "--no-fallback", **more)
+    peak = Peak(child.pid)
     text = child.stdout.read().decode()
-    _, status, used = os.wait4(child.pid, 0)
-    child.returncode = os.waitstatus_to_exitcode(status)
-    return child.returncode, text, used.ru_maxrss * 1024
-
-
-def write(path, text):
-    with open(path, "w") as file:
-        file.write(text)
-
-
-def content(path):
-    """The letter of a file that is whole, and its length; None where it is in part or of two letters."""
-    with open(path, "rb") as file:
-        data = file.read()
-    return (chr(data[0]), len(data)) if data and data == data[:1] * len(data) else None
-
-
-def leftovers(folder):
-    return [name for name in os.listdir(folder) if name.endswith(".farm~")]
+    return child.wait(), text, peak.kib() * 1024
 
 
 def make_folder(folder):
@@ -84,12 +47,12 @@ def make_folder(folder):
 
 
 def job(name, output):
-    return f"./cc -c {name}.c -o {output}"
+    return f"./cc -c {name}.c -o {output}\n"
 
 
 def resident_sizes(folder):
-    _, _, least = run_farm(folder, job("small", "small.o"))
-    status, text, most = run_farm(folder, job("most", "most.o"))
+    _, _, least = run(folder, job("small", "small.o"))
+    status, text, most = run(folder, job("most", "most.o"))
     expect("the largest object", status == 0 and content(f"{folder}/most.o") == ("T", 32 * MIB), text)
     print(f"resident size: {least // 1024} KiB for an object of 1 byte, {most // 1024} KiB for one of 32 MiB")
     expect("a large object isn't kept in memory", most <= least + 4 * MIB)
@@ -99,14 +62,14 @@ def whole_or_old(folder, before):
     return content(f"{folder}/x.o") in (before, ("L", 30 * MIB))
 
 
-def killed(folder, times):
+def killed_in_a_put(folder, times):
     write(f"{folder}/x.o", "oooo")
     begun = time.monotonic()
-    run_farm(folder, job("large", "y.o"))
+    run(folder, job("large", "y.o"))
     length = time.monotonic() - begun
     left = 0
     for _ in range(times):
-        child = start_farm(folder, job("large", "x.o"))
+        child = start_farm(folder, job("large", "x.o"), PORT, "--no-fallback")
         time.sleep(random.uniform(0, length))
         child.kill()
         child.stdout.read()
@@ -116,15 +79,15 @@ def killed(folder, times):
         for name in leftovers(folder):
             expect("what is left has a name of its own", re.fullmatch(r"farm-\d+-\d+\.farm~", name), name)
             os.remove(f"{folder}/{name}")
-    status, text, _ = run_farm(folder, job("large", "x.o"))
+    status, text, _ = run(folder, job("large", "x.o"))
     expect("a run after killed ones", status == 0 and content(f"{folder}/x.o") == ("L", 30 * MIB), text)
     print(f"killed {times} times: {left} files were left")
 
 
 def two_at_once(folder, times):
     for number in range(times):
-        first = start_farm(folder, job("large", "z.o"))
-        second = start_farm(folder, job("other", "./z.o" if number % 2 else "z.o"))
+        first = start_farm(folder, job("large", "z.o"), PORT, "--no-fallback")
+        second = start_farm(folder, job("other", "./z.o" if number % 2 else "z.o"), PORT, "--no-fallback")
         for child in (first, second):
             child.stdout.read()
             expect("each of two at one output succeeds", child.wait() == 0)
@@ -132,18 +95,18 @@ def two_at_once(folder, times):
         expect("two at one output leave nothing else", not leftovers(folder))
 
 
-def limited(folder):
+def large_above_a_limit(folder):
     def limit():
         signal.signal(signal.SIGXFSZ, signal.SIG_IGN)
         resource.setrlimit(resource.RLIMIT_FSIZE, (MIB, MIB))
 
     write(f"{folder}/x.o", "oooo")
-    status, text, _ = run_farm(folder, job("large", "x.o"), preexec_fn=limit)
+    status, text, _ = run(folder, job("large", "x.o"), preexec_fn=limit)
     expect("a file-size limit", status == 107 and text.startswith("x.o: cannot be written: File too large") and "1 failed put\n" in text, (status, text))
     expect("a file-size limit leaves the output", content(f"{folder}/x.o") == ("o", 4) and not leftovers(folder))
 
 
-def full_disk(folder):
+def large_on_a_small_disk(folder):
     small = f"{folder}/small-disk"
     os.mkdir(small)
     mounted = subprocess.run(["mount", "-t", "tmpfs", "-o", "size=2m", "tmpfs", small], capture_output=True).returncode == 0
@@ -152,10 +115,10 @@ def full_disk(folder):
         return
     try:
         write(f"{small}/x.o", "oooo")
-        status, text, _ = run_farm(folder, job("large", "small-disk/x.o"))
+        status, text, _ = run(folder, job("large", "small-disk/x.o"))
         expect("a full disk", status == 107 and "1 failed put\n" in text and "x.o: cannot be written: No space left" in text, (status, text))
         expect("a full disk leaves the output", content(f"{small}/x.o") == ("o", 4) and not leftovers(small))
-        status, text, _ = run_farm(folder, job("small", "small-disk/x.o"))
+        status, text, _ = run(folder, job("small", "small-disk/x.o"))
         expect("a smaller object fits", status == 0 and content(f"{small}/x.o") == ("S", 1), text)
     finally:
         subprocess.run(["umount", small])
@@ -165,7 +128,7 @@ def other_outputs(folder):
     os.mkfifo(f"{folder}/pipe")
     os.mkdir(f"{folder}/place")
     for name, status in [("/dev/null", 0), ("pipe", 107), ("place", 107), ("l" * 255, 0)]:
-        seen, text, _ = run_farm(folder, job("small", name))
+        seen, text, _ = run(folder, job("small", name))
         expect(f"the output {name[:10]}", seen == status, (seen, text))
         expect(f"the reason for {name[:10]}", (f"{name}: cannot be written: " in text) == (status != 0), text)
     expect("a device stays one", subprocess.run(["test", "-c", "/dev/null"]).returncode == 0)
@@ -221,15 +184,15 @@ def outputs_as_gcc(folder):
             with open(f"{place}/new.o", "rb") as file:
                 made = file.read()
             make(place)
-            run = subprocess.run(words, cwd=place, capture_output=True, env={**os.environ, "DISTCC_HOSTS": "localhost"})
-            seen.append((run.returncode == 0, standing(place, made)))
+            ran = subprocess.run(words, cwd=place, capture_output=True, env={**os.environ, "DISTCC_HOSTS": "localhost"})
+            seen.append((ran.returncode == 0, standing(place, made)))
             expect(f"{what}: nothing else is left", not leftovers(place), os.listdir(place))
             shutil.rmtree(place)
         if seen[0][0]:
-            expect(f"{what} at the output, as gcc has it", seen[0] == seen[1], (seen[0], seen[1], run.stderr))
+            expect(f"{what} at the output, as gcc has it", seen[0] == seen[1], (seen[0], seen[1], ran.stderr))
         else:
             # gcc takes away what stands there, and farm leaves it
-            expect(f"{what} at the output, which gcc doesn't write", not seen[1][0] and b".o: cannot be written: " in run.stderr, (seen, run.stderr))
+            expect(f"{what} at the output, which gcc doesn't write", not seen[1][0] and b".o: cannot be written: " in ran.stderr, (seen, ran.stderr))
 
 
 REMOVER = """#!/bin/sh
@@ -273,14 +236,13 @@ try:
     os.environ["TMPDIR"] = work
     make_folder(work)
     resident_sizes(work)
-    killed(work, 50)
+    killed_in_a_put(work, 50)
     two_at_once(work, 40)
-    limited(work)
-    full_disk(work)
+    large_above_a_limit(work)
+    large_on_a_small_disk(work)
     other_outputs(work)
     outputs_as_gcc(work)
     own_objects(work, int(os.environ.get("ROUNDS", "5")))
 finally:
     shutil.rmtree(work, ignore_errors=True)
-print(f"tests/delivery: {len(failures)} failed")
-sys.exit(1 if failures else 0)
+verdict("tests/delivery")

@@ -6,43 +6,18 @@ import sys
 import threading
 import time
 
+import wire
+
 PORT = int(sys.argv[1])
+GOOD = wire.request(wire.compile_words(b"gcc"), b"int a = 1;\n")
 
 
-def token(name, number):
-    return name + b"%08x" % number
+def exchange(text, **more):
+    return wire.exchange(PORT, text, **more)
 
 
-def request(compiler, source, *options, name=b"a.i"):
-    words = [compiler, *options, b"-c", name, b"-o", b"a.o"]
-    text = token(b"DIST", 1) + token(b"ARGC", len(words))
-    for word in words:
-        text += token(b"ARGV", len(word)) + word
-    return text + token(b"DOTI", len(source)) + source
-
-
-GOOD = request(b"gcc", b"int a = 1;\n")
-
-
-def dial(source="127.0.0.1"):
-    return socket.create_connection(("127.0.0.1", PORT), timeout=20, source_address=(source, 0))
-
-
-def read_all(link):
-    text = b""
-    while True:
-        piece = link.recv(65536)
-        if not piece:
-            return text
-        text += piece
-
-
-def exchange(text, half_close=False, source="127.0.0.1"):
-    with dial(source) as link:
-        link.sendall(text)
-        if half_close:
-            link.shutdown(socket.SHUT_WR)
-        return read_all(link)
+def asks(compiler, source, *options, name=b"a.i"):
+    return wire.request(wire.compile_words(compiler, *options, name=name), source)
 
 
 def is_answered(reply):
@@ -51,19 +26,19 @@ def is_answered(reply):
 
 def four():
     assert is_answered(exchange(GOOD))
-    assert b"unknown compiler cc\n" in exchange(request(b"cc", b""))
+    assert b"unknown compiler cc\n" in exchange(asks(b"cc", b""))
     assert exchange(b"", source="127.0.0.2") == b""
     assert exchange(b"DIST", half_close=True) == b""
 
 
 def all_kinds():
     # one that dies in the middle, by a reset
-    link = dial()
+    link = wire.dial(PORT)
     link.sendall(GOOD[:60])
     link.setsockopt(socket.SOL_SOCKET, socket.SO_LINGER, struct.pack("ii", 1, 0))
     link.close()
     # one that dies as soon as its request is sent
-    link = dial()
+    link = wire.dial(PORT)
     link.sendall(GOOD)
     link.setsockopt(socket.SOL_SOCKET, socket.SO_LINGER, struct.pack("ii", 1, 0))
     link.close()
@@ -71,7 +46,7 @@ def all_kinds():
     assert is_answered(exchange(GOOD, half_close=True)), "a client that half-closes"
     assert exchange(b"GET / HTTP/1.0\r\n\r\n") == b"", "another protocol"
     # one that says nothing holds one door and no other
-    idle = dial()
+    idle = wire.dial(PORT)
     for _ in range(12):
         assert is_answered(exchange(GOOD)), "beside an idle client"
     # more at once than there are doors
@@ -95,7 +70,7 @@ def own_objects(rounds):
 
         def ask(word, name, wait):
             time.sleep(wait)
-            answers[word] = exchange(request(b"shared", b"x", word, name=name))
+            answers[word] = exchange(asks(b"shared", b"x", word, name=name))
 
         asked = [(b"-fremoves-%d" % status, b"a.c", 0), (b"-fwrites", b"b.cc", 0.2)]
         threads = [threading.Thread(target=ask, args=each) for each in asked]
@@ -111,9 +86,9 @@ def own_objects(rounds):
 
 def served():
     assert is_answered(exchange(GOOD)), "a program by a path from farmd's folder"
-    assert exchange(request(b"gcc", b"int a;\n", b"-B@x\n")) == b"", "a word that isn't let through"
+    assert exchange(asks(b"gcc", b"int a;\n", b"-B@x\n")) == b"", "a word that isn't let through"
     assert is_answered(exchange(GOOD)), "a word that is let through, after another"
-    messages = exchange(request(b"gcc", b"int a = ;\n"))
+    messages = exchange(asks(b"gcc", b"int a = ;\n"))
     assert b"SERR" in messages and b"input.i:1:9: error" in messages and b"farm-" not in messages, messages
 
 

@@ -11,14 +11,13 @@ import signal
 import socket
 import struct
 import subprocess
-import sys
 import tempfile
 import threading
 import time
 
-from hosts import read_request, reply_head, start_host
+from farm import FARM, content, expect, leftovers, run_farm, start_farm, verdict, write
+from wire import read_request, reply_head, start_host
 
-FARM = os.environ["FARM"]
 PAGE = 4096
 SIZE = 16 * PAGE
 MIB = 1 << 20
@@ -31,29 +30,6 @@ COMPILER = """#!/bin/sh
 read -r size letter <"$2"
 head -c "$size" /dev/zero | tr '\\0' "$letter" >"$4"
 """
-failures = []
-
-
-def expect(name, holds, seen=""):
-    if not holds:
-        failures.append(name)
-        print(f"FAIL {name} {seen}")
-
-
-def write(path, text):
-    with open(path, "w") as file:
-        file.write(text)
-
-
-def content(path):
-    """The letter of a file that is whole, and its length; None where it is in part or of two letters."""
-    with open(path, "rb") as file:
-        data = file.read()
-    return (chr(data[0]), len(data)) if data and data == data[:1] * len(data) else None
-
-
-def leftovers(folder):
-    return [name for name in os.listdir(folder) if name.endswith(".farm~")]
 
 
 def object_of(source):
@@ -87,21 +63,7 @@ def reset_after(tenths):
     return serve
 
 
-# runs of farm
-
-def start_farm(folder, jobs, port, *words, **more):
-    streams = {"stdout": subprocess.PIPE, "stderr": subprocess.STDOUT, **more}
-    child = subprocess.Popen([FARM, "build", "--hosts", f"127.0.0.1:{port}/4", *words], cwd=folder, stdin=subprocess.PIPE, **streams)
-    child.stdin.write(jobs.encode())
-    child.stdin.close()
-    return child
-
-
-def run_farm(folder, jobs, port, *words, **more):
-    child = start_farm(folder, jobs, port, *words, **more)
-    text = child.stdout.read().decode() if child.stdout else ""
-    return child.wait(), text
-
+# jobs
 
 def job(output, source="x.i"):
     return f"./cc -c {source} -o {output}\n"
@@ -280,14 +242,63 @@ def killed_host(folder):
     expect("a host that is gone", seen == (103, line(port, "failed HOST dial")), seen)
 
 
+def mute_host(folder):
+    """A host whose system answers no dial: after 5 seconds the job is compiled here."""
+    door = socket.socket()
+    door.bind(("127.0.0.1", 0))
+    door.listen(0)
+    port = door.getsockname()[1]
+    # nobody accepts, so that the system lets further dials wait
+    waiting = [socket.socket() for _ in range(4)]
+    for link in waiting:
+        link.setblocking(False)
+        link.connect_ex(("127.0.0.1", port))
+    begun = time.monotonic()
+    seen = run_farm(folder, job("x.o"), port)
+    took = time.monotonic() - begun
+    expect("a host that answers no dial", seen == (0, line(port, "here stat 00000000")), seen)
+    expect("a host that answers no dial costs 5 seconds", 4.5 < took < 12, took)
+    for link in [*waiting, door]:
+        link.close()
+
+
+def silent_host(folder):
+    """A host that takes a request and says nothing: after 10 minutes the job is compiled here."""
+    if "SLOW" not in os.environ:
+        print("a host that is silent for 10 minutes: left out, since SLOW isn't set")
+        return
+
+    def silent(link):
+        read_request(link)
+        time.sleep(900)
+
+    port = start_host(silent)
+    begun = time.monotonic()
+    seen = run_farm(folder, job("x.o"), port)
+    took = time.monotonic() - begun
+    expect("a host that is silent", seen == (0, line(port, "here stat 00000000")), seen)
+    expect("a host that is silent costs 10 minutes", 595 < took < 640, took)
+
+
+def two_addresses(folder):
+    """A name of two addresses, of which one refuses: the other is dialed."""
+    write(f"{folder}/hosts", "127.0.0.3 twofold\n127.0.0.1 twofold\n")
+    program = f"mount --bind {folder}/hosts /etc/hosts && exec {FARM} build --hosts twofold:{PORT} --no-fallback"
+    run = subprocess.run(["unshare", "--mount", "sh", "-c", program], cwd=folder, input=job("x.o").encode(), capture_output=True, check=False)
+    if b"mount" in run.stderr or b"unshare" in run.stderr:
+        print("a name of two addresses: skipped, since nothing can be mounted here")
+        return
+    seen = (run.returncode, run.stdout.decode())
+    expect("a name of two addresses", seen == (0, f"1 remote twofold:{PORT} stat 00000000\ntotal 1 ok 1\n"), (seen, run.stderr))
+
+
 PORT = start_host(answer)
 work = tempfile.mkdtemp()
 try:
     os.environ["TMPDIR"] = work
     make_folder(work)
-    for check in (full_disk, limited, unwritable, unprinted, killed, resets, hangs, killed_host):
+    for check in (full_disk, limited, unwritable, unprinted, killed, resets, hangs, killed_host, mute_host, silent_host, two_addresses):
         check(work)
 finally:
     shutil.rmtree(work, ignore_errors=True)
-print(f"tests/faults: {len(failures)} failed")
-sys.exit(1 if failures else 0)
+verdict("tests/faults")

@@ -127,7 +127,7 @@ def refuse(name, words, end):
     print(f"{name}: {most} allocations, {sum(ends.values())} refused in {time.monotonic() - begun:.0f} s: {told}")
 
 
-for name in ("daemon", "one", "four"):
+for name in ("daemon", "one", "four", "graph"):
     refuse(name, [RUNS, name], judged)
 usual = run([FARM, "rehearse", "2"])
 if usual.returncode == 0:
