@@ -1,9 +1,11 @@
-"""Runs a program with its output thrown away, and prints its largest resident size in KiB: bench/peak.py PROGRAM WORD.. ."""
-import os
+"""Runs a command, and prints the largest resident size that it had itself, in KiB, its children left out: bench/peak.py COMMAND.."""
 import subprocess
 import sys
 
-child = subprocess.Popen(sys.argv[1:], stdout=subprocess.DEVNULL)
-_, status, used = os.wait4(child.pid, 0)
-print(used.ru_maxrss)
-sys.exit(1 if status else 0)
+from peaks import Peak
+
+run = subprocess.Popen(sys.argv[1:], stdin=sys.stdin, stdout=subprocess.DEVNULL)
+peak = Peak(run.pid)
+status = run.wait()
+print(peak.kib())
+sys.exit(status)
