@@ -28,7 +28,7 @@ use Rattle.edge_traits.specs.Told.{SameRelation, SameRelation3}
 use Rattle.farm_machine.specs.declared.reports.End.{End}
 use Rattle.farm_machine.specs.declared.reports.Report.{Report}
 use Rattle.farm_machine.specs.Acts.{Act, Entries, deeds_of}
-use Rattle.farm_machine.specs.Course.{Start, Course}
+use Rattle.farm_machine.specs.Course.{Course}
 use Rattle.farm_machine.specs.Driver.{AllWorked, WorkersRun}
 use Rattle.farm_machine.specs.Farm.{wanted, IsOf}
 use Rattle.farm_machine.specs.Jobs.{Job, AreLimitsOf}
@@ -40,14 +40,14 @@ use Rattle.worker_laws.proofs.Drivers.{asc-legal, asc-by}
 use Rattle.worker_laws.proofs.Reported.{workers-run}
 use Rattle.job_run.proofs.Lists.{moments-append}
 use Rattle.job_run.specs.Gives.{LeavesAlone}
-use Rattle.job_run.specs.Strict.{StrictCourse}
+use Rattle.job_run.specs.Courses.{IsJobCourse}
 use Rattle.farm_machine.specs.Usable.{job_at}
 use Rattle.job_driver.specs.Works.{untimed_job, all_acts, AreReportsOf, WorkedOff, AreCaused, CountsGoOn}
 use Rattle.course_laws.proofs.Puts.{puts-last}
 use Rattle.course_laws.proofs.Staying.{stays-here}
 use Rattle.farm_machine.specs.Devices.{Devices}
 use Rattle.job_driver.specs.Driven.{reports_by, events_of, acts_by, CountsOf, AreWithinLimits, KitDid, JobsRan}
-use Rattle.job_run.proofs.Asking.{is-course}
+use Rattle.job_run.proofs.Tabled.{is-walked}
 use Rattle.job_driver.proofs.Countings.{no_entries, entries-added, acts-read, counts-read}
 use Rattle.job_driver.proofs.Working.{numbers_of}
 use Rattle.job_driver.proofs.Drawing.{drawn-append}
@@ -69,10 +69,10 @@ pub record Stays {K : Type 0} (d : Devices K) (old new : K) : Type 0 where
   pub peers : SameRelation (d.peers old) (d.peers new)
   pub programs : SameRelation3 (d.programs old) (d.programs new)
 
-each-untimed : (jobs : ℕ → Job) (done : List DoneJob) → Each (λ job. StrictCourse (jobs job.number) (untimed job.acts) job.end) done
+each-untimed : (jobs : ℕ → Job) (done : List DoneJob) → Each (λ job. IsJobCourse (jobs job.number) (untimed job.acts) job.end) done
     → Each (λ job. Course (jobs job.number) job.acts job.end) (map untimed_job done)
 each-untimed jobs [] each = tt
-each-untimed jobs (job ∷ done) each = (is-course (jobs job.number) (untimed job.acts) Start job.end each.0, each-untimed jobs done each.1)
+each-untimed jobs (job ∷ done) each = (is-walked (jobs job.number) (untimed job.acts) job.end each.0, each-untimed jobs done each.1)
 
 limits-of-jobs : (l : Limits 16) (words : List (List (List ℕ))) (config : JobConfig) → AreLimitsOf l config.hosts → IsOf l (job_at words config)
 limits-of-jobs l words config of = record { count = λ j below. sym of.count; local = λ j host below inside. sym (of.local host inside) }
@@ -155,7 +155,7 @@ module _ {K : Type 0} (d : Devices K) (l : Limits 16) (words : List (List (List 
   pub run : WorkersRun l jobs n (λ i. map untimed_job (done i)) H
   run = workers-run 16 l jobs n (λ i. map untimed_job (done i)) H (limits-of-jobs l words config of) legal all-worked
       (λ i below. let f = facts i below in each-untimed jobs (done i)
-      (subst (λ (ds : List DoneJob). Each (λ job. StrictCourse (jobs job.number) (untimed job.acts) job.end) ds) f.1 f.0.works.strict))
+      (subst (λ (ds : List DoneJob). Each (λ job. IsJobCourse (jobs job.number) (untimed job.acts) job.end) ds) f.1 f.0.works.courses))
 
   -- after legal calls no host has more slots given out than its limit
   within : (front : List CallEntry) → IsLegal l front → AreWithinLimits l (outstanding front)
@@ -275,11 +275,13 @@ module _ {K : Type 0} (d : Devices K) (l : Limits 16) (words : List (List (List 
         by-reports : (i : ℕ) (rs : List Report) → All (λ r. (run.reports.worker r.number ≡ i) × Q i r.number (run.reports.acts r.number) (run.reports.ends r.number)) rs → All (λ r. Q (run.reports.worker r.number) r.number (run.reports.acts r.number) (run.reports.ends r.number)) rs
         by-reports i rs own at x inside = let one = own at x inside in subst (λ (k : ℕ). Q k (get_or rs at x).number (run.reports.acts (get_or rs at x).number) (run.reports.ends (get_or rs at x).number)) (sym one.0) one.1
 
-    strict-each : (j : ℕ) → j < l.jobs → StrictCourse (jobs j) (run.reports.acts j) (run.reports.ends j)
-    strict-each j below = told-each (λ i k acts end. StrictCourse (jobs k) acts end) theirs j below
+    courses-each : (j : ℕ) → j < l.jobs → IsJobCourse (jobs j) (run.reports.acts j) (run.reports.ends j)
+    courses-each j below = told-each (λ i k acts end. IsJobCourse (jobs k) acts end) theirs j below
       where
-        theirs : (i : ℕ) → i < n → Each (λ job. StrictCourse (jobs job.number) (untimed job.acts) job.end) (done i)
-        theirs i inside = let f = facts i inside in subst (λ (ds : List DoneJob). Each (λ job. StrictCourse (jobs job.number) (untimed job.acts) job.end) ds) f.1 f.0.works.strict
+        theirs : (i : ℕ) → i < n → Each (λ job. IsJobCourse (jobs job.number) (untimed job.acts) job.end) (done i)
+        theirs i inside =
+            let f = facts i inside in
+            subst (λ (ds : List DoneJob). Each (λ job. IsJobCourse (jobs job.number) (untimed job.acts) job.end) ds) f.1 f.0.works.courses
 
     pub ran-all : (last : SlotState 16) (old new : List K) → last ≡ state_after l H
         → ((i : ℕ) (other : K) → i < n → (get_or old i other ≡ V i) × (get_or new i other ≡ N i))
@@ -293,7 +295,7 @@ module _ {K : Type 0} (d : Devices K) (l : Limits 16) (words : List (List (List 
           read = run.reports;
           are_read = are-read;
           by_workers = run.workers;
-          strict = strict-each;
+          courses = courses-each;
           agrees = run.agrees;
           run = run.run;
           delivered = λ j before rest x below is.

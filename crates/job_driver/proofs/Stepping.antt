@@ -15,7 +15,6 @@ use Rattle.edge_traits.proofs.DeedLemmas.{DidIn-join, DidIn-nothing}
 use Rattle.farm_machine.specs.declared.reports.Places.{Places}
 use Rattle.farm_machine.specs.declared.reports.Report.{Report}
 use Rattle.farm_machine.specs.Acts.{SlotEvent, Act, Did, Met, slots_of, deeds_of}
-use Rattle.farm_machine.specs.Course.{Start}
 use Rattle.farm_machine.specs.Farm.{wanted}
 use Rattle.farm_machine.specs.Honest.{Peers, Programs, AllRan}
 use Rattle.farm_machine.specs.Jobs.{Job, job_of}
@@ -27,11 +26,11 @@ use Rattle.farm_machine.specs.Numbered.{numbered, advanced, no_places, untimed}
 use Rattle.farm_machine.specs.Own.{DoneJob, Serves, DoesJobs}
 use Rattle.course_laws.proofs.Lengths.{short}
 use Rattle.job_run.specs.Gives.{LeavesAlone}
-use Rattle.job_run.specs.Strict.{StrictCourse}
+use Rattle.job_run.specs.Courses.{IsJobCourse}
 use Rattle.job_run.specs.JobRuns.{JobRan, AreSmall}
 use Rattle.job_run.proofs.Composing.{later-then}
 use Rattle.job_run.proofs.Lists.{slots-untimed, deeds-append, advanced-append, ran-append, ran-along, may-append, may-along, moments-append, exchanges-append, moments_in-append, leaves-append}
-use Rattle.job_run.proofs.Asking.{is-course}
+use Rattle.job_run.proofs.Tabled.{is-walked}
 use Rattle.job_run.proofs.Outstanding.{outstanding-more}
 use Rattle.job_driver.specs.Works.{untimed_job, all_acts, AreReportsOf, AreCaused, CountsTell, Works}
 use Rattle.job_driver.proofs.Working.{WorksTo, AreCounted, numbers_of, acts-more, each-more, reports-more, does-more, caused-more}
@@ -83,7 +82,8 @@ pub counted-more : {h : ℕ} {peers : Peers} {programs : Programs} {j : Job} {l 
     → rs' ≡ rs ++ r ∷ [] → 1 ≤ j.config.tries → j.config.tries ≤ 16 → AreCounted at rs
     → JobRan peers programs j l w job at next r.events r.end calls calls' a b → AreCounted next rs'
 counted-more {j = j} {at = at} {next = next} {rs = rs} r is some tries all did =
-    let long : length (untimed did.acts) ≤ 3 * j.config.tries + 5 = short j (untimed did.acts) r.end some (is-course j (untimed did.acts) Start r.end did.strict) in
+    let long : length (untimed did.acts) ≤ 3 * j.config.tries + 5 =
+    short j (untimed did.acts) r.end some (is-walked j (untimed did.acts) r.end did.course) in
     subst (AreCounted next) (sym is)
     (counted-grown at next rs r (length (untimed did.acts)) (subst (λ (p : Places). Grows at p (length (untimed did.acts))) (sym did.grown) (grows at did.acts)) (omega (arith, long, tries)) all)
 
@@ -106,7 +106,7 @@ works-none {period = period} {w = w} {a = a} none blank = record {
   works = record {
     done = [];
     reported = subst (λ (z : List Report). AreReportsOf w no_places [] z) (sym none) tt;
-    strict = tt;
+    courses = tt;
     does = blank;
     did = DidIn-nothing a;
     moments = subst (λ (z : List CallEntry). AreMoments period z []) (sym blank) refl;
@@ -154,7 +154,8 @@ works-more {h} {peers = peers} {peers' = peers'} {programs = programs} {programs
         reported = subst (λ (z : List Report). AreReportsOf w no_places (done ++ new ∷ []) z) (sym is)
             (reports-more w done no_places rs new r works.reported
             (record { number = number; worker = worker ∙ same_w; events = did.named ∙ ap (λ (p : Places). numbered p did.acts) so_far.places_are; end = refl }));
-        strict = each-more (λ k. StrictCourse (jobs k.number) (untimed k.acts) k.end) done new works.strict (subst (λ (k : Job). StrictCourse k (untimed did.acts) r.end) is_job did.strict);
+        courses = each-more (λ k. IsJobCourse (jobs k.number) (untimed k.acts) k.end) done new works.courses
+            (subst (λ (k : Job). IsJobCourse k (untimed did.acts) r.end) is_job did.course);
         does = subst (λ (ds : List DoneJob). DoesJobs (wanted l) w ds calls') (sym (map-append untimed_job done (new ∷ [])))
             (subst (λ (zs : List CallEntry). DoesJobs (wanted l) w (map untimed_job done ++ untimed_job new ∷ []) zs) (sym all)
             (does-more (wanted l) w (map untimed_job done) calls did.calls (untimed_job new) works.does

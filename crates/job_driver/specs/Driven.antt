@@ -29,7 +29,7 @@ use Rattle.farm_machine.specs.Weave.{Reports, Agrees, weave}
 use Rattle.course_laws.specs.Laws.{PutsLast}
 pub use Rattle.course_laws.specs.Returns.{IsCalm, is_done_or_wanted}
 use Rattle.job_run.specs.Gives.{LeavesAlone}
-use Rattle.job_run.specs.Strict.{StrictCourse}
+use Rattle.job_run.specs.Courses.{IsJobCourse}
 use Rattle.job_driver.specs.Works.{AreCaused, CountsTell}
 
 -- the reports of one worker, in the order of the jobs
@@ -97,7 +97,7 @@ pub record JobsRan {K : Type 0} (d : Devices K) (l : Limits 16) (jobs : ℕ → 
   pub read : Reports
   pub are_read : AreRead l entries reports read
   pub by_workers : (j : ℕ) → j < l.jobs → read.worker j < workers
-  pub strict : (j : ℕ) → j < l.jobs → StrictCourse (jobs j) (read.acts j) (read.ends j)
+  pub courses : (j : ℕ) → j < l.jobs → IsJobCourse (jobs j) (read.acts j) (read.ends j)
   -- Each put is of the object of a compile of status 0 before it: a host's whole reply to the job's own request, or a run here of its own words on its
   -- own source. It is the job's last act.
   pub delivered : (j : ℕ) (before rest : List Act) (x : Put) → j < l.jobs → read.acts j ≡ before ++ Did (put x) ∷ rest → PutsLast (jobs j) before x rest (read.ends j)

@@ -24,7 +24,7 @@ use Rattle.farm_machine.specs.Numbered.{numbered, advanced, no_places, untimed}
 use Rattle.farm_machine.specs.Own.{DoneJob, Each, DoesJobs}
 use Rattle.job_run.specs.Gives.{LeavesAlone}
 use Rattle.job_run.specs.Stands.{KeeperStands, FetchEnds}
-use Rattle.job_run.specs.Strict.{StrictCourse}
+use Rattle.job_run.specs.Courses.{IsJobCourse}
 
 -- a job without its looks at the clock, which are no acts of a course
 abbrev pub untimed_job : DoneJob → DoneJob
@@ -111,7 +111,7 @@ CountsGoOn jobs (job ∷ done) old new = (mid : KitView) × CountsTell (jobs job
 pub record Works {h : ℕ} (peers : Peers) (programs : Programs) (jobs : ℕ → Job) (period : ℕ) (l : Limits h) (worker : ℕ) (reports : List Report) (calls : List CallEntry) (old new : KitView) : Type 0 where
   pub done : List DoneJob
   pub reported : AreReportsOf worker no_places done reports
-  pub strict : Each (λ job. StrictCourse (jobs job.number) (untimed job.acts) job.end) done
+  pub courses : Each (λ job. IsJobCourse (jobs job.number) (untimed job.acts) job.end) done
   pub does : DoesJobs (wanted l) worker (map untimed_job done) calls
   pub did : DidIn old new (deeds_of (all_acts done))
   pub moments : AreMoments period calls (moments_in (deeds_of (all_acts done)))

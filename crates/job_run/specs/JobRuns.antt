@@ -10,7 +10,6 @@ use Rattle.farm_machine.specs.declared.reports.End.{End}
 use Rattle.farm_machine.specs.declared.reports.Places.{Places}
 use Rattle.farm_machine.specs.Acts.{Act, slots_of, deeds_of}
 use Rattle.farm_machine.specs.Causes.{HasEndCause, StationStands, KitLater}
-use Rattle.farm_machine.specs.TableCourse.{IsOfTable}
 use Rattle.farm_machine.specs.Farm.{wanted}
 use Rattle.farm_machine.specs.Honest.{Peers, Programs, AllRan}
 use Rattle.farm_machine.specs.Jobs.{Job, source_name}
@@ -20,7 +19,7 @@ use Rattle.farm_machine.specs.Own.{Serves}
 use Rattle.course_laws.specs.Answers.{AnswersBy}
 use Rattle.course_laws.specs.Returns.{IsCalm, is_done_or_wanted, NoneBroke}
 use Rattle.job_run.specs.Gives.{LeavesAlone}
-use Rattle.job_run.specs.Strict.{StrictCourse}
+use Rattle.job_run.specs.Courses.{IsJobCourse}
 use Rattle.job_run.specs.Stands.{KeeperStands, FetchEnds}
 
 -- no call was answered that all hosts are down
@@ -37,8 +36,7 @@ pub record JobRan {h : ℕ} (peers : Peers) (programs : Programs) (j : Job) (l :
   pub grown : next ≡ advanced at acts
   -- Without looks at the clock it is a course of the table with this end, in which each run and each fetch is within its bounds, and want
   -- of memory stands in place of no host's answer where something went wrong with the exchange.
-  pub course : IsOfTable j (untimed acts) end
-  pub strict : StrictCourse j (untimed acts) end
+  pub course : IsJobCourse j (untimed acts) end
   -- Its slot events are the new calls on the slots, with the refused takes before each, and the moments that these calls name are those
   -- that the clock gave. With a period a host is left alone after each exchange with which something went wrong, also where the job then
   -- ends for want of memory.
