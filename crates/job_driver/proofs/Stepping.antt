@@ -208,6 +208,13 @@ job-found {ys = ys} {x = x} place config same is below =
     let e : x ≡ get_or ys place x = is ∙ ap (λ (zs : List (List (List ℕ))). get_or zs place x) same in
     ap (λ (words : List (List ℕ)). job_of words config) (get_or_read ys place x below e [])
 
+-- it has a word, as all have
+pub word-found : {xs ys : List (List (List ℕ))} {x : List (List ℕ)} (place : ℕ) → xs ≡ ys → x ≡ get_or xs place x → place < length ys
+    → All (λ words. 0 < length words) ys → 0 < length x
+word-found {x = x} place same is below all =
+    subst (λ (words : List (List ℕ)). 0 < length words) (sym (is ∙ ap (λ (zs : List (List (List ℕ))). get_or zs place x) same))
+    (all place x below)
+
 pub drawn-as : {w w' job : ℕ} {o : Option ℕ} {es' : List CallEntry} (es : List CallEntry) → w ≡ w' → o ≡ Some job → es' ≡ es ++ entry w Draw (Drawn o) ∷ [] → es' ≡ es ++ entry w' Draw (Drawn (Some job)) ∷ []
 drawn-as {w' = w'} {o = o} es same is more = more ∙ ap (λ (k : ℕ). es ++ entry k Draw (Drawn o) ∷ []) same ∙ ap (λ (p : Option ℕ). es ++ entry w' Draw (Drawn p) ∷ []) is
 

@@ -5,7 +5,7 @@ use Rattle.farm_machine.specs.Jobs.{AreLimitsOf}
 use Rattle.job_run.proofs.Leaves.{same_peers, same_programs}
 use Rattle.job_driver.proofs.Working.{numbers_of, AreFew}
 use Rattle.job_driver.proofs.Drawing.{few-more, within-more, few-none, within-none}
-use Rattle.job_driver.proofs.Stepping.{works-none, works-more, counted-none, counted-more, drawn-back, report-later, relation-then, relation3-then, job-found, drawn-as, spare-enough, spare-more}
+use Rattle.job_driver.proofs.Stepping.{works-none, works-more, small-places, counted-none, counted-more, drawn-back, report-later, relation-then, relation3-then, job-found, word-found, drawn-as, spare-enough, spare-more}
 use Rattle.job_driver.proofs.Marking.{marked-none, marked-more}
 use Rattle.job_driver.proofs.worker.work.Goals as goal
 
@@ -39,23 +39,37 @@ unreachable-requires g c =
     let none : length c.working.rooms.items ≡ 0 = grind (arith, common_steps, c.in_default-pop.ensures.items) in
     omega (arith, few, below, rooms, none)
 
-pub run_job-report-requires-clause-spare : goal.run_job-report-requires-clause-spare
-run_job-report-requires-clause-spare g c =
+pub run_job-report-requires-clause-job : goal.run_job-report-requires-clause-job
+run_job-report-requires-clause-job g c =
+    let i = c.working.invariant in
+    let drawn = g.met.G.Grants.follows_on _ _ _ i.follows c.in-Some-draw.ensures.follows in
+    let below : c.in-Some-draw.job < length c.args.jobs.now =
+    subst (λ (k : ℕ). c.in-Some-draw.job < k) (ap (λ l. l.jobs) (g.met.G.Grants.limits_stay _ _ i.follows) ∙ c.requires.number)
+    c.in-Some-draw.ensures.job in
+    record {
+      word = word-found c.in-Some-draw.job c.as_slice.ensures c.index-as_slice-job.is below c.requires.jobs.words;
+      askable = record { entries = c.requires.entries; some = c.requires.some; tries = c.requires.tries };
+      hosts = subst (λ l. AreLimitsOf l c.args.config.now.hosts) (sym (g.met.G.Grants.limits_stay _ _ drawn)) c.requires.hosts;
+    }
+
+pub run_job-report-requires-clause-begins : goal.run_job-report-requires-clause-begins
+run_job-report-requires-clause-begins g c =
     let i = c.working.invariant in
     let few = i.few c.in-Some-draw.job (report-later c.in-Some-draw.job i.works c.in-Some-draw.ensures.later) in
-    let below : c.in-Some-draw.job < length c.args.jobs.now = subst (λ (k : ℕ). c.in-Some-draw.job < k) (ap (λ l. l.jobs) (g.met.G.Grants.limits_stay _ _ i.follows) ∙ c.requires.number) c.in-Some-draw.ensures.job in
-    spare-enough _ (length c.args.jobs.now) (length c.working.reports.items) _ _ (omega (arith, few, below)) i.spare c.in-Some-draw.ensures.spare
-
-pub run_job-report-requires-clause-hosts : goal.run_job-report-requires-clause-hosts
-run_job-report-requires-clause-hosts g c =
-    let drawn = g.met.G.Grants.follows_on _ _ _ c.working.invariant.follows c.in-Some-draw.ensures.follows in
-    subst (λ l. AreLimitsOf l c.args.config.now.hosts) (sym (g.met.G.Grants.limits_stay _ _ drawn)) c.requires.hosts
+    let below : c.in-Some-draw.job < length c.args.jobs.now =
+    subst (λ (k : ℕ). c.in-Some-draw.job < k) (ap (λ l. l.jobs) (g.met.G.Grants.limits_stay _ _ i.follows) ∙ c.requires.number)
+    c.in-Some-draw.ensures.job in
+    record {
+      ready = c.in-Some-draw.ensures.ready;
+      spare = spare-enough _ (length c.args.jobs.now) (length c.working.reports.items) _ _ (omega (arith, few, below)) i.spare
+          c.in-Some-draw.ensures.spare;
+      none = drawn-back _ c.draw.result _ _ c.draw.ensures.mine i.back;
+      places = small-places _ c.working.reports.items (let most = c.requires.jobs.most in omega (arith, few, below, most)) i.counted;
+      pending = i.pending;
+    }
 
 pub returns-in_default-clause-follows : goal.returns-in_default-clause-follows
 returns-in_default-clause-follows g c = g.met.G.Grants.follows_on _ _ _ c.working.invariant.follows c.draw.ensures.follows
-
-pub run_job-report-requires-clause-none : goal.run_job-report-requires-clause-none
-run_job-report-requires-clause-none g c = drawn-back _ c.draw.result _ _ c.draw.ensures.mine c.working.invariant.back
 
 pub working-preserved : goal.working-preserved
 working-preserved g c =
@@ -74,11 +88,11 @@ working-preserved g c =
       counted = counted-more c.run_job-report.result c.in-Ok.ensures.items c.requires.some c.requires.tries i.counted w.ran;
       rooms = grind (arith, common_steps, c.in-Some-pop.ensures.items, c.in-Ok.ensures.items, i.rooms);
       room = let r = i.room in let k = c.push.ensures.capacity in omega (arith, r, k);
-      spare = spare-more _ (length c.args.jobs.now) (length c.working.reports.items) _ _ _ _ (grind (arith, common_steps, c.in-Ok.ensures.items)) i.spare d.spare w.spare;
-      pending = w.pending;
-      back = w.none;
-      ready = w.ready;
-      follows = g.met.G.Grants.follows_on _ _ _ drawn w.follows;
+      spare = spare-more _ (length c.args.jobs.now) (length c.working.reports.items) _ _ _ _ (grind (arith, common_steps, c.in-Ok.ensures.items)) i.spare d.spare w.returned.spare;
+      pending = w.returned.pending;
+      back = w.returned.none;
+      ready = w.returned.ready;
+      follows = g.met.G.Grants.follows_on _ _ _ drawn w.returned.follows;
       marked = marked-more g.M.Marks.board g.M.Marks.all g.M.Marks.rows _ _ _ _ _ _ _ job i.marked
           c.begin.ensures.board c.begin.ensures.added c.end.ensures.board c.end.ensures.added c.in-Ok.ensures.items w.number;
       peers = relation-then i.peers w.peers;

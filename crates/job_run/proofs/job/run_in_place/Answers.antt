@@ -23,7 +23,7 @@ returns-in-Ok-clause-free g c =
     record {
       ready = gave.ready;
       none = gave-local _ _ _ slot.out (local-given _ refl slot.job gave.mine);
-      spent = spent-two _ (omega (arith, e, f, h)) slot.spare gave.spare;
+      spent = spent-two _ (omega (arith, e, f, h)) slot.waited.spare gave.spare;
       room = omega (arith, e, f, h);
     }
 
@@ -36,14 +36,14 @@ returns-in-Err-clause-free g c =
     record {
       ready = gave.ready;
       none = gave-local _ _ _ slot.out (local-given _ refl slot.job gave.mine);
-      spent = spent-two _ (omega (arith, e, f)) slot.spare gave.spare;
+      spent = spent-two _ (omega (arith, e, f)) slot.waited.spare gave.spare;
       room = omega (arith, e, f);
     }
 
 pub returns-in-Ok-clause-ended : goal.returns-in-Ok-clause-ended
 returns-in-Ok-clause-ended g c = λ config stays.
     let slot = c.borrow_local-grant.ensures in
-    let caller = g.met.G.Grants.caller_stays _ _ slot.follows in
+    let caller = g.met.G.Grants.caller_stays _ _ slot.waited.follows in
     let run = c.in-Ok.ensures in
     let end = c.done_in_place.ensures in
     let x : Run = record { words = texts c.args.words.now; input = []; ran = c.in-Ok.ran } in
@@ -66,7 +66,7 @@ returns-in-Ok-clause-ended g c = λ config stays.
 pub returns-in-Err-clause-ended : goal.returns-in-Err-clause-ended
 returns-in-Err-clause-ended g c = λ config stays.
     let slot = c.borrow_local-grant.ensures in
-    let caller = g.met.G.Grants.caller_stays _ _ slot.follows in
+    let caller = g.met.G.Grants.caller_stays _ _ slot.waited.follows in
     let run = c.in-Err.ensures in
     let why = c.why_not_run.result in
     let is = c.why_not_run.ensures in
