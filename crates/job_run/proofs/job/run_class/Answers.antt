@@ -32,6 +32,8 @@ returns-in-Memory-clause-ended g c = record {
 pub returns-in-Empty-clause-ended : goal.returns-in-Empty-clause-ended
 returns-in-Empty-clause-ended g c = c.run_in_place.ensures.ended c.args.command.now.config.now
     (elim c.in-Empty.is [
-      | inl is ↦ class_stays c.args.command.now.words.now c.scan.result c.args.command.now.config.now (c.scan.ensures.class (λ h. cc)) (ap is_sent is)
-      | inr is ↦ class_stays c.args.command.now.words.now c.scan.result c.args.command.now.config.now (c.scan.ensures.class (λ h. cc)) (ap is_sent is.2)
+      | inl is ↦ class_stays c.args.command.now.words.now c.scan.result c.args.command.now.config.now (c.scan.ensures.class (λ h. cc))
+          (ap is_sent is)
+      | inr is ↦ class_stays c.args.command.now.words.now c.scan.result c.args.command.now.config.now (c.scan.ensures.class (λ h. cc))
+          (ap is_sent is.2)
     ])

@@ -58,7 +58,8 @@ returns-clause-returned g c = let free = c.run_class-end.ensures.free in record 
   ready = free.ready;
   follows = c.run_class-end.ensures.follows;
   none = free.none;
-  spare = spare-last _ _ _ _ (subst (λ (n : ℕ). Spent g.G.Grants.alone n (g.G.Grants.spare c.args.grants.now) c.run_class-end.new.journal.left
+  spare = spare-last _ _ _ _ (subst (λ (n : ℕ). Spent g.G.Grants.alone n
+      (g.G.Grants.spare c.args.grants.now) c.run_class-end.new.journal.left
       (g.G.Grants.spare c.run_class-end.new.grants)) c.open-journal.ensures.left free.spent);
   pending = c.run_class-end.ensures.idle;
 }
