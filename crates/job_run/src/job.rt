@@ -1,6 +1,7 @@
 //! The course of one job.
-ghost use Rattle.std.specs.Prelude.{◌≡◌, ℕ, ◌<◌, false, List, [], length, OnErr};
+ghost use Rattle.std.specs.Prelude.{◌≡◌, ℕ, ◌<◌, false, List, [], length, IfOk, OnErr};
 ghost use Rattle.farm_types.specs.declared.jobs.JobConfig.{JobConfig};
+ghost use Rattle.arg_strip.specs.Words.{stripped};
 ghost use Rattle.edge_traits.specs.Keepers.{IsIdle};
 ghost use Rattle.edge_traits.specs.Kits.{kit_view};
 ghost use Rattle.edge_traits.specs.Told.{SameRelation, SameRelation3};
@@ -23,13 +24,13 @@ use crate::step::{Step, done_in_place, why_not_run};
 use crate::task::{Command, Task};
 use crate::waiting::borrow_local;
 use arg_scan::{Scan, scan};
-use arg_strip::strip;
+use arg_strip::strip_to;
 use child_runner::in_place;
 use edge_traits::{Clock, Dialer, Keeper, Kit, Station};
 use farm_machine::{By, End, Event, EventList, Places, Report, Why5};
 use farm_types::{Bytes, JobConfig, Outcome, Request, Words};
 use slot_table::Grants;
-use std::alloc::Global;
+use std::alloc::{AllocError, Global};
 use std::sync::Wait;
 
 /// Runs a command that stays here, in a local slot.
@@ -71,6 +72,13 @@ fn run_in_place<R: Wait, D: Dialer, S: Station, K: Keeper, C: Clock, G: Grants>(
     }
 }
 
+/// The words that are sent for the job, whose output is named already.
+fn words_to_send(task: &Task<'_>) -> Result<Words, AllocError>
+    ensures { IfOk result (λ sent. sent ≡ stripped task.now.words.now) }
+{
+    strip_to(task.alloc, task.words, task.output.copy()?)
+}
+
 /// Compiles a source elsewhere, or here.
 fn compile_source<R: Wait, D: Dialer, S: Station, K: Keeper, C: Clock, G: Grants>(
     rt: &R,
@@ -91,7 +99,7 @@ fn compile_source<R: Wait, D: Dialer, S: Station, K: Keeper, C: Clock, G: Grants
         (seen (devices D.shows S.shows K.shows C.shows D.may_give S.ran) kit.new (G.mine grants.new) journal.new)
         (Send source note []) note result }
 {
-    let Ok(sent) = strip(task.alloc, task.words) else {
+    let Ok(sent) = words_to_send(task) else {
         return Err(Why5::Memory);
     };
     let request = Request {
