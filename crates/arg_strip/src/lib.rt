@@ -8,4 +8,4 @@ mod sent;
 
 pub use cpp::cpp_words;
 pub use placing::placed;
-pub use sent::{is_remote, strip};
+pub use sent::{is_remote, strip, strip_to};

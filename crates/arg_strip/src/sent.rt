@@ -3,7 +3,7 @@
 ghost use Rattle.std.specs.Prelude.{◌≡◌, ◌↔◌, ◌++◌, ◌∷◌, [], length, IfOk, IsTrue};
 ghost use Rattle.arg_scan.specs.Roles.{part_at, word_at};
 ghost use Rattle.arg_scan.specs.Class.{IsRemote};
-ghost use Rattle.arg_strip.specs.Words.{AsksTheSame, gather, placed_words, is_sent, sent_word, stripped};
+ghost use Rattle.arg_strip.specs.Words.{AsksTheSame, gather, placed_words, is_sent, output_of, sent_word, stripped};
 
 use crate::push::push_some;
 use arg_scan::{Part, Role, Verdict, classify, output_name, part_of, remote_plan};
@@ -33,9 +33,19 @@ pub fn strip(alloc: Global, words: &Words) -> Result<Words, AllocError>
     ensures placed { IfOk result (λ sent. placed_words sent ≡ placed_words words.now) }
 {
     let plan = remote_plan(words);
+    let output = output_name(alloc, words, &plan)?;
+    strip_to(alloc, words, output)
+}
+
+/// The same, for a caller that has the name of the output, as `scan` gives it. The command isn't classified again.
+pub fn strip_to(alloc: Global, words: &Words, output: Bytes) -> Result<Words, AllocError>
+    requires remote { IsRemote words.now }
+    requires output { output ≡ output_of words.now }
+    ensures { IfOk result (λ sent. sent ≡ stripped words.now) }
+{
     let mut sent = sent_words(alloc, words.as_slice())?;
     sent.try_push(Bytes::from_slice(alloc, b"-o")?)?;
-    sent.try_push(output_name(alloc, words, &plan)?)?;
+    sent.try_push(output)?;
     Ok(sent)
 }
 

@@ -12,7 +12,7 @@ use Rattle.edge_traits.specs.Kits.{KitView}
 use Rattle.farm_machine.specs.declared.reports.End.{End}
 use Rattle.farm_machine.specs.declared.reports.Report.{Report}
 use Rattle.farm_machine.specs.Acts.{Act, Did}
-use Rattle.farm_machine.specs.Course.{Start, Course}
+use Rattle.farm_machine.specs.Course.{Course}
 use Rattle.farm_machine.specs.Honest.{Peers, Programs, AllRan}
 use Rattle.farm_machine.specs.Jobs.{Job}
 use Rattle.farm_machine.specs.Reading.{IsReadAs}
@@ -22,11 +22,10 @@ use Rattle.course_laws.specs.Returns.{IsCalm, is_done_or_wanted, NoneBroke, IsUn
 use Rattle.course_laws.proofs.Compilers.{put-answer, end-answer}
 use Rattle.course_laws.proofs.Fallbacks.{own as never-by-host}
 use Rattle.course_laws.proofs.Given.{given-front, ran-front, given-untimed, ran-untimed}
-use Rattle.course_laws.proofs.InTable.{in-table}
 use Rattle.course_laws.proofs.Unbroken.{unbroken-law}
 use Rattle.farm_laws.proofs.Draws.{next-all}
 use Rattle.farm_laws.proofs.Up.{up-law}
-use Rattle.job_run.proofs.Asking.{is-course}
+use Rattle.job_run.proofs.Tabled.{is-of-table, is-walked}
 use Rattle.farm_machine.specs.Devices.{Devices}
 use Rattle.job_driver.specs.Driven.{reports_by, KitDid, JobsRan}
 use Rattle.job_driver.specs.Means.{HasAnswers, RunMeans, RunMeansLaw}
@@ -76,7 +75,7 @@ module _ {K : Type 0} (d : Devices K) (l : Limits 16) (jobs : ℕ → Job) (peri
   kit j other below = ran.kits (worker j) other (ran.by_workers j below)
 
   course : (j : ℕ) → j < l.jobs → Course (jobs j) (acts j) (end j)
-  course j below = is-course (jobs j) (acts j) Start (end j) (ran.strict j below)
+  course j below = is-walked (jobs j) (acts j) (end j) (ran.courses j below)
 
   gave : (j : ℕ) (other : K) → j < l.jobs → IsTrue (d.shows (after_kit j other)).dialer.exchanges.known
       → AllGiven (peers j other) (acts j)
@@ -144,7 +143,7 @@ module _ {K : Type 0} (d : Devices K) (l : Limits 16) (jobs : ℕ → Job) (peri
   pub meaning : RunMeans d l jobs workers reports ran.read last old new
   meaning = record {
     courses = course;
-    of_table = λ j below. in-table (jobs j) (acts j) (end j) (course j below);
+    of_table = λ j below. is-of-table (jobs j) (acts j) (end j) (ran.courses j below);
     all_drawn = ap (λ (s : SlotState 16). s.next) ran.last_is ∙ next-all l history ran.agrees.legal ran.agrees.drawn;
     none_held = λ host below.
         ap (λ (s : SlotState 16). slice_index s.held host) ran.last_is ∙ agree.held host below ∙ ap (count_at (Some host)) ran.back;

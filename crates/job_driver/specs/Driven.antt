@@ -1,5 +1,6 @@
 -- What all workers did: reports that, with the history of the slots, are a run of the farm.
-use Rattle.std.specs.Prelude.{◌≡◌, ℕ, ◌<◌, ◌≤◌, false, IsTrue, List, [], ◌∷◌, ◌++◌, length, filter, nat_eq, slice_index, slice_index_or, Some, None}
+use Rattle.std.specs.Prelude.{◌≡◌, ℕ, ◌<◌, ◌≤◌, false, IsTrue, List, [], ◌∷◌, ◌++◌, length, filter, nat_eq, slice_index, slice_index_or}
+use Rattle.std.specs.Prelude.{Some, None}
 use Rattle.std.specs.List.{flat_map}
 use Rattle.slot_table.specs.declared.limits.Limits.{Limits}
 use Rattle.slot_table.specs.declared.state.SlotState.{SlotState}
@@ -29,7 +30,7 @@ use Rattle.farm_machine.specs.Weave.{Reports, Agrees, weave}
 use Rattle.course_laws.specs.Laws.{PutsLast}
 pub use Rattle.course_laws.specs.Returns.{IsCalm, is_done_or_wanted}
 use Rattle.job_run.specs.Gives.{LeavesAlone}
-use Rattle.job_run.specs.Strict.{StrictCourse}
+use Rattle.job_run.specs.Courses.{IsJobCourse}
 use Rattle.job_driver.specs.Works.{AreCaused, CountsTell}
 
 -- the reports of one worker, in the order of the jobs
@@ -41,7 +42,12 @@ events_of reports = flat_map (λ report. report.events) reports
 
 -- the entries that acts add, each list in their order
 abbrev pub entries_of : List Act → Entries
-entries_of acts = record { runs = runs_in (deeds_of acts); fetches = fetches_in (deeds_of acts); exchanges = exchanges_in (deeds_of acts); puts = puts_in (deeds_of acts) }
+entries_of acts = record {
+  runs = runs_in (deeds_of acts);
+  fetches = fetches_in (deeds_of acts);
+  exchanges = exchanges_in (deeds_of acts);
+  puts = puts_in (deeds_of acts);
+}
 
 -- what the jobs of these reports did, job after job
 abbrev pub acts_by : Reports → List Report → List Act
@@ -64,9 +70,10 @@ pub record DrewToTheEnd (worker : ℕ) (calls : List CallEntry) : Type 0 where
   pub last : calls ≡ before ++ entry worker Draw (Drawn None) ∷ []
 
 -- A worker did jobs with this kit, until a draw was answered by no job.
-pub record KitDid {K : Type 0} (d : Devices K) (period worker : ℕ) (read : Reports) (reports : List Report) (entries : Entries) (calls : List CallEntry) (old new : K) : Type 0 where
-  -- All that it did is one list of acts: those of its jobs, job after job, and looks at the clock. Its deeds are the new entries of the kit's lists, in
-  -- order, and no file changed but by its puts.
+pub record KitDid {K : Type 0} (d : Devices K) (period worker : ℕ) (read : Reports) (reports : List Report) (entries : Entries)
+    (calls : List CallEntry) (old new : K) : Type 0 where
+  -- All that it did is one list of acts: those of its jobs, job after job, and looks at the clock. Its deeds are the new entries of the
+  -- kit's lists, in order, and no file changed but by its puts.
   pub acts : List Act
   pub of_jobs : untimed acts ≡ acts_by read (reports_by worker reports)
   pub did : DidIn (d.shows old) (d.shows new) (deeds_of acts)
@@ -74,8 +81,8 @@ pub record KitDid {K : Type 0} (d : Devices K) (period worker : ℕ) (read : Rep
   pub named : events_of (reports_by worker reports) ≡ numbered no_places acts
   pub entries_are : entries ≡ entries_of acts
   pub drew : DrewToTheEnd worker calls
-  -- The moments that these calls name are those that the clock gave. With a period a host is left alone after each exchange with which something went
-  -- wrong.
+  -- The moments that these calls name are those that the clock gave. With a period a host is left alone after each exchange with which
+  -- something went wrong.
   pub moments : AreMoments period calls (moments_in (deeds_of acts))
   pub leaves : LeavesAlone period acts
   -- peers gave what peers may give, and programs left what programs may leave
@@ -88,19 +95,22 @@ pub record KitDid {K : Type 0} (d : Devices K) (period worker : ℕ) (read : Rep
   pub peers : SameRelation (d.peers old) (d.peers new)
   pub programs : SameRelation3 (d.programs old) (d.programs new)
 
--- All jobs were done by this many workers, one for each of the first kits, over slots of these limits. What every such run means is the law `run_means`.
-pub record JobsRan {K : Type 0} (d : Devices K) (l : Limits 16) (jobs : ℕ → Job) (period workers : ℕ) (reports : List Report) (history : List CallEntry) (last : SlotState 16) (old new : List K) : Type 0 where
+-- All jobs were done by this many workers, one for each of the first kits, over slots of these limits. What every such run means is the
+-- law `run_means`.
+pub record JobsRan {K : Type 0} (d : Devices K) (l : Limits 16) (jobs : ℕ → Job) (period workers : ℕ) (reports : List Report)
+    (history : List CallEntry) (last : SlotState 16) (old new : List K) : Type 0 where
   pub valid : AreValid l
-  -- There is one report for each job, in the order of the jobs, by one of the workers. Read by its worker's new entries it is a course of its job, each
-  -- run and fetch within its bounds and no fault of an exchange told as want of memory.
+  -- There is one report for each job, in the order of the jobs, by one of the workers. Read by its worker's new entries it is a course of
+  -- its job, each run and fetch within its bounds and no fault of an exchange told as want of memory.
   pub entries : ℕ → Entries
   pub read : Reports
   pub are_read : AreRead l entries reports read
   pub by_workers : (j : ℕ) → j < l.jobs → read.worker j < workers
-  pub strict : (j : ℕ) → j < l.jobs → StrictCourse (jobs j) (read.acts j) (read.ends j)
-  -- Each put is of the object of a compile of status 0 before it: a host's whole reply to the job's own request, or a run here of its own words on its
-  -- own source. It is the job's last act.
-  pub delivered : (j : ℕ) (before rest : List Act) (x : Put) → j < l.jobs → read.acts j ≡ before ++ Did (put x) ∷ rest → PutsLast (jobs j) before x rest (read.ends j)
+  pub courses : (j : ℕ) → j < l.jobs → IsJobCourse (jobs j) (read.acts j) (read.ends j)
+  -- Each put is of the object of a compile of status 0 before it: a host's whole reply to the job's own request, or a run here of its own
+  -- words on its own source. It is the job's last act.
+  pub delivered : (j : ℕ) (before rest : List Act) (x : Put) → j < l.jobs → read.acts j ≡ before ++ Did (put x) ∷ rest
+      → PutsLast (jobs j) before x rest (read.ends j)
   -- a job that may not be sent has no exchange
   pub stays_here : (j : ℕ) → j < l.jobs → may_be_sent (jobs j) ≡ false → exchanges_in (deeds_of (read.acts j)) ≡ []
   -- The calls of the one history of the slots agree with the reports; what is woven of both is a run of the farm.
@@ -111,10 +121,14 @@ pub record JobsRan {K : Type 0} (d : Devices K) (l : Limits 16) (jobs : ℕ → 
   pub never_above : (front rest : List CallEntry) → history ≡ front ++ rest → AreWithinLimits l (outstanding front)
   pub back : outstanding history ≡ []
   pub others : (caller : ℕ) → workers ≤ caller → calls_by caller history ≡ []
-  -- Each worker did with its kit what its reports tell, and nothing else, and the kit's counts went on job by job. All other kits are as they were.
+  -- Each worker did with its kit what its reports tell, and nothing else, and the kit's counts went on job by job. All other kits are as
+  -- they were.
   pub kits : (worker : ℕ) (other : K) → worker < workers
-      → KitDid d period worker read reports (entries worker) (calls_by worker history) (slice_index_or old worker other) (slice_index_or new worker other)
+      → KitDid d period worker read reports (entries worker) (calls_by worker history) (slice_index_or old worker other)
+      (slice_index_or new worker other)
   pub counts : (worker : ℕ) (other : K) → worker < workers
-      → CountsOf jobs read (reports_by worker reports) (d.shows (slice_index_or old worker other)) (d.shows (slice_index_or new worker other))
+      → CountsOf jobs read (reports_by worker reports) (d.shows (slice_index_or old worker other))
+      (d.shows (slice_index_or new worker other))
   pub same : length new ≡ length old
-  pub unused : (place : ℕ) (other : K) → workers ≤ place → place < length old → slice_index_or new place other ≡ slice_index_or old place other
+  pub unused : (place : ℕ) (other : K) → workers ≤ place → place < length old
+      → slice_index_or new place other ≡ slice_index_or old place other

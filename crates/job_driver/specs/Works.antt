@@ -24,7 +24,7 @@ use Rattle.farm_machine.specs.Numbered.{numbered, advanced, no_places, untimed}
 use Rattle.farm_machine.specs.Own.{DoneJob, Each, DoesJobs}
 use Rattle.job_run.specs.Gives.{LeavesAlone}
 use Rattle.job_run.specs.Stands.{KeeperStands, FetchEnds}
-use Rattle.job_run.specs.Strict.{StrictCourse}
+use Rattle.job_run.specs.Courses.{IsJobCourse}
 
 -- a job without its looks at the clock, which are no acts of a course
 abbrev pub untimed_job : DoneJob → DoneJob
@@ -47,7 +47,8 @@ abbrev pub AreReportsOf : ℕ → Places → List DoneJob → List Report → Ty
 AreReportsOf worker at [] [] = Unit {0}
 AreReportsOf worker at [] (report ∷ reports) = ⊥
 AreReportsOf worker at (job ∷ jobs) [] = ⊥
-AreReportsOf worker at (job ∷ jobs) (report ∷ reports) = IsReportOf worker at job report × AreReportsOf worker (advanced at job.acts) jobs reports
+AreReportsOf worker at (job ∷ jobs) (report ∷ reports) = IsReportOf worker at job report
+    × AreReportsOf worker (advanced at job.acts) jobs reports
 
 abbrev pub is_station_failure : End → Bool
 is_station_failure (Failed Station) = true
@@ -84,13 +85,14 @@ pub record RoseTogether (number a a' b b' : ℕ) : Type 0 where
 
 -- No more jobs failed by a device than its counts rose together. Puts have a bound of their own, since no overrun fails one.
 pub record AreCaused (reports : List Report) (old new : KitView) : Type 0 where
-  pub station : RoseTogether (ends_so is_station_failure reports) old.station.faults new.station.faults old.station.overruns new.station.overruns
+  pub station : RoseTogether (ends_so is_station_failure reports) old.station.faults new.station.faults old.station.overruns
+      new.station.overruns
   pub keeper : RoseTogether (ends_so is_keeper_failure reports) old.keeper.faults new.keeper.faults old.keeper.overruns new.keeper.overruns
   pub puts : RoseBy (ends_so is_put_failure reports) old.keeper.faults new.keeper.faults
   pub dialer : RoseBy (ends_so is_dial_failure reports) old.dialer.faults new.dialer.faults
 
--- What a job did to the counts of its kit, by its end. A failure of a device goes with a rise of that device's count. Where the job ends otherwise,
--- for want of memory too, the counts of its station stand still, and those of its keeper as `run_job` says.
+-- What a job did to the counts of its kit, by its end. A failure of a device goes with a rise of that device's count. Where the job ends
+-- otherwise, for want of memory too, the counts of its station stand still, and those of its keeper as `run_job` says.
 pub record CountsTell (j : Job) (acts : List Act) (end : End) (old new : KitView) : Type 0 where
   pub cause : HasEndCause end old new
   pub station : StationStands end old.station new.station
@@ -101,17 +103,19 @@ pub record CountsTell (j : Job) (acts : List Act) (end : End) (old new : KitView
 -- jobs, one after another, each from where the job before it left the kit
 abbrev pub CountsGoOn : (ℕ → Job) → List DoneJob → KitView → KitView → Type 0
 CountsGoOn jobs [] old new = new ≡ old
-CountsGoOn jobs (job ∷ done) old new = (mid : KitView) × CountsTell (jobs job.number) (untimed job.acts) job.end old mid × CountsGoOn jobs done mid new
+CountsGoOn jobs (job ∷ done) old new = (mid : KitView) × CountsTell (jobs job.number) (untimed job.acts) job.end old mid
+    × CountsGoOn jobs done mid new
 
--- A worker did jobs, one after another: each is a course of its command, with each run and fetch within its bounds and no fault of an exchange
--- told as want of memory. All that it did is one list of acts. Its deeds are the new entries
--- of the kit's lists, and the reports' events name them, counted from 0 on. The calls are those of its jobs, and their moments are those that
--- the clock gave. With a period a host is left alone after each exchange with which something went wrong. Peers gave what peers may give,
--- programs left what programs may leave, and counts rose with the jobs that failed, job by job.
-pub record Works {h : ℕ} (peers : Peers) (programs : Programs) (jobs : ℕ → Job) (period : ℕ) (l : Limits h) (worker : ℕ) (reports : List Report) (calls : List CallEntry) (old new : KitView) : Type 0 where
+-- A worker did jobs, one after another: each is a course of its command, with each run and fetch within its bounds and no fault of an
+-- exchange told as want of memory. All that it did is one list of acts. Its deeds are the new entries of the kit's lists, and the
+-- reports' events name them, counted from 0 on. The calls are those of its jobs, and their moments are those that the clock gave. With a
+-- period a host is left alone after each exchange with which something went wrong. Peers gave what peers may give, programs left what
+-- programs may leave, and counts rose with the jobs that failed, job by job.
+pub record Works {h : ℕ} (peers : Peers) (programs : Programs) (jobs : ℕ → Job) (period : ℕ) (l : Limits h) (worker : ℕ)
+    (reports : List Report) (calls : List CallEntry) (old new : KitView) : Type 0 where
   pub done : List DoneJob
   pub reported : AreReportsOf worker no_places done reports
-  pub strict : Each (λ job. StrictCourse (jobs job.number) (untimed job.acts) job.end) done
+  pub courses : Each (λ job. IsJobCourse (jobs job.number) (untimed job.acts) job.end) done
   pub does : DoesJobs (wanted l) worker (map untimed_job done) calls
   pub did : DidIn old new (deeds_of (all_acts done))
   pub moments : AreMoments period calls (moments_in (deeds_of (all_acts done)))
@@ -123,7 +127,8 @@ pub record Works {h : ℕ} (peers : Peers) (programs : Programs) (jobs : ℕ →
   pub later : KitLater old new
 
 -- the worker did jobs until a draw answered none
-pub record WorkedOff {h : ℕ} (peers : Peers) (programs : Programs) (jobs : ℕ → Job) (period : ℕ) (l : Limits h) (worker : ℕ) (reports : List Report) (mine : List CallEntry) (old new : KitView) : Type 0 where
+pub record WorkedOff {h : ℕ} (peers : Peers) (programs : Programs) (jobs : ℕ → Job) (period : ℕ) (l : Limits h) (worker : ℕ)
+    (reports : List Report) (mine : List CallEntry) (old new : KitView) : Type 0 where
   pub calls : List CallEntry
   pub works : Works peers programs jobs period l worker reports calls old new
   pub last : mine ≡ calls ++ entry worker Draw (Drawn None) ∷ []

@@ -1,5 +1,6 @@
 -- One try after another.
-use Rattle.std.proofs.Common.{◌≡◌, ◌≢◌, inl, inr, ℕ, suc, ◌+◌, ◌<◌, ◌≤◌, Bool, true, false, ◌&&◌, ◌||◌, not, cond, nat_eq, nat_lt, List, [], ◌∷◌, length, get_or, refl, sym, ap, ◌∙◌, subst, arith, eq-eqb, ne_eqb}
+use Rattle.std.proofs.Common.{◌≡◌, ◌≢◌, inl, inr, ℕ, suc, ◌+◌, ◌<◌, ◌≤◌, Bool, true, false, ◌&&◌, ◌||◌, not, cond, nat_eq, nat_lt, List}
+use Rattle.std.proofs.Common.{[], ◌∷◌, length, get_or, refl, sym, ap, ◌∙◌, subst, arith, eq-eqb, ne_eqb}
 use Rattle.slot_table.specs.declared.limits.Limits.{Limits}
 use Rattle.std.proofs.lemmas.Bool.{lt-ltb, le-ltb, cases_eq}
 use Rattle.std.proofs.lemmas.List.{get_or_read}
@@ -17,14 +18,15 @@ use Rattle.farm_machine.specs.declared.reports.Why5.TheVariants.{Memory, Broke, 
 use Rattle.farm_machine.specs.declared.reports.End.{End}
 use Rattle.farm_machine.specs.declared.reports.End.TheVariants.{Done, Failed}
 use Rattle.farm_machine.specs.Causes.{HasEndCause}
-use Rattle.farm_machine.specs.Course.{At, Send, Locally, Finish, Over, no_host, or_here, after_whole, after_broken, Tried, tried_too, Ends, From}
+use Rattle.farm_machine.specs.Course.{At, Send, Locally, Finish, Over, no_host, or_here, after_whole, after_broken, Tried, tried_too}
+use Rattle.farm_machine.specs.Course.{Start, Next, Ends, From}
 use Rattle.farm_machine.specs.Acts.{Act}
 use Rattle.farm_machine.specs.Jobs.{Job, no_host_entry, output_name, source_name}
 use Rattle.job_run.specs.declared.step.Step.{Step}
 use Rattle.job_run.specs.declared.step.Step.TheVariants as step
 use Rattle.job_run.specs.declared.step.Asked.{Asked}
 use Rattle.job_run.specs.declared.step.Asked.TheVariants as asked
-use Rattle.job_run.specs.Strict.{StrictReach, StrictFrom}
+use Rattle.job_run.specs.Strict.{IsStrict, StrictReach}
 use Rattle.job_run.specs.Stages.{IsAtKeeper, StepIs, SentIs, AskedIs, step_after}
 use Rattle.job_run.specs.Worlds.{World, WentOn, Ended}
 use Rattle.job_run.proofs.Composing.{cause-before, stands-by, keeps-by, unfetched, on-then, on-ended}
@@ -129,6 +131,14 @@ here-step j l caller number a b at source note why went cause other = go j.confi
           fetch = unfetched
               (source_name j) why w.went.acts a.kit.keeper b.kit.keeper other;
         }
+
+-- from here a job may go on by these acts to this end, each run and fetch within its bounds and no fault of an exchange hidden
+abbrev pub StrictFrom : Job → At → List Act → End → Type 0
+StrictFrom j at [] end = Ends j at end
+StrictFrom j at (act ∷ acts) end = (next : At) × Next j at act next × IsStrict act at next × StrictFrom j next acts end
+
+abbrev pub StrictCourse : Job → List Act → End → Type 0
+StrictCourse j acts end = StrictFrom j Start acts end
 
 -- from the start to a place where the job may end so, its acts are a course
 pub course-of : (j : Job) (acts : List Act) (at to : At) (end : End) → StrictReach j at acts to → Ends j to end → StrictFrom j at acts end

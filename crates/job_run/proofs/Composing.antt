@@ -31,7 +31,9 @@ use Rattle.job_run.specs.Failures.{fetch_failure}
 use Rattle.job_run.specs.Strict.{StrictReach}
 use Rattle.job_run.specs.Stands.{KeepsStill, KeeperStands, FetchEnds}
 use Rattle.job_run.specs.Worlds.{World, HasTaken, Went, WentOn, Ended}
-use Rattle.job_run.proofs.Lists.{slots-append, deeds-append, untimed-append, slots-untimed, advanced-append, numbered-append, ran-append, ran-along, may-append, may-along, moments-append, reach-append, serves-append, exchanges-append, moments_in-append, leaves-append, exchangeless-both}
+use Rattle.job_run.proofs.Lists.{slots-append, deeds-append, untimed-append, slots-untimed, advanced-append, numbered-append, ran-append}
+use Rattle.job_run.proofs.Lists.{ran-along, may-append, may-along, moments-append, reach-append, serves-append, exchanges-append}
+use Rattle.job_run.proofs.Lists.{moments_in-append, leaves-append, exchangeless-both}
 use Rattle.job_run.proofs.Taken.{taken-reach}
 
 pub later-then : {a b c : KitView} → KitLater a b → KitLater b c → KitLater a c
@@ -255,7 +257,8 @@ went-then {h = h} {j = j} {l = l} {l' = l'} {caller = caller} {caller' = caller'
           ∙ append_assoc a.events (numbered a.places first.acts) (numbered b.places second.acts)
           ∙ ap (λ (p : Places). a.events ++ (numbered a.places first.acts ++ numbered p second.acts)) first.grown
           ∙ ap (λ (es : List Event). a.events ++ es) (sym (numbered-append a.places first.acts second.acts));
-      grown = second.grown ∙ ap (λ (p : Places). advanced p second.acts) first.grown ∙ sym (advanced-append a.places first.acts second.acts);
+      grown = second.grown ∙ ap (λ (p : Places). advanced p second.acts) first.grown
+          ∙ sym (advanced-append a.places first.acts second.acts);
       reach = subst (λ (xs : List Act). StrictReach j at xs to) (sym (untimed-append first.acts second.acts))
           (reach-append j (untimed first.acts) (untimed second.acts) at mid to first.reach second.reach);
       mine = second.mine ∙ ap (λ (es : List CallEntry). es ++ second.calls) first.mine ∙ append_assoc a.mine first.calls second.calls;

@@ -1,41 +1,40 @@
 -- Parts of a job that have no parts: one slot, one deed, and what they were written down as.
-use Rattle.std.proofs.Common.{◌≡◌, ◌⊎◌, ℕ, zero, suc, ◌<◌, ◌≤◌, ◌^◌, true, List, [], ◌∷◌, ◌++◌, refl, sym, ap, ◌∙◌, subst, append_assoc}
+use Rattle.std.proofs.Common.{◌≡◌, ◌⊎◌, ℕ, zero, suc, ◌<◌, ◌^◌, true, List, [], ◌∷◌, ◌++◌, refl, sym, ap, ◌∙◌, subst, append_assoc}
 use Rattle.std.proofs.lemmas.List.{append-nil}
-use Rattle.std.specs.Prelude.{IsTrue, length}
+use Rattle.std.specs.Prelude.{IsTrue}
 use Rattle.slot_table.specs.declared.limits.Limits.{Limits}
+use Rattle.slot_table.specs.declared.calls.CallEntry.{CallEntry}
 use Rattle.slot_table.specs.declared.calls.SlotCall.TheVariants.{Give, GiveBad, GiveLocal}
 use Rattle.slot_table.specs.declared.calls.SlotReply.TheVariants.{Given}
 use Rattle.slot_table.specs.Backoff.{bad_until}
 use Rattle.slot_table.specs.History.{entry}
 use Rattle.edge_traits.specs.declared.entries.Run.{Run}
-use Rattle.edge_traits.specs.declared.entries.Fetch.{Fetch}
-use Rattle.edge_traits.specs.declared.entries.Put.{Put}
 use Rattle.edge_traits.specs.declared.entries.Exchange.{Exchange}
 use Rattle.edge_traits.specs.Kits.{KitView}
 use Rattle.edge_traits.specs.Keepers.{KeeperView}
 use Rattle.edge_traits.specs.Dialers.{DialerView}
 use Rattle.edge_traits.specs.Stations.{StationView, NoneRose}
 use Rattle.edge_traits.specs.Told.{Grew, Became, SameRelation, SameRelation3}
-use Rattle.edge_traits.specs.Deeds.{ran, fetched, exchanged, put, timed, DidIn}
+use Rattle.edge_traits.specs.Deeds.{Deed, ran, fetched, exchanged, put, timed, exchanges_in, moments_in, DidIn, MayAll}
 use Rattle.edge_traits.proofs.ToldLemmas.{Grew-refl}
 use Rattle.remote_transfer.specs.Landings.{KeeperStays}
 use Rattle.farm_machine.specs.declared.reports.Event.{Event}
 use Rattle.farm_machine.specs.declared.reports.Places.{Places}
-use Rattle.farm_machine.specs.Acts.{SlotEvent, Gives, GivesBad, TakesLocal, GivesLocal, Act, Did, Met}
+use Rattle.farm_machine.specs.Acts.{SlotEvent, Gives, GivesBad, TakesLocal, GivesLocal, Act, Did, Met, slots_of, deeds_of}
 use Rattle.edge_traits.specs.Causes.{Still}
 use Rattle.farm_machine.specs.Causes.{KitLater}
 use Rattle.farm_machine.specs.Course.{At, Next}
 use Rattle.farm_machine.specs.Farm.{wanted}
-use Rattle.farm_machine.specs.Honest.{Peers, Programs}
+use Rattle.farm_machine.specs.Honest.{Peers, Programs, AllRan}
 use Rattle.farm_machine.specs.Jobs.{Job}
 use Rattle.farm_machine.specs.Machine.{Wants}
 use Rattle.farm_machine.specs.Moments.{AreMoments}
-use Rattle.farm_machine.specs.Numbered.{numbered, advanced}
+use Rattle.farm_machine.specs.Numbered.{numbered, advanced, untimed}
 use Rattle.farm_machine.specs.Own.{Serves}
-use Rattle.job_run.specs.Gives.{IsUnhurt}
-use Rattle.job_run.specs.Strict.{IsStrict}
+use Rattle.job_run.specs.Gives.{IsUnhurt, LeavesAlone}
+use Rattle.job_run.specs.Strict.{IsStrict, StrictReach}
 use Rattle.job_run.specs.Waits.{borrowed}
-use Rattle.job_run.specs.Worlds.{World, Went, WentOn}
+use Rattle.job_run.specs.Worlds.{World, HasTaken, Went, WentOn}
 use Rattle.job_run.proofs.Lists.{some-entry, numbered-append, advanced-append, moments-append, serves-append}
 
 -- these acts were written down
@@ -129,6 +128,53 @@ pub moments-borrowed : (period caller job refused : ℕ) → AreMoments period (
 moments-borrowed period caller job zero = ([], [], refl, refl, refl)
 moments-borrowed period caller job (suc refused) = ([], [], refl, moments-borrowed period caller job refused, refl)
 
+-- What is known of a part's acts by themselves: a walk from one place to another, with these calls.
+pub record IsPart {h : ℕ} (j : Job) (l : Limits h) (caller number : ℕ) (programs : Programs) (at to : At) (acts : List Act)
+    (calls : List CallEntry) : Type 0 where
+  pub reach : StrictReach j at (untimed acts) to
+  pub serves : (past : List SlotEvent) → HasTaken past at → Serves (wanted l) caller number past (slots_of acts) calls
+  pub moments : AreMoments j.config.period calls (moments_in (deeds_of acts))
+  pub leaves : LeavesAlone j.config.period acts
+  pub ran : AllRan programs acts
+
+-- with what devices, slots and journal show of these acts
+part-went : {h : ℕ} {l : Limits h} {j : Job} {caller number : ℕ} {a b : World} {at to : At} (acts : List Act) (calls : List CallEntry)
+    → IsPart j l caller number b.programs at to acts calls → DidIn a.kit b.kit (deeds_of acts) → KitLater a.kit b.kit
+    → (IsTrue b.kit.dialer.exchanges.known → MayAll b.peers (exchanges_in (deeds_of acts))) → SameRelation a.peers b.peers
+    → SameRelation3 a.programs b.programs → Noted a.events a.places acts b.events b.places → b.mine ≡ a.mine ++ calls
+    → Went j l caller number a b at to
+part-went acts calls part did later may same_peers same_programs noted mine = record {
+  acts = acts;
+  calls = calls;
+  did = did;
+  named = noted.0;
+  grown = noted.1;
+  reach = part.reach;
+  mine = mine;
+  serves = part.serves;
+  moments = part.moments;
+  leaves = part.leaves;
+  later = later;
+  may = may;
+  ran = part.ran;
+  same_peers = same_peers;
+  same_programs = same_programs;
+}
+
+-- a local slot was taken and given back, behind so many refused takes, with no look at the clock
+local-serves : {h : ℕ} (l : Limits h) (caller number refused : ℕ) (past : List SlotEvent)
+    → Serves (wanted l) caller number past (TakesLocal ∷ GivesLocal ∷ [])
+    (borrowed caller number refused ++ entry caller (GiveLocal number) Given ∷ [])
+local-serves l caller number refused past =
+    serves-append (wanted l) caller number past (TakesLocal ∷ []) (GivesLocal ∷ []) (borrowed caller number refused)
+    (entry caller (GiveLocal number) Given ∷ []) (serves-borrowed (wanted l) caller number past refused) (refl, (refl, tt, refl, tt))
+
+local-moments : (period caller number refused : ℕ)
+    → AreMoments period (borrowed caller number refused ++ entry caller (GiveLocal number) Given ∷ []) []
+local-moments period caller number refused =
+    moments-append period (borrowed caller number refused) (entry caller (GiveLocal number) Given ∷ []) [] []
+    (moments-borrowed period caller number refused) ([], [], refl, refl, refl)
+
 -- a local slot was taken, one run was made in it, and it was given back
 pub local-ran : {h : ℕ} {l : Limits h} {j : Job} {caller number : ℕ} (refused : ℕ) {a b : World} {at : At} (c d : At) {to : At} (x : Run)
     → DidIn a.kit b.kit (ran x ∷ []) → KitLater a.kit b.kit → b.programs x.words x.input x.ran → SameRelation a.peers b.peers
@@ -137,26 +183,18 @@ pub local-ran : {h : ℕ} {l : Limits h} {j : Job} {caller number : ℕ} (refuse
     → b.mine ≡ a.mine ++ (borrowed caller number refused ++ entry caller (GiveLocal number) Given ∷ [])
     → Next j at (Met TakesLocal) c → Next j c (Did (ran x)) d → IsStrict (Did (ran x)) c d → Next j d (Met GivesLocal) to
     → Went j l caller number a b at to
-local-ran {l = l} {j = j} {caller = caller} {number = number} refused {a = a} {b = b} {at = at} c d {to = to} x did later may same_peers
-    same_programs noted mine first second strict third = record {
-      acts = Met TakesLocal ∷ Did (ran x) ∷ Met GivesLocal ∷ [];
-      calls = borrowed caller number refused ++ entry caller (GiveLocal number) Given ∷ [];
-      did = did;
-      named = noted.0;
-      grown = noted.1;
+local-ran {l = l} {j = j} {caller = caller} {number = number} refused c d {to = to} x did later may same_peers same_programs noted mine
+    first second strict third =
+    part-went (Met TakesLocal ∷ Did (ran x) ∷ Met GivesLocal ∷ [])
+    (borrowed caller number refused ++ entry caller (GiveLocal number) Given ∷ [])
+    (record {
       reach = (c, first, tt, (d, second, strict, (to, third, tt, refl)));
-      mine = mine;
-      serves = λ past taken. serves-append (wanted l) caller number past (TakesLocal ∷ []) (GivesLocal ∷ []) (borrowed caller number refused)
-          (entry caller (GiveLocal number) Given ∷ []) (serves-borrowed (wanted l) caller number past refused) (refl, (refl, tt, refl, tt));
-      moments = moments-append j.config.period (borrowed caller number refused) (entry caller (GiveLocal number) Given ∷ []) [] []
-          (moments-borrowed j.config.period caller number refused) ([], [], refl, refl, refl);
+      serves = λ past taken. local-serves l caller number refused past;
+      moments = local-moments j.config.period caller number refused;
       leaves = tt;
-      later = later;
-      may = λ known. tt;
       ran = (may, tt);
-      same_peers = same_peers;
-      same_programs = same_programs;
-    }
+    })
+    did later (λ known. tt) same_peers same_programs noted mine
 
 -- a local slot was taken, no run could be made, and it was given back
 pub local-not-run : {h : ℕ} {l : Limits h} {j : Job} {caller number : ℕ} (refused : ℕ) {a b : World} {at : At} (c : At) {to : At}
@@ -165,26 +203,17 @@ pub local-not-run : {h : ℕ} {l : Limits h} {j : Job} {caller number : ℕ} (re
     → b.mine ≡ a.mine ++ (borrowed caller number refused ++ entry caller (GiveLocal number) Given ∷ [])
     → Next j at (Met TakesLocal) c → Next j c (Met GivesLocal) to
     → Went j l caller number a b at to
-local-not-run {l = l} {j = j} {caller = caller} {number = number} refused {a = a} {b = b} {at = at} c {to = to} did later same_peers
-    same_programs noted mine first second = record {
-      acts = Met TakesLocal ∷ Met GivesLocal ∷ [];
-      calls = borrowed caller number refused ++ entry caller (GiveLocal number) Given ∷ [];
-      did = did;
-      named = noted.0;
-      grown = noted.1;
+local-not-run {l = l} {j = j} {caller = caller} {number = number} refused c {to = to} did later same_peers same_programs noted mine first
+    second =
+    part-went (Met TakesLocal ∷ Met GivesLocal ∷ []) (borrowed caller number refused ++ entry caller (GiveLocal number) Given ∷ [])
+    (record {
       reach = (c, first, tt, (to, second, tt, refl));
-      mine = mine;
-      serves = λ past taken. serves-append (wanted l) caller number past (TakesLocal ∷ []) (GivesLocal ∷ []) (borrowed caller number refused)
-          (entry caller (GiveLocal number) Given ∷ []) (serves-borrowed (wanted l) caller number past refused) (refl, (refl, tt, refl, tt));
-      moments = moments-append j.config.period (borrowed caller number refused) (entry caller (GiveLocal number) Given ∷ []) [] []
-          (moments-borrowed j.config.period caller number refused) ([], [], refl, refl, refl);
+      serves = λ past taken. local-serves l caller number refused past;
+      moments = local-moments j.config.period caller number refused;
       leaves = tt;
-      later = later;
-      may = λ known. tt;
       ran = tt;
-      same_peers = same_peers;
-      same_programs = same_programs;
-    }
+    })
+    did later (λ known. tt) same_peers same_programs noted mine
 
 -- one run was made in a slot of a host, which was given back
 pub lent-ran : {h : ℕ} {l : Limits h} {j : Job} {caller number : ℕ} (host : ℕ) {a b : World} {at : At} (c : At) {to : At} (x : Run)
@@ -194,24 +223,17 @@ pub lent-ran : {h : ℕ} {l : Limits h} {j : Job} {caller number : ℕ} (host : 
     → b.mine ≡ a.mine ++ entry caller (Give host number) Given ∷ []
     → Next j at (Did (ran x)) c → IsStrict (Did (ran x)) at c → Next j c (Met (Gives host)) to → IsStrict (Met (Gives host)) c to
     → Went j l caller number a b at to
-lent-ran {l = l} {j = j} {caller = caller} {number = number} host {a = a} {b = b} {at = at} c {to = to} x did later may same_peers
-    same_programs noted mine first within second strict = record {
-      acts = Did (ran x) ∷ Met (Gives host) ∷ [];
-      calls = entry caller (Give host number) Given ∷ [];
-      did = did;
-      named = noted.0;
-      grown = noted.1;
+lent-ran {caller = caller} {number = number} host c {to = to} x did later may same_peers same_programs noted mine first within second
+    strict =
+    part-went (Did (ran x) ∷ Met (Gives host) ∷ []) (entry caller (Give host number) Given ∷ [])
+    (record {
       reach = (c, first, within, (to, second, strict, refl));
-      mine = mine;
       serves = λ past taken. (refl, (refl, tt, refl, tt));
       moments = ([], [], refl, refl, refl);
       leaves = tt;
-      later = later;
-      may = λ known. tt;
       ran = (may, tt);
-      same_peers = same_peers;
-      same_programs = same_programs;
-    }
+    })
+    did later (λ known. tt) same_peers same_programs noted mine
 
 -- a slot of a host was given back
 pub given-back : {h : ℕ} {l : Limits h} {j : Job} {caller number : ℕ} (host : ℕ) {a b : World} {at to : At}
@@ -220,24 +242,16 @@ pub given-back : {h : ℕ} {l : Limits h} {j : Job} {caller number : ℕ} (host 
     → b.mine ≡ a.mine ++ entry caller (Give host number) Given ∷ []
     → Next j at (Met (Gives host)) to → IsStrict (Met (Gives host)) at to
     → Went j l caller number a b at to
-given-back {l = l} {j = j} {caller = caller} {number = number} host {a = a} {b = b} {at = at} {to = to} did later same_peers same_programs
-    noted mine first strict = record {
-      acts = Met (Gives host) ∷ [];
-      calls = entry caller (Give host number) Given ∷ [];
-      did = did;
-      named = noted.0;
-      grown = noted.1;
+given-back {caller = caller} {number = number} host {to = to} did later same_peers same_programs noted mine first strict =
+    part-went (Met (Gives host) ∷ []) (entry caller (Give host number) Given ∷ [])
+    (record {
       reach = (to, first, strict, refl);
-      mine = mine;
       serves = λ past taken. (refl, (refl, tt, refl, tt));
       moments = ([], [], refl, refl, refl);
       leaves = tt;
-      later = later;
-      may = λ known. tt;
       ran = tt;
-      same_peers = same_peers;
-      same_programs = same_programs;
-    }
+    })
+    did later (λ known. tt) same_peers same_programs noted mine
 
 -- one exchange was made in a slot of a host, which was given back
 pub exchanged-given : {h : ℕ} {l : Limits h} {j : Job} {caller number : ℕ} (host : ℕ) {a b : World} {at : At} (c : At) {to : At}
@@ -250,25 +264,18 @@ pub exchanged-given : {h : ℕ} {l : Limits h} {j : Job} {caller number : ℕ} (
     → Next j at (Did (exchanged x)) c → Next j c (Met (Gives host)) to → IsStrict (Met (Gives host)) c to
     → (j.config.period ≡ 0) ⊎ IsUnhurt x → NoneRose a.kit.station b.kit.station → Still a.kit.keeper.overruns b.kit.keeper.overruns
     → WentOn j l caller number a b at to
-exchanged-given {l = l} {j = j} {caller = caller} {number = number} host {a = a} {b = b} {at = at} c {to = to} x did later may same_peers
-    same_programs noted mine first second strict fair still overruns = record {
-      went = record {
-        acts = Did (exchanged x) ∷ Met (Gives host) ∷ [];
-        calls = entry caller (Give host number) Given ∷ [];
-        did = did;
-        named = noted.0;
-        grown = noted.1;
-        reach = (c, first, tt, (to, second, strict, refl));
-        mine = mine;
-        serves = λ past taken. (refl, (refl, tt, refl, tt));
-        moments = ([], [], refl, refl, refl);
-        leaves = (fair, tt);
-        later = later;
-        may = λ known. (may known, tt);
-        ran = tt;
-        same_peers = same_peers;
-        same_programs = same_programs;
-      };
+unfolding part-went
+exchanged-given {caller = caller} {number = number} host c {to = to} x did later may same_peers same_programs noted mine first second
+    strict fair still overruns = record {
+      went = part-went (Did (exchanged x) ∷ Met (Gives host) ∷ []) (entry caller (Give host number) Given ∷ [])
+          (record {
+            reach = (c, first, tt, (to, second, strict, refl));
+            serves = λ past taken. (refl, (refl, tt, refl, tt));
+            moments = ([], [], refl, refl, refl);
+            leaves = (fair, tt);
+            ran = tt;
+          })
+          did later (λ known. (may known, tt)) same_peers same_programs noted mine;
       station = still;
       keeper = record { faults = λ none. absurd (some-entry x [] none); overruns = overruns };
     }
@@ -285,124 +292,61 @@ pub exchanged-alone : {h : ℕ} {l : Limits h} {j : Job} {caller number : ℕ} (
     → b.mine ≡ a.mine ++ entry caller (GiveBad host number (bad_until moment j.config.period)) Given ∷ []
     → Next j at (Did (exchanged x)) c → Next j c (Met (GivesBad host (bad_until moment j.config.period))) to
     → NoneRose a.kit.station b.kit.station → Still a.kit.keeper.overruns b.kit.keeper.overruns → WentOn j l caller number a b at to
-exchanged-alone {l = l} {j = j} {caller = caller} {number = number} host moment {a = a} {b = b} {at = at} c {to = to} x within did later may
-    same_peers same_programs noted mine first second still overruns = record {
-      went = record {
-        acts = Did (exchanged x) ∷ Did (timed moment) ∷ Met (GivesBad host (bad_until moment j.config.period)) ∷ [];
-        calls = entry caller (GiveBad host number (bad_until moment j.config.period)) Given ∷ [];
-        did = did;
-        named = noted.0;
-        grown = noted.1;
-        reach = (c, first, tt, (to, second, tt, refl));
-        mine = mine;
-        serves = λ past taken. (refl, (refl, tt, refl, tt));
-        moments = (moment ∷ [], [], (moment, within, refl, refl), refl, refl);
-        leaves = (tt, tt);
-        later = later;
-        may = λ known. (may known, tt);
-        ran = tt;
-        same_peers = same_peers;
-        same_programs = same_programs;
-      };
+unfolding part-went
+exchanged-alone {j = j} {caller = caller} {number = number} host moment c {to = to} x within did later may same_peers same_programs noted
+    mine first second still overruns = record {
+      went = part-went (Did (exchanged x) ∷ Did (timed moment) ∷ Met (GivesBad host (bad_until moment j.config.period)) ∷ [])
+          (entry caller (GiveBad host number (bad_until moment j.config.period)) Given ∷ [])
+          (record {
+            reach = (c, first, tt, (to, second, tt, refl));
+            serves = λ past taken. (refl, (refl, tt, refl, tt));
+            moments = (moment ∷ [], [], (moment, within, refl, refl), refl, refl);
+            leaves = (tt, tt);
+            ran = tt;
+          })
+          did later (λ known. (may known, tt)) same_peers same_programs noted mine;
       station = still;
       keeper = record { faults = λ none. absurd (some-entry x [] none); overruns = overruns };
     }
 
--- one deed that takes no slot: its acts are that deed alone
-pub only-run : {h : ℕ} {l : Limits h} {j : Job} {caller number : ℕ} {a b : World} {at to : At} (x : Run)
-    → DidIn a.kit b.kit (ran x ∷ []) → KitLater a.kit b.kit → b.programs x.words x.input x.ran → SameRelation a.peers b.peers
+-- a deed that takes no slot: a run that the programs may make, a fetch or a put
+abbrev pub MayDo : Programs → Deed → Type 0
+MayDo programs (ran x) = programs x.words x.input x.ran
+MayDo programs (fetched x) = Unit {0}
+MayDo programs (put x) = Unit {0}
+MayDo programs deed = ⊥
+
+-- such a deed alone is a part with no calls, and peers gave nothing for it
+deed-part : {h : ℕ} (l : Limits h) (j : Job) (caller number : ℕ) (peers : Peers) (programs : Programs) (at to : At) (deed : Deed)
+    → MayDo programs deed → Next j at (Did deed) to → IsStrict (Did deed) at to
+    → IsPart j l caller number programs at to (Did deed ∷ []) [] × MayAll peers (exchanges_in (deed ∷ []))
+deed-part l j caller number peers programs at to (ran x) may next strict =
+    (record { reach = (to, next, strict, refl); serves = λ past taken. tt; moments = refl; leaves = tt; ran = (may, tt) }, tt)
+deed-part l j caller number peers programs at to (fetched x) may next strict =
+    (record { reach = (to, next, strict, refl); serves = λ past taken. tt; moments = refl; leaves = tt; ran = tt }, tt)
+deed-part l j caller number peers programs at to (put x) may next strict =
+    (record { reach = (to, next, strict, refl); serves = λ past taken. tt; moments = refl; leaves = tt; ran = tt }, tt)
+deed-part l j caller number peers programs at to (exchanged x) may next strict = absurd may
+deed-part l j caller number peers programs at to (timed moment) may next strict = absurd may
+
+pub only-deed : {h : ℕ} {l : Limits h} {j : Job} {caller number : ℕ} {a b : World} {at to : At} (deed : Deed)
+    → DidIn a.kit b.kit (deed ∷ []) → KitLater a.kit b.kit → MayDo b.programs deed → SameRelation a.peers b.peers
     → SameRelation3 a.programs b.programs
-    → Noted a.events a.places (Did (ran x) ∷ []) b.events b.places → b.mine ≡ a.mine → Next j at (Did (ran x)) to
-    → IsStrict (Did (ran x)) at to
+    → Noted a.events a.places (Did deed ∷ []) b.events b.places → b.mine ≡ a.mine → Next j at (Did deed) to → IsStrict (Did deed) at to
     → Went j l caller number a b at to
-only-run {l = l} {j = j} {caller = caller} {number = number} {a = a} {b = b} {at = at} {to = to} x did later may same_peers same_programs
-    noted mine first strict = record {
-      acts = Did (ran x) ∷ [];
-      calls = [];
-      did = did;
-      named = noted.0;
-      grown = noted.1;
-      reach = (to, first, strict, refl);
-      mine = mine ∙ sym (append-nil a.mine);
-      serves = λ past taken. tt;
-      moments = refl;
-      leaves = tt;
-      later = later;
-      may = λ known. tt;
-      ran = (may, tt);
-      same_peers = same_peers;
-      same_programs = same_programs;
-    }
-
-pub only-fetch : {h : ℕ} {l : Limits h} {j : Job} {caller number : ℕ} {a b : World} {at to : At} (x : Fetch)
-    → DidIn a.kit b.kit (fetched x ∷ []) → KitLater a.kit b.kit → SameRelation a.peers b.peers → SameRelation3 a.programs b.programs
-    → Noted a.events a.places (Did (fetched x) ∷ []) b.events b.places → b.mine ≡ a.mine → Next j at (Did (fetched x)) to
-    → length x.bytes ≤ 41943040
-    → Went j l caller number a b at to
-only-fetch {l = l} {j = j} {caller = caller} {number = number} {a = a} {b = b} {at = at} {to = to} x did later same_peers same_programs
-    noted mine first within = record {
-      acts = Did (fetched x) ∷ [];
-      calls = [];
-      did = did;
-      named = noted.0;
-      grown = noted.1;
-      reach = (to, first, within, refl);
-      mine = mine ∙ sym (append-nil a.mine);
-      serves = λ past taken. tt;
-      moments = refl;
-      leaves = tt;
-      later = later;
-      may = λ known. tt;
-      ran = tt;
-      same_peers = same_peers;
-      same_programs = same_programs;
-    }
-
-pub only-put : {h : ℕ} {l : Limits h} {j : Job} {caller number : ℕ} {a b : World} {at to : At} (x : Put)
-    → DidIn a.kit b.kit (put x ∷ []) → KitLater a.kit b.kit → SameRelation a.peers b.peers → SameRelation3 a.programs b.programs
-    → Noted a.events a.places (Did (put x) ∷ []) b.events b.places → b.mine ≡ a.mine → Next j at (Did (put x)) to
-    → Went j l caller number a b at to
-only-put {l = l} {j = j} {caller = caller} {number = number} {a = a} {b = b} {at = at} {to = to} x did later same_peers same_programs noted
-    mine first = record {
-      acts = Did (put x) ∷ [];
-      calls = [];
-      did = did;
-      named = noted.0;
-      grown = noted.1;
-      reach = (to, first, tt, refl);
-      mine = mine ∙ sym (append-nil a.mine);
-      serves = λ past taken. tt;
-      moments = refl;
-      leaves = tt;
-      later = later;
-      may = λ known. tt;
-      ran = tt;
-      same_peers = same_peers;
-      same_programs = same_programs;
-    }
+only-deed {l = l} {j = j} {caller = caller} {number = number} {a = a} {b = b} {at = at} {to = to} deed did later may same_peers
+    same_programs noted mine next strict =
+    let part = deed-part l j caller number b.peers b.programs at to deed may next strict in
+    part-went (Did deed ∷ []) [] part.0 did later (λ known. part.1) same_peers same_programs noted (mine ∙ sym (append-nil a.mine))
 
 -- nothing that is an act
 pub no-act : {h : ℕ} {l : Limits h} {j : Job} {caller number : ℕ} {a b : World} {at : At}
     → DidIn a.kit b.kit [] → KitLater a.kit b.kit → SameRelation a.peers b.peers → SameRelation3 a.programs b.programs
     → Noted a.events a.places [] b.events b.places → b.mine ≡ a.mine
     → Went j l caller number a b at at
-no-act {l = l} {j = j} {caller = caller} {number = number} {a = a} {b = b} {at = at} did later same_peers same_programs noted mine = record {
-  acts = [];
-  calls = [];
-  did = did;
-  named = noted.0;
-  grown = noted.1;
-  reach = refl;
-  mine = mine ∙ sym (append-nil a.mine);
-  serves = λ past taken. tt;
-  moments = refl;
-  leaves = tt;
-  later = later;
-  may = λ known. tt;
-  ran = tt;
-  same_peers = same_peers;
-  same_programs = same_programs;
-}
+no-act {a = a} did later same_peers same_programs noted mine =
+    part-went [] [] (record { reach = refl; serves = λ past taken. tt; moments = refl; leaves = tt; ran = tt }) did later (λ known. tt)
+    same_peers same_programs noted (mine ∙ sym (append-nil a.mine))
 
 pub same_peers : (p : Peers) → SameRelation p p
 same_peers p = record { kept = λ x y h. h; back = λ x y h. h }

@@ -1,5 +1,6 @@
 -- The class of a command that may be sent, and the names of its files.
-use Rattle.std.proofs.Common.{◌≡◌, ℕ, zero, suc, ◌-◌, ◌<◌, Bool, true, false, if◌then◌else◌, List, [], ◌∷◌, ◌++◌, length, take, drop, take-append-drop, Option, None, Some, nat_eq, nat_lt, refl, sym, ap, ◌∙◌, subst, arith, append_assoc}
+use Rattle.std.proofs.Common.{◌≡◌, ℕ, zero, suc, ◌-◌, ◌<◌, Bool, true, false, if◌then◌else◌, List, [], ◌∷◌, ◌++◌, length, take, drop}
+use Rattle.std.proofs.Common.{take-append-drop, Option, None, Some, nat_eq, nat_lt, refl, sym, ap, ◌∙◌, subst, arith, append_assoc}
 use Rattle.std.specs.Prelude.{IsTrue, codes, bytes_eq, unwrap_or}
 use Rattle.std.specs.List.{slice_get, list_any, find, starts_with, ends_with}
 use Rattle.std.specs.Option.{option_or}

@@ -1,5 +1,6 @@
 -- Waits for slots, and what they leave outstanding.
-use Rattle.std.proofs.Common.{◌≡◌, ℕ, ◌+◌, ◌*◌, ◌<◌, ◌≤◌, Bool, true, false, ◌||◌, cond, List, [], ◌∷◌, ◌++◌, Some, None, map, replicate, refl, sym, ap, ◌∙◌, append_assoc, arith, true≢false}
+use Rattle.std.proofs.Common.{◌≡◌, ℕ, ◌+◌, ◌*◌, ◌<◌, ◌≤◌, Bool, true, false, ◌||◌, cond, List, [], ◌∷◌, ◌++◌, Some, None, map, replicate}
+use Rattle.std.proofs.Common.{refl, sym, ap, ◌∙◌, append_assoc, arith, true≢false}
 use Rattle.std.proofs.lemmas.List.{replicate_more, map-append}
 use Rattle.slot_table.specs.declared.mask.Mask.{Mask}
 use Rattle.slot_table.specs.declared.calls.CallEntry.{CallEntry}

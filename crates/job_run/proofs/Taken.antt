@@ -1,5 +1,6 @@
 -- Which hosts a job took a slot of, at each place of its course.
-use Rattle.std.proofs.Common.{◌≡◌, ◌⊎◌, inl, inr, ℕ, ◌+◌, Bool, true, false, ◌&&◌, ◌||◌, cond, List, [], ◌∷◌, ◌++◌, length, nat_eq, nat_lt, refl, sym, ap, ◌∙◌, subst, append_assoc}
+use Rattle.std.proofs.Common.{◌≡◌, ◌⊎◌, inl, inr, ℕ, ◌+◌, Bool, true, false, ◌&&◌, ◌||◌, cond, List, [], ◌∷◌, ◌++◌, length, nat_eq}
+use Rattle.std.proofs.Common.{nat_lt, refl, sym, ap, ◌∙◌, subst, append_assoc}
 use Rattle.std.proofs.lemmas.List.{append-nil}
 use Rattle.farm_types.specs.declared.ran.Ran.{Ran}
 use Rattle.farm_types.specs.declared.ran.Outcome.{Outcome}
@@ -11,7 +12,9 @@ use Rattle.farm_machine.specs.declared.reports.End.{End}
 use Rattle.farm_machine.specs.declared.reports.End.TheVariants.{Done, Failed}
 use Rattle.farm_machine.specs.Acts.{SlotEvent, Takes, Gives, GivesBad, FindsDown, TakesLocal, GivesLocal, Act, Did, Met, slots_of, took}
 use Rattle.farm_machine.specs.Jobs.{Job}
-use Rattle.farm_machine.specs.Course.{At, Start, LentInPlace, RanInPlace, Send, Lent, RanThere, Sent, Locally, LentHere, RanHere, Finish, Over, outcome_of, after_preprocessor, or_here, after_broken, after_whole, Tried, is_tried, tried_too, no_host, Next}
+use Rattle.farm_machine.specs.Course.{At, Start, LentInPlace, RanInPlace, Send, Lent, RanThere, Sent, Locally, LentHere, RanHere, Finish}
+use Rattle.farm_machine.specs.Course.{Over, outcome_of, after_preprocessor, or_here, after_broken, after_whole, Tried, is_tried}
+use Rattle.farm_machine.specs.Course.{tried_too, no_host, Next}
 use Rattle.job_run.specs.Strict.{StrictReach}
 use Rattle.job_run.specs.Worlds.{HasTaken}
 

@@ -1,8 +1,12 @@
 -- A job that ran over a kit and the slots that it was granted.
-use Rattle.std.specs.Prelude.{◌≡◌, ◌≢◌, ℕ, ◌≤◌, true, IsTrue, List, [], ◌++◌, All}
+use Rattle.std.specs.Prelude.{◌≡◌, ◌≢◌, ℕ, ◌+◌, ◌*◌, ◌<◌, ◌≤◌, Bool, true, IsTrue, List, [], ◌++◌, All, length}
+use Rattle.farm_types.specs.declared.jobs.JobConfig.{JobConfig}
 use Rattle.slot_table.specs.declared.limits.Limits.{Limits}
 use Rattle.slot_table.specs.declared.calls.CallEntry.{CallEntry}
 use Rattle.slot_table.specs.declared.calls.SlotReply.TheVariants.{Down}
+use Rattle.slot_table.specs.Grants.{cost}
+use Rattle.slot_table.specs.History.{outstanding}
+use Rattle.edge_traits.specs.Keepers.{KeeperView, IsIdle}
 use Rattle.edge_traits.specs.Kits.{KitView}
 use Rattle.edge_traits.specs.Deeds.{exchanges_in, moments_in, DidIn, MayAll}
 use Rattle.farm_machine.specs.declared.reports.Event.{Event}
@@ -10,17 +14,17 @@ use Rattle.farm_machine.specs.declared.reports.End.{End}
 use Rattle.farm_machine.specs.declared.reports.Places.{Places}
 use Rattle.farm_machine.specs.Acts.{Act, slots_of, deeds_of}
 use Rattle.farm_machine.specs.Causes.{HasEndCause, StationStands, KitLater}
-use Rattle.farm_machine.specs.TableCourse.{IsOfTable}
 use Rattle.farm_machine.specs.Farm.{wanted}
 use Rattle.farm_machine.specs.Honest.{Peers, Programs, AllRan}
-use Rattle.farm_machine.specs.Jobs.{Job, source_name}
+use Rattle.farm_machine.specs.Jobs.{Job, AreLimitsOf, source_name}
 use Rattle.farm_machine.specs.Moments.{AreMoments}
 use Rattle.farm_machine.specs.Numbered.{numbered, advanced, untimed}
 use Rattle.farm_machine.specs.Own.{Serves}
 use Rattle.course_laws.specs.Answers.{AnswersBy}
 use Rattle.course_laws.specs.Returns.{IsCalm, is_done_or_wanted, NoneBroke}
 use Rattle.job_run.specs.Gives.{LeavesAlone}
-use Rattle.job_run.specs.Strict.{StrictCourse}
+use Rattle.job_run.specs.Courses.{IsJobCourse}
+use Rattle.job_run.specs.Seen.{IsAskable}
 use Rattle.job_run.specs.Stands.{KeeperStands, FetchEnds}
 
 -- no call was answered that all hosts are down
@@ -37,8 +41,7 @@ pub record JobRan {h : ℕ} (peers : Peers) (programs : Programs) (j : Job) (l :
   pub grown : next ≡ advanced at acts
   -- Without looks at the clock it is a course of the table with this end, in which each run and each fetch is within its bounds, and want
   -- of memory stands in place of no host's answer where something went wrong with the exchange.
-  pub course : IsOfTable j (untimed acts) end
-  pub strict : StrictCourse j (untimed acts) end
+  pub course : IsJobCourse j (untimed acts) end
   -- Its slot events are the new calls on the slots, with the refused takes before each, and the moments that these calls name are those
   -- that the clock gave. With a period a host is left alone after each exchange with which something went wrong, also where the job then
   -- ends for want of memory.
@@ -73,3 +76,29 @@ pub record AreSmall (at : Places) : Type 0 where
   pub fetches : at.fetches ≤ 4294967231
   pub exchanges : at.exchanges ≤ 4294967231
   pub puts : at.puts ≤ 4294967231
+
+-- The command has a word, the configuration's hosts may be asked, and the slots are theirs.
+pub record CanRun {h : ℕ} (words : List (List ℕ)) (config : JobConfig) (l : Limits h) : Type 0 where
+  pub word : 0 < length words
+  pub askable : IsAskable config
+  pub hosts : AreLimitsOf l config.hosts
+
+-- A job may begin: the slots are ready and none is held, a caller that is alone has room for 64 calls, the places are small, and no put is
+-- pending.
+pub record CanBegin {G : Type 0} (is_ready : G → Type 0) (alone : Bool) (spare_of : G → ℕ) (mine_of : G → List CallEntry) (grants : G)
+    (at : Places) (keeper : KeeperView) : Type 0 where
+  pub ready : is_ready grants
+  pub spare : 64 * cost alone ≤ spare_of grants
+  pub none : outstanding (mine_of grants) ≡ []
+  pub places : AreSmall at
+  pub pending : IsIdle keeper
+
+-- A job has returned: the slots are ready, follow what they were, and none is held. Of the calls that there is room for no more are spent
+-- than there are events, and no put is pending.
+pub record HasReturned {G : Type 0} (is_ready : G → Type 0) (alone : Bool) (spare_of : G → ℕ) (mine_of : G → List CallEntry)
+    (follows_from : G → G → Type 0) (old new : G) (keeper : KeeperView) : Type 0 where
+  pub ready : is_ready new
+  pub follows : follows_from old new
+  pub none : outstanding (mine_of new) ≡ []
+  pub spare : spare_of old ≤ spare_of new + 64 * cost alone
+  pub pending : IsIdle keeper

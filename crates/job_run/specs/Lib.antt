@@ -4,6 +4,7 @@ pub mod Worlds
 pub mod Waits
 pub mod Gives
 pub mod Strict
+pub mod Courses
 pub mod Stages
 pub mod Stands
 pub mod Events

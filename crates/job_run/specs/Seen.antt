@@ -4,6 +4,8 @@ use Rattle.farm_types.specs.declared.hosts.Host.{Host}
 use Rattle.farm_types.specs.declared.jobs.JobConfig.{JobConfig}
 use Rattle.farm_types.specs.declared.request.Request.{Request}
 use Rattle.farm_types.specs.Fits.{RequestFits}
+use Rattle.arg_scan.specs.Class.{input_place, plan_of}
+use Rattle.arg_scan.specs.Names.{is_preprocessed}
 use Rattle.arg_strip.specs.Words.{stripped}
 use Rattle.edge_traits.specs.declared.kit.Kit.{Kit}
 use Rattle.slot_table.specs.declared.calls.CallEntry.{CallEntry}
@@ -29,6 +31,11 @@ pub record IsAskable (config : JobConfig) : Type 0 where
   pub entries : length config.hosts.list ≤ 16
   pub some : 1 ≤ config.tries
   pub tries : config.tries ≤ 16
+
+-- the command's source is this word, and it is preprocessed already or not
+pub record HasSource (words : List (List ℕ)) (input : ℕ) (preprocessed : Bool) : Type 0 where
+  pub place : input ≡ input_place words
+  pub ending : preprocessed ≡ is_preprocessed (plan_of words).ending
 
 -- the request is the job's, and within its limits
 pub record IsSent (task : Task) (request : Request) : Type 0 where

@@ -1,13 +1,12 @@
--- Courses in which each run and each fetch is within its bounds, and want of memory hides no fault of an exchange.
+-- The walk of a job's acts, with each run and each fetch within its bounds, and want of memory that hides no fault of an exchange.
 use Rattle.std.specs.Prelude.{◌≡◌, ◌≤◌, List, [], ◌∷◌, length}
 use Rattle.edge_traits.specs.Deeds.{ran, fetched}
 use Rattle.edge_traits.specs.Stations.{IsWithin}
 use Rattle.child_runner.specs.Runs.{preprocessor_bounds, compile_bounds, in_place_bounds}
-use Rattle.farm_machine.specs.declared.reports.End.{End}
 use Rattle.farm_machine.specs.declared.reports.End.TheVariants.{Failed}
 use Rattle.farm_machine.specs.declared.reports.Why5.TheVariants.{Memory}
 use Rattle.farm_machine.specs.Acts.{Gives, Act, Did, Met}
-use Rattle.farm_machine.specs.Course.{At, Start, LentInPlace, Sent, Over, Next, Ends}
+use Rattle.farm_machine.specs.Course.{At, Start, LentInPlace, Sent, Over, Next}
 use Rattle.farm_machine.specs.Jobs.{Job}
 use Rattle.job_run.specs.Gives.{IsUnhurt}
 
@@ -26,11 +25,3 @@ IsStrict act at to = Unit {0}
 abbrev pub StrictReach : Job → At → List Act → At → Type 0
 StrictReach j at [] to = at ≡ to
 StrictReach j at (act ∷ acts) to = (next : At) × Next j at act next × IsStrict act at next × StrictReach j next acts to
-
--- from here a job may go on by these acts to this end so
-abbrev pub StrictFrom : Job → At → List Act → End → Type 0
-StrictFrom j at [] end = Ends j at end
-StrictFrom j at (act ∷ acts) end = (next : At) × Next j at act next × IsStrict act at next × StrictFrom j next acts end
-
-abbrev pub StrictCourse : Job → List Act → End → Type 0
-StrictCourse j acts end = StrictFrom j Start acts end

@@ -1,19 +1,16 @@
 //! The course of one job.
-ghost use Rattle.std.specs.Prelude.{◌≡◌, ℕ, ◌+◌, ◌*◌, ◌<◌, ◌≤◌, false, List, [], length, OnErr};
+ghost use Rattle.std.specs.Prelude.{◌≡◌, ℕ, ◌<◌, false, List, [], length, IfOk, OnErr};
 ghost use Rattle.farm_types.specs.declared.jobs.JobConfig.{JobConfig};
-ghost use Rattle.arg_scan.specs.Class.{input_place, plan_of};
-ghost use Rattle.arg_scan.specs.Names.{is_preprocessed};
+ghost use Rattle.arg_strip.specs.Words.{stripped};
 ghost use Rattle.edge_traits.specs.Keepers.{IsIdle};
 ghost use Rattle.edge_traits.specs.Kits.{kit_view};
 ghost use Rattle.edge_traits.specs.Told.{SameRelation, SameRelation3};
-ghost use Rattle.slot_table.specs.History.{outstanding};
-ghost use Rattle.slot_table.specs.Grants.{cost};
 ghost use Rattle.farm_machine.specs.Course.{Start, Send};
 ghost use Rattle.farm_machine.specs.Devices.{devices};
 ghost use Rattle.farm_machine.specs.Jobs.{job_of, may_be_sent, AreLimitsOf};
 ghost use Rattle.job_run.specs.Events.{local_events, compile_events, sent_events};
-ghost use Rattle.job_run.specs.JobRuns.{JobRan, AreSmall};
-ghost use Rattle.job_run.specs.Seen.{seen, job_in, IsFree, StaysFree, IsAskable};
+ghost use Rattle.job_run.specs.JobRuns.{JobRan, CanRun, CanBegin, HasReturned};
+ghost use Rattle.job_run.specs.Seen.{seen, job_in, IsFree, StaysFree, HasSource};
 ghost use Rattle.job_run.specs.Stages.{CompiledIs};
 ghost use Rattle.job_run.specs.Worlds.{Ended};
 
@@ -24,16 +21,16 @@ use crate::local_fallback::compile_here;
 use crate::preparing::{Prepared, prepare};
 use crate::sending::ask_if_fits;
 use crate::step::{Step, done_in_place, why_not_run};
-use crate::task::Task;
+use crate::task::{Command, Task};
 use crate::waiting::borrow_local;
 use arg_scan::{Scan, scan};
-use arg_strip::strip;
+use arg_strip::strip_to;
 use child_runner::in_place;
 use edge_traits::{Clock, Dialer, Keeper, Kit, Station};
 use farm_machine::{By, End, Event, EventList, Places, Report, Why5};
 use farm_types::{Bytes, JobConfig, Outcome, Request, Words};
 use slot_table::Grants;
-use std::alloc::Global;
+use std::alloc::{AllocError, Global};
 use std::sync::Wait;
 
 /// Runs a command that stays here, in a local slot.
@@ -75,6 +72,13 @@ fn run_in_place<R: Wait, D: Dialer, S: Station, K: Keeper, C: Clock, G: Grants>(
     }
 }
 
+/// The words that are sent for the job, whose output is named already.
+fn words_to_send(task: &Task<'_>) -> Result<Words, AllocError>
+    ensures { IfOk result (λ sent. sent ≡ stripped task.now.words.now) }
+{
+    strip_to(task.alloc, task.words, task.output.copy()?)
+}
+
 /// Compiles a source elsewhere, or here.
 fn compile_source<R: Wait, D: Dialer, S: Station, K: Keeper, C: Clock, G: Grants>(
     rt: &R,
@@ -95,7 +99,7 @@ fn compile_source<R: Wait, D: Dialer, S: Station, K: Keeper, C: Clock, G: Grants
         (seen (devices D.shows S.shows K.shows C.shows D.may_give S.ran) kit.new (G.mine grants.new) journal.new)
         (Send source note []) note result }
 {
-    let Ok(sent) = strip(task.alloc, task.words) else {
+    let Ok(sent) = words_to_send(task) else {
         return Err(Why5::Memory);
     };
     let request = Request {
@@ -122,8 +126,7 @@ fn run_remote<R: Wait, D: Dialer, S: Station, K: Keeper, C: Clock, G: Grants>(
     kit: &mut Kit<D, S, K, C>,
     journal: &mut Journal,
 ) -> End
-    requires input { input ≡ input_place task.now.words.now }
-    requires preprocessed { preprocessed ≡ is_preprocessed (plan_of task.now.words.now).ending }
+    requires source { HasSource task.now.words.now input preprocessed }
     requires hosts { AreLimitsOf (G.limits grants.old) task.now.config.now.hosts }
     requires idle { IsIdle (K.shows kit.old.keeper) }
     requires free { IsFree G.ready G.alone G.spare G.mine grants.old journal.old.left sent_events }
@@ -148,27 +151,29 @@ fn run_remote<R: Wait, D: Dialer, S: Station, K: Keeper, C: Clock, G: Grants>(
 /// Does a job by its class.
 fn run_class<R: Wait, D: Dialer, S: Station, K: Keeper, C: Clock, G: Grants>(
     rt: &R,
-    alloc: Global,
-    words: &Words,
-    number: u32,
-    config: &JobConfig,
+    command: &Command<'_>,
     grants: &mut G,
     kit: &mut Kit<D, S, K, C>,
     journal: &mut Journal,
 ) -> End
-    requires word { 0 < length words.now }
-    requires config { IsAskable config.now }
-    requires hosts { AreLimitsOf (G.limits grants.old) config.now.hosts }
+    requires hosts { AreLimitsOf (G.limits grants.old) command.now.config.now.hosts }
     requires idle { IsIdle (K.shows kit.old.keeper) }
     requires free { IsFree G.ready G.alone G.spare G.mine grants.old journal.old.left sent_events }
     ensures free { StaysFree G.ready G.alone G.spare G.mine grants.old grants.new journal.old.left journal.new.left sent_events }
     ensures follows { G.follows grants.old grants.new }
     ensures idle { IsIdle (K.shows kit.new.keeper) }
-    ensures ended { Ended (job_of words.now config.now) (G.limits grants.old) (G.caller_number grants.old) number
+    ensures ended { Ended (job_of command.now.words.now command.now.config.now) (G.limits grants.old) (G.caller_number grants.old)
+        command.now.number
         (seen (devices D.shows S.shows K.shows C.shows D.may_give S.ran) kit.old (G.mine grants.old) journal.old)
         (seen (devices D.shows S.shows K.shows C.shows D.may_give S.ran) kit.new (G.mine grants.new) journal.new)
         Start result }
 {
+    let Command {
+        alloc,
+        words,
+        number,
+        config,
+    } = *command;
     match scan(alloc, words) {
         Scan::Remote {
             input,
@@ -208,16 +213,8 @@ pub fn run_job<R: Wait, D: Dialer, S: Station, K: Keeper, C: Clock, G: Grants>(
     places: &mut Places,
     room: EventRoom,
 ) -> Report
-    requires word { 0 < length words.now }
-    requires hosts { AreLimitsOf (G.limits grants.old) config.now.hosts }
-    requires entries { length config.now.hosts.list ≤ 16 }
-    requires some { 1 ≤ config.now.tries }
-    requires tries { config.now.tries ≤ 16 }
-    requires ready { G.ready grants.old }
-    requires spare { 64 * cost G.alone ≤ G.spare grants.old }
-    requires none { outstanding (G.mine grants.old) ≡ [] }
-    requires places { AreSmall places.old }
-    requires pending { IsIdle (K.shows kit.old.keeper) }
+    requires job { CanRun words.now config.now (G.limits grants.old) }
+    requires begins { CanBegin G.ready G.alone G.spare G.mine grants.old places.old (K.shows kit.old.keeper) }
     ensures number { result.number ≡ number }
     ensures worker { result.worker ≡ G.caller_number grants.old }
     ensures ran { JobRan (D.may_give kit.new.dialer) (S.ran kit.new.station) (job_of words.now config.now)
@@ -225,20 +222,20 @@ pub fn run_job<R: Wait, D: Dialer, S: Station, K: Keeper, C: Clock, G: Grants>(
         (G.mine grants.old) (G.mine grants.new)
         (kit_view D.shows S.shows K.shows C.shows kit.old)
         (kit_view D.shows S.shows K.shows C.shows kit.new) }
+    ensures returned { HasReturned G.ready G.alone G.spare G.mine G.follows grants.old grants.new (K.shows kit.new.keeper) }
 
-    // No put is pending, every slot is given back, and of the calls that there is room for no more are spent than there are events.
-    ensures pending { IsIdle (K.shows kit.new.keeper) }
-    ensures none { outstanding (G.mine grants.new) ≡ [] }
-    ensures spare { G.spare grants.old ≤ G.spare grants.new + 64 * cost G.alone }
-
-    // What is the same for all jobs stays so.
-    ensures ready { G.ready grants.new }
-    ensures follows { G.follows grants.old grants.new }
+    // What the dialer's peers may give and the station's programs leave stays the same.
     ensures peers { SameRelation (D.may_give kit.old.dialer) (D.may_give kit.new.dialer) }
     ensures programs { SameRelation3 (S.ran kit.old.station) (S.ran kit.new.station) }
 {
     let mut journal = Journal::open(room, *places);
-    let end = run_class(rt, alloc, words, number, config, grants, kit, &mut journal);
+    let command = Command {
+        alloc,
+        words,
+        number,
+        config,
+    };
+    let end = run_class(rt, &command, grants, kit, &mut journal);
     *places = journal.places;
     Report {
         number,

@@ -1,7 +1,7 @@
 // The source of a job whose command may be sent.
 ghost use Rattle.std.specs.Prelude.{◌≡◌, ℕ, ◌+◌, ◌<◌, ◌≤◌, true, false, List, length};
 ghost use Rattle.farm_types.specs.declared.jobs.JobConfig.{JobConfig};
-ghost use Rattle.arg_scan.specs.Class.{IsRemote, input_place, plan_of};
+ghost use Rattle.arg_scan.specs.Class.{IsRemote, plan_of};
 ghost use Rattle.arg_scan.specs.Names.{is_preprocessed};
 ghost use Rattle.arg_scan.specs.Roles.{word_at};
 ghost use Rattle.edge_traits.specs.FileMaps.{IsStaged};
@@ -11,7 +11,7 @@ ghost use Rattle.slot_table.specs.declared.calls.CallEntry.{CallEntry};
 ghost use Rattle.farm_machine.specs.Devices.{devices};
 ghost use Rattle.farm_machine.specs.Jobs.{Job, job_of, may_be_sent, is_source_ready, source_name};
 ghost use Rattle.job_run.specs.Stages.{PreparedIs, FetchedIs};
-ghost use Rattle.job_run.specs.Seen.{seen};
+ghost use Rattle.job_run.specs.Seen.{seen, HasSource};
 
 use crate::journal::Journal;
 use crate::step::{done_by_preprocessor, why_not_fetched, why_not_run};
@@ -116,8 +116,7 @@ pub(crate) fn prepare<D: Dialer, S: Station, K: Keeper, C: Clock>(
     journal: &mut Journal,
 ) -> Prepared
     requires remote { IsRemote words.now }
-    requires input { input ≡ input_place words.now }
-    requires preprocessed { preprocessed ≡ is_preprocessed (plan_of words.now).ending }
+    requires source { HasSource words.now input preprocessed }
     requires idle { IsIdle (K.shows kit.old.keeper) }
     requires left { 1 ≤ journal.old.left }
     ensures left { journal.old.left ≤ journal.new.left + 1 }

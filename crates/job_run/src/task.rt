@@ -1,10 +1,23 @@
-// A job whose command may be sent, as its parts see it.
-ghost use Rattle.std.specs.Prelude.{◌≡◌, ◌≤◌, length};
+// A job as its parts see it.
+ghost use Rattle.std.specs.Prelude.{◌≡◌, ◌<◌, ◌≤◌, length};
 ghost use Rattle.arg_scan.specs.Class.{IsRemote};
 ghost use Rattle.arg_strip.specs.Words.{output_of};
 
 use farm_types::{Bytes, JobConfig, Words};
 use std::alloc::Global;
+
+/// What stays the same through a job.
+#[derive(Drop)]
+pub(crate) struct Command<'a> {
+    pub(crate) alloc: Global,
+    pub(crate) words: &'a Words,
+    pub(crate) number: u32,
+    pub(crate) config: &'a JobConfig,
+    pub(crate) ghost word: { 0 < length words.now },
+    pub(crate) ghost entries: { length config.now.hosts.list ≤ 16 },
+    pub(crate) ghost some: { 1 ≤ config.now.tries },
+    pub(crate) ghost tries: { config.now.tries ≤ 16 },
+}
 
 /// What stays the same through a job whose command may be sent.
 #[derive(Drop)]

@@ -1,10 +1,10 @@
 // Waits for slots. Each refused take is followed by a pause, so that others can give theirs back.
-ghost use Rattle.std.specs.Prelude.{◌≡◌, ℕ, ◌+◌, ◌≤◌, List, [], ◌∷◌, ◌++◌, Some, None, IfSome, map};
+ghost use Rattle.std.specs.Prelude.{◌≡◌, ℕ, List, [], ◌∷◌, ◌++◌, Some, None, IfSome, map};
 ghost use Rattle.edge_traits.specs.Told.{Grew};
 ghost use Rattle.slot_table.specs.History.{holding, outstanding};
-ghost use Rattle.slot_table.specs.Grants.{cost, host_of, job_of, local_job_of};
+ghost use Rattle.slot_table.specs.Grants.{host_of, job_of, local_job_of};
 ghost use Rattle.slot_table.specs.Mask.{in_mask};
-ghost use Rattle.job_run.specs.Waits.{borrowed, asked, answered, held_then, IsEntry};
+ghost use Rattle.job_run.specs.Waits.{borrowed, asked, answered, held_then, IsEntry, CanWait, HasWaited};
 
 use edge_traits::Clock;
 use slot_table::{Grant, Grants, LocalGrant, Mask, Take};
@@ -17,12 +17,8 @@ pub(crate) fn borrow_local<R: Wait, G: Grants, C: Clock>(
     grants: &mut G,
     clock: &mut C,
 ) -> LocalGrant
-    requires ready { G.ready grants.old }
-    requires spare { cost G.alone ≤ G.spare grants.old }
-    requires none { outstanding (G.mine grants.old) ≡ [] }
-    ensures ready { G.ready grants.new }
-    ensures follows { G.follows grants.old grants.new }
-    ensures spare { G.spare grants.new + cost G.alone ≡ G.spare grants.old }
+    requires free { CanWait G.ready G.alone G.spare G.mine grants.old }
+    ensures waited { HasWaited G.ready G.alone G.spare G.follows grants.old grants.new }
     ensures mine { (refused : ℕ) × (G.mine grants.new ≡ G.mine grants.old ++ borrowed (G.caller_number grants.old) number refused) }
     ensures job { local_job_of result ≡ number }
     ensures out { outstanding (G.mine grants.new) ≡ holding (G.caller_number grants.new) number None ∷ [] }
@@ -45,12 +41,8 @@ pub(crate) fn borrow_host<R: Wait, G: Grants, C: Clock>(
     grants: &mut G,
     clock: &mut C,
 ) -> Option<Grant>
-    requires ready { G.ready grants.old }
-    requires spare { cost G.alone ≤ G.spare grants.old }
-    requires none { outstanding (G.mine grants.old) ≡ [] }
-    ensures ready { G.ready grants.new }
-    ensures follows { G.follows grants.old grants.new }
-    ensures spare { G.spare grants.new + cost G.alone ≡ G.spare grants.old }
+    requires free { CanWait G.ready G.alone G.spare G.mine grants.old }
+    ensures waited { HasWaited G.ready G.alone G.spare G.follows grants.old grants.new }
     ensures mine { (refused : List ℕ) × (now : ℕ)
         × (G.mine grants.new ≡ G.mine grants.old ++ asked (G.caller_number grants.old) number mask refused now (answered result))
         × Grew (C.shows clock.old).moments (C.shows clock.new).moments (refused ++ now ∷ []) }

@@ -23,7 +23,8 @@ all_told {old = old} {more = more} none grew k = grew.grew k ∙ ap (λ xs. xs +
 
 module _ (may : List ℕ → List ℕ → Type 0) (old dialed new : Told (List Exchange)) (first last : LinkView)
     (none : Grew old dialed []) (one : Grew dialed new (hung last ∷ [])) (told : IsToldOf may new last) (fresh : IsNew first) where
-  added : (holds : Exchange → Type 0) → Passed first last holds → Adds may old new holds
+  -- the entry of which what passed says this
+  pub added : (holds : Exchange → Type 0) → Passed first last holds → Adds may old new holds
   added holds passed =
       let is_entry = λ (k : IsTrue new.known). ap (λ s. entry_of last s last.given.value) (all_told fresh.sent passed.grew_sent (told.sent k)) ∙ ap (λ s. entry_of last passed.sent s) (all_told fresh.given passed.grew_given (told.given k)) in
       record {

@@ -12,8 +12,8 @@ use Rattle.edge_traits.specs.Links.{LinkView}
 use Rattle.edge_traits.proofs.ToldLemmas.{Grew-then, Grew-still, Grew-refl}
 use Rattle.reply_stream.specs.declared.answers.Span.{Span}
 use Rattle.reply_stream.specs.declared.answers.Part.TheVariants.{More, Whole}
-use Rattle.reply_stream.specs.Objects.{with_object, spanned, IsSpan}
-use Rattle.reply_stream.specs.Reader.{Place, reading, refused, spent, IsAt, IsSpent, Uses, Says, Leaves}
+use Rattle.reply_stream.specs.Objects.{with_object, spanned, IsSpan, object_so_far}
+use Rattle.reply_stream.specs.Reader.{Place, reading, refused, spent, IsAt, IsSpent, Uses, Says, Joins, Leaves}
 use Rattle.remote_transfer.specs.declared.answers.Stop.{Stop}
 use Rattle.remote_transfer.specs.declared.answers.Stop.TheVariants.{Broke, Memory}
 use Rattle.remote_transfer.specs.Links.{Given, ReplyIs}
@@ -45,11 +45,15 @@ spanned-front span n room s =
 
 pub comes-more : (before after : Place) (n used : ℕ) (room : List ℕ) (span : Span) → Uses (take n room) (More used span)
     → ((text object : List ℕ) → IsAt before text object → Says text object (take n room) (More used span))
+    → ((text object : List ℕ) → IsAt before text object → Joins text object (take n room) (More used span))
     → ((text object : List ℕ) → IsAt before text object → Leaves text object (take n room) (More used span) after)
     → (text object : List ℕ) → IsAt before text object → Comes (text ++ take n room) (object ++ spanned span room) after None
-comes-more before after n used room span uses says leaves text object at =
-    let same = spanned-front span n room (span_fits span used n room uses.1 (omega (arith, uses.0))) in
-    (says text object at, subst (λ (x : List ℕ). IsAt after (text ++ take n room) (object ++ x)) same (leaves text object at))
+comes-more before after n used room span uses says joined leaves text object at =
+    let same = spanned-front span n room (span_fits span used n room uses.1 (omega (arith, uses.0))) in (
+      says text object at,
+      subst (λ (x : List ℕ). IsAt after (text ++ take n room) (object ++ x)) same (leaves text object at),
+      subst (λ (x : List ℕ). object ++ x ≡ object_so_far (text ++ take n room)) same (joined text object at),
+    )
 
 pub comes-whole : (before after : Place) (n used : ℕ) (room : List ℕ) (span : Span) (o : Outcome) → Uses (take n room) (Whole used span o)
     → ((text object : List ℕ) → IsAt before text object → Says text object (take n room) (Whole used span o))
@@ -70,8 +74,9 @@ pub record Receiving (old now : LinkView) (place : Place) (have : ℕ) (object :
   pub ended : now.ended ≡ old.ended
   pub still : Still old.faults now.faults
 
-pub receiving-begins : (link : LinkView) (place : Place) → IsAt place [] [] → Receiving link link place 0 []
-receiving-begins link place at = record { text = []; grew = Grew-refl link.given; at = at; long = refl; short = empty_is_short; ended = refl; still = refl }
+unfoldable pub receiving-begins : (link : LinkView) (place : Place) → IsAt place [] [] → Receiving link link place 0 []
+receiving-begins link place at =
+    record { text = []; grew = Grew-refl link.given; at = at; long = refl; short = empty_is_short; ended = refl; still = refl }
 
 pub receiving-small : (old now : LinkView) (place : Place) (have : ℕ) (object : List ℕ) → Receiving old now place have object → have ≤ 35651643
 receiving-small old now place have object r = let small = short_len r.text r.short in omega (arith, r.long)
@@ -79,7 +84,7 @@ receiving-small old now place have object r = let small = short_len r.text r.sho
 pub receiving-fresh : (old now : LinkView) (place : Place) (have : ℕ) (object : List ℕ) → Receiving old now place have object → IsSpent place → ⊥
 receiving-fresh old now place have object r = not_spent place r.text object r.at
 
-pub receiving-more : (old mid new : LinkView) (before after : Place) (have count : ℕ) (object bytes : List ℕ) → Receiving old mid before have object → PieceRead mid new before after count bytes None → Receiving old new after (have + count) (object ++ bytes)
+unfoldable pub receiving-more : (old mid new : LinkView) (before after : Place) (have count : ℕ) (object bytes : List ℕ) → Receiving old mid before have object → PieceRead mid new before after count bytes None → Receiving old new after (have + count) (object ++ bytes)
 receiving-more old mid new before after have count object bytes r p =
     let z = p.read r.text object r.at in
     record {
@@ -98,10 +103,10 @@ receiving-whole old mid new before after have count object bytes o r p =
     let z = p.read r.text object r.at in
     (z.0, record { bytes = r.text ++ p.piece; grew = Grew-then r.grew p.grew; is = (z.1, p.ended ∙ r.ended, p.still ∙ r.still) })
 
-pub receiving-memory : (old mid new : LinkView) (piece : List ℕ) (before : Place) (have : ℕ) (object : List ℕ) → Receiving old mid before have object → Grew mid.given new.given piece → new.ended ≡ mid.ended → Still mid.faults new.faults → Given (ReplyIs (Err Memory) old new) old.given new.given
+unfoldable pub receiving-memory : (old mid new : LinkView) (piece : List ℕ) (before : Place) (have : ℕ) (object : List ℕ) → Receiving old mid before have object → Grew mid.given new.given piece → new.ended ≡ mid.ended → Still mid.faults new.faults → Given (ReplyIs (Err Memory) old new) old.given new.given
 receiving-memory old mid new piece before have object r grew ended still = record { bytes = r.text ++ piece; grew = Grew-then r.grew grew; is = (ended ∙ r.ended, still ∙ r.still) }
 
-pub receiving-stops : (old mid new : LinkView) (before : Place) (have : ℕ) (object : List ℕ) (stop : Stop) → Receiving old mid before have object → PieceStops have before mid new stop → Given (ReplyIs (Err stop) old new) old.given new.given
+unfoldable pub receiving-stops : (old mid new : LinkView) (before : Place) (have : ℕ) (object : List ℕ) (stop : Stop) → Receiving old mid before have object → PieceStops have before mid new stop → Given (ReplyIs (Err stop) old new) old.given new.given
 receiving-stops old mid new before have object (Broke Dial) r s = absurd s
 receiving-stops old mid new before have object (Broke Send) r s = absurd s
 receiving-stops old mid new before have object (Broke Recv) r s = record { bytes = r.text; grew = Grew-still r.grew s.0; is = (r.short, omega (arith, s.1, r.still), s.2 ∙ r.ended) }

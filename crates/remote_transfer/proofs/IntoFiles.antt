@@ -1,24 +1,29 @@
 -- The object of a reply on its way into a file.
-use Rattle.std.proofs.Common.{◌≡◌, ℕ, ◌+◌, ◌<◌, ◌≤◌, List, [], ◌++◌, length, refl, ap, sym, subst, ◌∙◌, arith, append-nil, length-append, rules}
-use Rattle.std.specs.Prelude.{◌≢◌, Result, Ok, Err, IfOk, IfErr, Option, Some, None, IsSome}
-use Rattle.edge_traits.specs.Keepers.{PendingPut, KeeperView, IsPending, IsPutOf, HasPending}
+use Rattle.std.proofs.Common.{inl, inr, ◌≡◌, ℕ, ◌+◌, ◌<◌, ◌≤◌, List, [], ◌++◌, length, refl, ap, sym, subst, ◌∙◌, arith, append-nil, length-append, rules}
+use Rattle.std.specs.Prelude.{◌≢◌, ◌⊎◌, Result, Ok, Err, IfOk, IfErr, Option, Some, None, IsSome}
+use Rattle.edge_traits.specs.Keepers.{PendingPut, KeeperView, IsIdle, IsPending, IsPutOf, HasPending}
+use Rattle.edge_traits.specs.Causes.{Still}
 use Rattle.edge_traits.proofs.ToldLemmas.{Grew-then}
 use Rattle.edge_traits.proofs.Putting.{is-there}
 use Rattle.edge_traits.specs.Links.{LinkView}
-use Rattle.reply_stream.specs.Reader.{Place}
+use Rattle.edge_traits.specs.Told.{Told}
+use Rattle.edge_traits.specs.declared.entries.Exchange.{Exchange}
+use Rattle.reply_stream.specs.Reader.{Place, IsAt}
+use Rattle.reply_stream.specs.Objects.{with_object, object_so_far}
 use Rattle.farm_types.specs.declared.ran.Outcome.{Outcome}
 use Rattle.edge_traits.specs.declared.cause.Cause.TheVariants.{Dial, Send, Recv, Truncated, BadReply, Stopped}
 use Rattle.remote_transfer.specs.declared.answers.Landing.{Landing}
 use Rattle.remote_transfer.specs.declared.answers.Stop.{Stop}
 use Rattle.remote_transfer.specs.declared.answers.Stop.TheVariants.{Broke, Memory}
 use Rattle.remote_transfer.specs.Answers.{answer_of, landed_of}
-use Rattle.remote_transfer.specs.Attempts.{DialCause}
+use Rattle.remote_transfer.specs.Attempts.{Adds, DialCause}
 use Rattle.remote_transfer.specs.declared.landing.Course.{Course}
-use Rattle.remote_transfer.specs.declared.landing.Course.TheVariants.{Begun}
+use Rattle.remote_transfer.specs.declared.landing.Course.TheVariants.{Waiting, Begun, Lost}
 use Rattle.remote_transfer.specs.Links.{Given, ReplyIs}
 use Rattle.remote_transfer.specs.Pieces.{PieceRead, PieceStops}
 use Rattle.remote_transfer.specs.Landings.{KeeperStays, LandsAt, attempt_of, Lands, LandedCause, IsUnasked, IsLanding, paired, received_of, LandsOr, ReceivedInto}
-use Rattle.remote_transfer.proofs.ByPieces.{Receiving, receiving-more, receiving-whole, receiving-memory, receiving-stops}
+use Rattle.remote_transfer.specs.Landings.{HasBytes, RisesBehind, RisesByPuts, StopsBehind}
+use Rattle.remote_transfer.proofs.ByPieces.{Receiving, receiving-begins, receiving-more, receiving-whole, receiving-memory, receiving-stops}
 
 pub stays-same : (keeper : KeeperView) → KeeperStays keeper keeper
 stays-same keeper = record {
@@ -52,7 +57,19 @@ still-pending old new piece pending added =
 pub record ReceivingInto (old now : LinkView) (place : Place) (have : ℕ) (course : Course) (path : List ℕ) (before keeper : KeeperView) : Type 0 where
   pub object : List ℕ
   pub receiving : Receiving old now place have object
+  pub so_far : object ≡ object_so_far receiving.text
   pub lands : LandsAt course path object before.faults keeper
+
+-- nothing was given
+none-so-far : [] ≡ object_so_far []
+unfolding object_so_far
+none-so-far = refl
+
+pub into-begins : (link : LinkView) (place : Place) (path : List ℕ) (keeper : KeeperView) → IsAt place [] [] → IsIdle keeper
+    → ReceivingInto link link place 0 Waiting path keeper keeper
+unfolding receiving-begins
+into-begins link place path keeper at idle =
+    record { object = []; receiving = receiving-begins link place at; so_far = none-so-far; lands = (idle, refl, refl) }
 
 -- a count that stands still may stand for the one before it
 pub lands-after : (result : Result Course Stop) (path bytes : List ℕ) (before mid : ℕ) (now : KeeperView) → mid ≡ before → IfOk result (λ next. LandsAt next path bytes mid now) → IfOk result (λ next. LandsAt next path bytes before now)
@@ -113,32 +130,132 @@ landed-cause (Err (Broke (BadReply at fault))) object before now cause = cause
 landed-cause (Err (Broke Stopped)) object before now cause = cause
 landed-cause (Err Memory) object before now cause = cause
 
+-- what the entry of a link says of the keeper's count
+pub rises-answer : (may : List ℕ → List ℕ → Type 0) (talked : Result (Outcome × Landing) Stop) (old new : Told (List Exchange)) (before now : ℕ)
+    → Adds may old new (λ x. RisesBehind (landed_of talked) x.given before now) → RisesByPuts may (landed_of talked) old new before now
+rises-answer may (Ok received) old new before now added = added
+rises-answer may (Err (Broke Dial)) old new before now added = tt
+rises-answer may (Err (Broke Send)) old new before now added = added
+rises-answer may (Err (Broke Recv)) old new before now added = added
+rises-answer may (Err (Broke (Truncated have))) old new before now added = added
+rises-answer may (Err (Broke (BadReply at fault))) old new before now added = added
+rises-answer may (Err (Broke Stopped)) old new before now added = added
+rises-answer may (Err Memory) old new before now added = added
+
+-- nothing was given, and the keeper wasn't asked
+pub rises-none : (stop : Stop) (given : List ℕ) (before : ℕ) → RisesBehind (landed_of (Err stop)) given before before
+rises-none (Broke cause) given before = inl refl
+rises-none Memory given before = inl refl
+
+-- a put that was pending is given up, and where none was the count stands still
+pub rises-then : (stop : Stop) (given : List ℕ) (before : ℕ) (mid new : KeeperView) → StopsBehind stop given before mid
+    → (IsIdle mid → Still mid.faults new.faults) → RisesBehind (landed_of (Err stop)) given before new.faults
+rises-then (Broke cause) given before mid new stops still = elim stops [
+  | inl none ↦ inl (still none.0 ∙ none.1)
+  | inr came ↦ inr came
+]
+rises-then Memory given before mid new stops still = elim stops [
+  | inl none ↦ inl (still none.0 ∙ none.1)
+  | inr came ↦ inr came
+]
+
 -- ---- an object that is received
 
-pub into-stops : (old mid new : LinkView) (reader : Place) (have : ℕ) (course : Course) (path : List ℕ) (before keeper after : KeeperView) (stop : Stop) → ReceivingInto old mid reader have course path before keeper → PieceStops have reader mid new stop → ReceivedInto (Err stop) path old new before after
-into-stops old mid new reader have course path before keeper after stop into stops = record { object = into.object; given = receiving-stops old mid new reader have into.object stop into.receiving stops; lands = tt }
+-- a put was begun only with some bytes
+begun-with : (course : Course) (path object : List ℕ) (before : ℕ) (now : KeeperView) → LandsAt course path object before now
+    → (IsIdle now × Still before now.faults) ⊎ (0 < length object)
+begun-with Waiting path object before now lands = inl (lands.0, lands.2)
+begun-with Begun path object before now lands = inr lands.2
+begun-with Lost path object before now lands = inr lands.2
 
-pub into-memory : (old mid new : LinkView) (reader next : Place) (have : ℕ) (course : Course) (path : List ℕ) (before keeper after : KeeperView) (count : ℕ) (bytes : List ℕ) (outcome : Option Outcome) → ReceivingInto old mid reader have course path before keeper → PieceRead mid new reader next count bytes outcome → ReceivedInto (Err Memory) path old new before after
-into-memory old mid new reader next have course path before keeper after count bytes outcome into p = record { object = into.object; given = receiving-memory old mid new p.piece reader have into.object into.receiving p.grew p.ended p.still; lands = tt }
+-- the bytes so far came with a front of what was given
+came : {old mid : LinkView} {reader : Place} {have : ℕ} (course : Course) (path : List ℕ) (before keeper : KeeperView)
+    (into : ReceivingInto old mid reader have course path before keeper) (given rest : List ℕ) → given ≡ into.receiving.text ++ rest
+    → (IsIdle keeper × Still before.faults keeper.faults) ⊎ HasBytes given
+came course path before keeper into given rest parts = elim (begun-with course path into.object before.faults keeper into.lands) [
+  | inl none ↦ inl none
+  | inr some ↦ inr (record {
+    front = into.receiving.text;
+    rest = rest;
+    parts = parts;
+    short = into.receiving.short;
+    some = subst (λ (bytes : List ℕ). 0 < length bytes) into.so_far some;
+  })
+]
+
+stops-behind : (old mid new : LinkView) (reader : Place) (have : ℕ) (course : Course) (path : List ℕ) (before keeper : KeeperView) (stop : Stop)
+    (into : ReceivingInto old mid reader have course path before keeper) (stops : PieceStops have reader mid new stop)
+    → StopsBehind stop (receiving-stops old mid new reader have into.object stop into.receiving stops).bytes before.faults keeper
+unfolding receiving-stops receiving-memory
+stops-behind old mid new reader have course path before keeper (Broke Dial) into stops = absurd stops
+stops-behind old mid new reader have course path before keeper (Broke Send) into stops = absurd stops
+stops-behind old mid new reader have course path before keeper (Broke Recv) into stops =
+    came course path before keeper into into.receiving.text [] (sym (append-nil into.receiving.text))
+stops-behind old mid new reader have course path before keeper (Broke (Truncated bytes)) into stops =
+    came course path before keeper into into.receiving.text [] (sym (append-nil into.receiving.text))
+stops-behind old mid new reader have course path before keeper (Broke (BadReply at fault)) into stops =
+    came course path before keeper into (into.receiving.text ++ stops.0.0) stops.0.0 refl
+stops-behind old mid new reader have course path before keeper (Broke Stopped) into stops = absurd stops
+stops-behind old mid new reader have course path before keeper Memory into stops =
+    elim (came course path before keeper into (into.receiving.text ++ stops.0.0) stops.0.0 refl) [
+      | inl none ↦ inl none
+      | inr some ↦ inr (inl some)
+    ]
+
+pub into-stops : (old mid new : LinkView) (reader : Place) (have : ℕ) (course : Course) (path : List ℕ) (before keeper : KeeperView) (stop : Stop)
+    → ReceivingInto old mid reader have course path before keeper → PieceStops have reader mid new stop
+    → ReceivedInto (Err stop) path old new before keeper
+into-stops old mid new reader have course path before keeper stop into stops = record {
+  object = into.object;
+  given = receiving-stops old mid new reader have into.object stop into.receiving stops;
+  lands = stops-behind old mid new reader have course path before keeper stop into stops;
+}
+
+-- some bytes came, and there was no memory for their put
+pub into-memory : (old mid new : LinkView) (reader next : Place) (have : ℕ) (course : Course) (path : List ℕ) (before keeper after : KeeperView)
+    (count : ℕ) (bytes : List ℕ) → ReceivingInto old mid reader have course path before keeper → PieceRead mid new reader next count bytes None
+    → 0 < length bytes → ReceivedInto (Err Memory) path old new before after
+unfolding receiving-memory
+into-memory old mid new reader next have course path before keeper after count bytes into p some =
+    let r = into.receiving in
+    let z = p.read r.text into.object r.at in
+    record {
+      object = into.object;
+      given = receiving-memory old mid new p.piece reader have into.object r p.grew p.ended p.still;
+      lands = inr (inl (record {
+        front = r.text ++ p.piece;
+        rest = [];
+        parts = sym (append-nil (r.text ++ p.piece));
+        short = z.0;
+        some = subst (λ (so_far : List ℕ). 0 < length so_far) z.2 (longer into.object bytes some);
+      }));
+    }
 
 pub into-more : (old mid new : LinkView) (reader next : Place) (have : ℕ) (course further : Course) (path : List ℕ) (before keeper after : KeeperView) (count : ℕ) (bytes : List ℕ) → ReceivingInto old mid reader have course path before keeper → before.faults ≤ keeper.faults → PieceRead mid new reader next count bytes None
     → ((object : List ℕ) (since : ℕ) → since ≤ keeper.faults → LandsAt course path object since keeper → LandsAt further path (object ++ bytes) since after)
     → ReceivingInto old new next (have + count) further path before after
+unfolding receiving-more
 into-more old mid new reader next have course further path before keeper after count bytes into later p lands = record {
   object = into.object ++ bytes;
   receiving = receiving-more old mid new reader next have count into.object bytes into.receiving p;
+  so_far = (p.read into.receiving.text into.object into.receiving.at).2;
   lands = lands into.object before.faults later into.lands;
 }
 
 pub into-last : (old mid new : LinkView) (reader next : Place) (have : ℕ) (course : Course) (path : List ℕ) (before keeper after : KeeperView) (count : ℕ) (bytes : List ℕ) (o : Outcome) (landed : Result Landing Stop) → ReceivingInto old mid reader have course path before keeper → before.faults ≤ keeper.faults → PieceRead mid new reader next count bytes (Some o)
     → ((object : List ℕ) (since : ℕ) → since ≤ keeper.faults → LandsAt course path object since keeper → (o.status ≢ 0 → object ++ bytes ≡ []) → IfOk landed (λ landing. IsLanding landing o path (object ++ bytes) since after))
     → IfErr landed (λ stop. stop ≡ Memory) → ReceivedInto (paired o landed) path old new before after
+unfolding receiving-memory
 into-last old mid new reader next have course path before keeper after count bytes o (Ok _) into later p lands memory =
     let w = receiving-whole old mid new reader next have count into.object bytes o into.receiving p in
     let spelled = w.1.is.0.1.spelled in
     record { object = into.object ++ bytes; given = w.1; lands = (w.0, lands into.object before.faults later into.lands spelled.fits.failure) }
-into-last old mid new reader next have course path before keeper after count bytes o (Err stop) into later p lands memory = record {
-  object = into.object;
-  given = subst (λ (s : Stop). Given (ReplyIs (Err s) old new) old.given new.given) (sym memory) (receiving-memory old mid new p.piece reader have into.object into.receiving p.grew p.ended p.still);
-  lands = tt;
-}
+into-last old mid new reader next have course path before keeper after count bytes o (Err stop) into later p lands memory =
+    let r = into.receiving in
+    let z = p.read r.text into.object r.at in
+    let wanted : ReceivedInto (Err Memory) path old new before after = record {
+      object = into.object;
+      given = receiving-memory old mid new p.piece reader have into.object r p.grew p.ended p.still;
+      lands = inr (inr (z.1.0, with_object o (into.object ++ bytes), z.1.1));
+    } in
+    subst (λ (s : Stop). ReceivedInto (Err s) path old new before after) (sym memory) wanted

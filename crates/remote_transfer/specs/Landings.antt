@@ -1,5 +1,5 @@
 -- Where the object of a reply lands.
-use Rattle.std.specs.Prelude.{◌≡◌, ◌≢◌, ℕ, ◌<◌, ◌≤◌, length, false, List, [], Result, Ok, Err}
+use Rattle.std.specs.Prelude.{◌≡◌, ◌≢◌, ◌⊎◌, ℕ, ◌<◌, ◌≤◌, length, false, List, [], ◌++◌, Result, Ok, Err}
 use Rattle.farm_types.specs.declared.request.Request.{Request}
 use Rattle.farm_types.specs.declared.hosts.Host.{Host}
 use Rattle.farm_types.specs.declared.ran.Outcome.{Outcome}
@@ -9,7 +9,8 @@ use Rattle.edge_traits.specs.Told.{Told, Grew, Became}
 use Rattle.edge_traits.specs.Causes.{Rose, Still}
 use Rattle.edge_traits.specs.Links.{LinkView}
 use Rattle.edge_traits.specs.Keepers.{KeeperView, IsIdle, IsPending, HasPending}
-use Rattle.reply_stream.specs.Objects.{with_object}
+use Rattle.wire_tokens.specs.Reply.{BeginsReply, IsShortReply}
+use Rattle.reply_stream.specs.Objects.{with_object, object_so_far}
 use Rattle.remote_transfer.specs.declared.answers.Attempt.{Attempt}
 use Rattle.remote_transfer.specs.declared.answers.Attempt.TheVariants as attempts
 use Rattle.remote_transfer.specs.declared.answers.Landing.{Landing}
@@ -17,11 +18,11 @@ use Rattle.remote_transfer.specs.declared.answers.Landing.TheVariants.{Pending, 
 use Rattle.remote_transfer.specs.declared.answers.Landed.{Landed}
 use Rattle.remote_transfer.specs.declared.answers.Landed.TheVariants as landeds
 use Rattle.remote_transfer.specs.declared.answers.Stop.{Stop}
-use Rattle.remote_transfer.specs.declared.answers.Stop.TheVariants.{Memory}
+use Rattle.remote_transfer.specs.declared.answers.Stop.TheVariants.{Broke, Memory}
 use Rattle.remote_transfer.specs.declared.landing.Course.{Course}
 use Rattle.remote_transfer.specs.declared.landing.Course.TheVariants.{Waiting, Begun, Lost}
 use Rattle.remote_transfer.specs.Answers.{answer_of, landed_of}
-use Rattle.remote_transfer.specs.Attempts.{ExchangeIs, EndsBy, AttemptAdds}
+use Rattle.remote_transfer.specs.Attempts.{ExchangeIs, EndsBy, Adds, AttemptAdds}
 use Rattle.remote_transfer.specs.Links.{Given, ReplyIs, IsFor, Passed}
 
 -- The keeper's files, entries and overruns are as they were, so it did no more than a put that isn't committed.
@@ -50,11 +51,38 @@ Lands (landeds.Whole outcome landing) path object before now = (outcome.object �
 Lands (landeds.Broke cause) path object before now = IsIdle now
 Lands (landeds.Memory dialed) path object before now = IsIdle now
 
--- The exchange is that of an attempt whose outcome has an object, and this object is where the answer says.
+-- Some bytes of the object came: a front of what was given is short, and has some.
+pub record HasBytes (given : List ℕ) : Type 0 where
+  pub front : List ℕ
+  pub rest : List ℕ
+  pub parts : given ≡ front ++ rest
+  pub short : IsShortReply front
+  pub some : 0 < length (object_so_far front)
+
+-- a front of what was given is a whole reply
+abbrev pub HasReply : List ℕ → Type 0
+HasReply given = (used : ℕ) × (o : Outcome) × BeginsReply given used o
+
+-- Where no reply was taken whole, the keeper's count rose only where a step of a put may have failed: behind some bytes of the object, or
+-- where memory ran out behind a whole reply.
+abbrev pub RisesBehind : Landed → List ℕ → ℕ → ℕ → Type 0
+RisesBehind (landeds.Whole outcome _) given before now = Unit {0}
+RisesBehind (landeds.Broke cause) given before now = Still before now ⊎ HasBytes given
+RisesBehind (landeds.Memory dialed) given before now = Still before now ⊎ (HasBytes given ⊎ HasReply given)
+
+-- The same of the bytes that were given in the new exchange. Without a link the keeper wasn't asked.
+abbrev pub RisesByPuts : (List ℕ → List ℕ → Type 0) → Landed → Told (List Exchange) → Told (List Exchange) → ℕ → ℕ → Type 0
+RisesByPuts may_give (landeds.Memory false) old new before now = Unit {0}
+RisesByPuts may_give (landeds.Broke Dial) old new before now = Unit {0}
+RisesByPuts may_give landed old new before now = Adds may_give old new (λ x. RisesBehind landed x.given before now)
+
+-- The exchange is that of an attempt whose outcome has an object, and this object is where the answer says. The keeper's count rose by its
+-- put alone.
 pub record LandedAdds (may_give : List ℕ → List ℕ → Type 0) (q : Request) (h : Host) (landed : Landed) (path : List ℕ) (old new : Told (List Exchange)) (before now : KeeperView) : Type 0 where
   pub object : List ℕ
   pub adds : AttemptAdds may_give q h (attempt_of landed object) old new
   pub lands : Lands landed path object before.faults now
+  pub rises : RisesByPuts may_give landed old new before.faults now.faults
 
 -- A dial that failed goes with a rise of the dialer's count, and no other answer does.
 abbrev pub LandedCause : Landed → ℕ → ℕ → Type 0
@@ -104,15 +132,20 @@ abbrev pub received_of : Result (Outcome × Landing) Stop → List ℕ → Resul
 received_of (Ok received) object = Ok (with_object received.0 object)
 received_of (Err stop) object = Err stop
 
-abbrev pub LandsIf : Result (Outcome × Landing) Stop → List ℕ → List ℕ → ℕ → KeeperView → Type 0
-LandsIf (Ok received) path object before now = (received.0.object ≡ []) × IsLanding received.1 received.0 path object before now
-LandsIf (Err stop) path object before now = Unit {0}
+-- Where a reply isn't whole, no put was begun before some bytes of the object came. One that was may be pending.
+abbrev pub StopsBehind : Stop → List ℕ → ℕ → KeeperView → Type 0
+StopsBehind (Broke cause) given before now = (IsIdle now × Still before now.faults) ⊎ HasBytes given
+StopsBehind Memory given before now = (IsIdle now × Still before now.faults) ⊎ (HasBytes given ⊎ HasReply given)
+
+abbrev pub LandsIf : Result (Outcome × Landing) Stop → List ℕ → List ℕ → List ℕ → ℕ → KeeperView → Type 0
+LandsIf (Ok received) path object given before now = (received.0.object ≡ []) × IsLanding received.1 received.0 path object before now
+LandsIf (Err stop) path object given before now = StopsBehind stop given before now
 
 -- A reply was received, and its object is where the result says. Where it isn't whole, a put may be pending.
 pub record ReceivedInto (result : Result (Outcome × Landing) Stop) (path : List ℕ) (old new : LinkView) (before now : KeeperView) : Type 0 where
   pub object : List ℕ
   pub given : Given (ReplyIs (received_of result object) old new) old.given new.given
-  pub lands : LandsIf result path object before.faults now
+  pub lands : LandsIf result path object given.bytes before.faults now
 
 -- the same, with no put pending where the reply isn't whole
 abbrev pub LandsOr : Result (Outcome × Landing) Stop → List ℕ → List ℕ → ℕ → KeeperView → Type 0
@@ -123,6 +156,7 @@ pub record LandsInto (result : Result (Outcome × Landing) Stop) (path : List �
   pub object : List ℕ
   pub given : Given (ReplyIs (received_of result object) old new) old.given new.given
   pub lands : LandsOr result path object before.faults now
+  pub rises : RisesBehind (landed_of result) given.bytes before.faults now.faults
 
 -- what passed over a link is what an attempt says of it whose outcome has an object, and this object is where the answer says
 pub record PassedInto (result : Result (Outcome × Landing) Stop) (path text : List ℕ) (old new : LinkView) (before now : KeeperView) : Type 0 where
@@ -130,3 +164,4 @@ pub record PassedInto (result : Result (Outcome × Landing) Stop) (path text : L
   pub passed : (q : Request) (h : Host) → IsFor q h text old → Passed old new (λ x. ExchangeIs q h (answer_of (received_of result object)) x × EndsBy (answer_of (received_of result object)) x)
   pub lands : LandsOr result path object before.faults now
   pub unasked : IsUnasked (landed_of result) before now
+  pub rises : Passed old new (λ x. RisesBehind (landed_of result) x.given before.faults now.faults)

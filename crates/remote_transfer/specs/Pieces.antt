@@ -6,7 +6,7 @@ use Rattle.edge_traits.specs.declared.cause.Cause.TheVariants.{Recv, Truncated, 
 use Rattle.edge_traits.specs.Told.{Grew}
 use Rattle.edge_traits.specs.Causes.{Rose, Still}
 use Rattle.edge_traits.specs.Links.{LinkView}
-use Rattle.reply_stream.specs.Objects.{with_object, spanned, IsSpan}
+use Rattle.reply_stream.specs.Objects.{with_object, spanned, IsSpan, object_so_far}
 use Rattle.reply_stream.specs.Reader.{Place, IsAt}
 use Rattle.remote_transfer.specs.declared.receiving.Brought.{Brought}
 use Rattle.remote_transfer.specs.declared.receiving.Brought.TheVariants.{More, Whole}
@@ -16,7 +16,7 @@ use Rattle.remote_transfer.specs.declared.answers.Stop.TheVariants.{Broke, Memor
 
 -- after a piece: more has to come, or the reply is whole, with the object's bytes so far
 abbrev pub Comes : List ℕ → List ℕ → Place → Option Outcome → Type 0
-Comes text object after None = IsShortReply text × IsAt after text object
+Comes text object after None = IsShortReply text × IsAt after text object × (object ≡ object_so_far text)
 Comes text object after (Some o) = (o.object ≡ []) × ((used : ℕ) × BeginsReply text used (with_object o object))
 
 -- a piece was given, in which these are the object's next bytes

@@ -1,8 +1,9 @@
 //! An object that goes into a file that has no name yet, while its reply is received.
 
-ghost use Rattle.std.specs.Prelude.{◌≡◌, ◌≢◌, ◌<◌, ◌≤◌, ◌++◌, ℕ, List, [], length, IfOk, IfErr};
+ghost use Rattle.std.specs.Prelude.{◌≡◌, ◌≢◌, ◌<◌, ◌≤◌, ◌++◌, ℕ, List, [], length, IfOk, IfErr, OnErr};
 ghost use Rattle.edge_traits.specs.FileMaps.{IsStaged};
 ghost use Rattle.edge_traits.specs.Keepers.{IsIdle, IsPending, HasPending};
+ghost use Rattle.edge_traits.specs.Causes.{Still};
 ghost use Rattle.edge_traits.specs.Told.{Grew};
 ghost use Rattle.reply_stream.specs.Reader.{IsAt};
 ghost use Rattle.remote_transfer.specs.declared.answers.Stop.TheVariants.{Memory as StopMemory};
@@ -79,6 +80,7 @@ fn land<K: Keeper>(
         → IfOk result (λ next. LandsAt next path.now (object ++ bytes.now) before (K.shows keeper.new)) }
     ensures can { IfOk result (λ next. CanLand next (K.shows keeper.new)) }
     ensures memory { WantsMemory result (K.shows keeper.new) }
+    ensures some { OnErr result (0 < length bytes.now) }
     ensures stays { KeeperStays (K.shows keeper.old) (K.shows keeper.new) }
 {
     if bytes.is_empty() {
@@ -189,6 +191,17 @@ fn receive_landing<L: Link, K: Keeper>(
     }
 }
 
+// Gives up the put that is pending, if there is one. A keeper with none isn't asked.
+fn give_up<K: Keeper>(keeper: &mut K)
+    ensures idle { IsIdle (K.shows keeper.new) }
+    ensures still { IsIdle (K.shows keeper.old) → Still (K.shows keeper.old).faults (K.shows keeper.new).faults }
+    ensures stays { KeeperStays (K.shows keeper.old) (K.shows keeper.new) }
+{
+    if keeper.is_pending() {
+        keeper.abandon();
+    }
+}
+
 /// Receives until what was given is no longer short, and gives the bytes of the object to the keeper as they come. After
 /// a fault of the keeper the reply is read to its end. No put is left pending but that of a whole reply of status 0.
 pub(crate) fn receive_into<L: Link, K: Keeper>(
@@ -215,7 +228,7 @@ pub(crate) fn receive_into<L: Link, K: Keeper>(
     match received {
         Ok(landed) => Ok(landed),
         Err(stop) => {
-            keeper.abandon();
+            give_up(keeper);
             Err(stop)
         }
     }

@@ -5,7 +5,8 @@ use Rattle.farm_machine.specs.Jobs.{AreLimitsOf}
 use Rattle.job_run.proofs.Leaves.{same_peers, same_programs}
 use Rattle.job_driver.proofs.Working.{numbers_of, AreFew}
 use Rattle.job_driver.proofs.Drawing.{few-more, within-more, few-none, within-none}
-use Rattle.job_driver.proofs.Stepping.{works-none, works-more, counted-none, counted-more, drawn-back, report-later, relation-then, relation3-then, job-found, drawn-as, spare-enough, spare-more}
+use Rattle.job_driver.proofs.Stepping.{works-none, works-more, small-places, counted-none, counted-more, drawn-back, report-later}
+use Rattle.job_driver.proofs.Stepping.{relation-then, relation3-then, job-found, word-found, drawn-as, spare-enough, spare-more}
 use Rattle.job_driver.proofs.Marking.{marked-none, marked-more}
 use Rattle.job_driver.proofs.worker.work.Goals as goal
 
@@ -34,28 +35,43 @@ pub unreachable-requires : goal.unreachable-requires
 unreachable-requires g c =
     let i = c.working.invariant in
     let few = i.few c.in-Some-draw.job (report-later c.in-Some-draw.job i.works c.in-Some-draw.ensures.later) in
-    let below : c.in-Some-draw.job < length c.args.jobs.now = subst (λ (k : ℕ). c.in-Some-draw.job < k) (ap (λ l. l.jobs) (g.met.G.Grants.limits_stay _ _ i.follows) ∙ c.requires.number) c.in-Some-draw.ensures.job in
+    let below : c.in-Some-draw.job < length c.args.jobs.now = subst (λ (k : ℕ). c.in-Some-draw.job < k)
+    (ap (λ l. l.jobs) (g.met.G.Grants.limits_stay _ _ i.follows) ∙ c.requires.number) c.in-Some-draw.ensures.job in
     let rooms = i.rooms in
     let none : length c.working.rooms.items ≡ 0 = grind (arith, common_steps, c.in_default-pop.ensures.items) in
     omega (arith, few, below, rooms, none)
 
-pub run_job-report-requires-clause-spare : goal.run_job-report-requires-clause-spare
-run_job-report-requires-clause-spare g c =
+pub run_job-report-requires-clause-job : goal.run_job-report-requires-clause-job
+run_job-report-requires-clause-job g c =
+    let i = c.working.invariant in
+    let drawn = g.met.G.Grants.follows_on _ _ _ i.follows c.in-Some-draw.ensures.follows in
+    let below : c.in-Some-draw.job < length c.args.jobs.now =
+    subst (λ (k : ℕ). c.in-Some-draw.job < k) (ap (λ l. l.jobs) (g.met.G.Grants.limits_stay _ _ i.follows) ∙ c.requires.number)
+    c.in-Some-draw.ensures.job in
+    record {
+      word = word-found c.in-Some-draw.job c.as_slice.ensures c.index-as_slice-job.is below c.requires.jobs.words;
+      askable = record { entries = c.requires.entries; some = c.requires.some; tries = c.requires.tries };
+      hosts = subst (λ l. AreLimitsOf l c.args.config.now.hosts) (sym (g.met.G.Grants.limits_stay _ _ drawn)) c.requires.hosts;
+    }
+
+pub run_job-report-requires-clause-begins : goal.run_job-report-requires-clause-begins
+run_job-report-requires-clause-begins g c =
     let i = c.working.invariant in
     let few = i.few c.in-Some-draw.job (report-later c.in-Some-draw.job i.works c.in-Some-draw.ensures.later) in
-    let below : c.in-Some-draw.job < length c.args.jobs.now = subst (λ (k : ℕ). c.in-Some-draw.job < k) (ap (λ l. l.jobs) (g.met.G.Grants.limits_stay _ _ i.follows) ∙ c.requires.number) c.in-Some-draw.ensures.job in
-    spare-enough _ (length c.args.jobs.now) (length c.working.reports.items) _ _ (omega (arith, few, below)) i.spare c.in-Some-draw.ensures.spare
-
-pub run_job-report-requires-clause-hosts : goal.run_job-report-requires-clause-hosts
-run_job-report-requires-clause-hosts g c =
-    let drawn = g.met.G.Grants.follows_on _ _ _ c.working.invariant.follows c.in-Some-draw.ensures.follows in
-    subst (λ l. AreLimitsOf l c.args.config.now.hosts) (sym (g.met.G.Grants.limits_stay _ _ drawn)) c.requires.hosts
+    let below : c.in-Some-draw.job < length c.args.jobs.now =
+    subst (λ (k : ℕ). c.in-Some-draw.job < k) (ap (λ l. l.jobs) (g.met.G.Grants.limits_stay _ _ i.follows) ∙ c.requires.number)
+    c.in-Some-draw.ensures.job in
+    record {
+      ready = c.in-Some-draw.ensures.ready;
+      spare = spare-enough _ (length c.args.jobs.now) (length c.working.reports.items) _ _ (omega (arith, few, below)) i.spare
+          c.in-Some-draw.ensures.spare;
+      none = drawn-back _ c.draw.result _ _ c.draw.ensures.mine i.back;
+      places = small-places _ c.working.reports.items (let most = c.requires.jobs.most in omega (arith, few, below, most)) i.counted;
+      pending = i.pending;
+    }
 
 pub returns-in_default-clause-follows : goal.returns-in_default-clause-follows
 returns-in_default-clause-follows g c = g.met.G.Grants.follows_on _ _ _ c.working.invariant.follows c.draw.ensures.follows
-
-pub run_job-report-requires-clause-none : goal.run_job-report-requires-clause-none
-run_job-report-requires-clause-none g c = drawn-back _ c.draw.result _ _ c.draw.ensures.mine c.working.invariant.back
 
 pub working-preserved : goal.working-preserved
 working-preserved g c =
@@ -65,21 +81,28 @@ working-preserved g c =
     let d = c.in-Some-draw.ensures in
     let drawn = g.met.G.Grants.follows_on _ _ _ i.follows d.follows in
     let later = report-later job i.works d.later in
-    let below : job < length c.args.jobs.now = subst (λ (k : ℕ). job < k) (ap (λ l. l.jobs) (g.met.G.Grants.limits_stay _ _ i.follows) ∙ c.requires.number) d.job in
+    let below : job < length c.args.jobs.now = subst (λ (k : ℕ). job < k)
+    (ap (λ l. l.jobs) (g.met.G.Grants.limits_stay _ _ i.follows) ∙ c.requires.number) d.job in
     record {
-      works = works-more c.run_job-report.result (g.met.G.Grants.limits_stay _ _ drawn) (g.met.G.Grants.caller_stays _ _ drawn) (job-found job c.args.config.now c.as_slice.ensures c.index-as_slice-job.is below) refl
-          (relation-then i.peers w.peers) (relation3-then i.programs w.programs) (drawn-as _ (g.met.G.Grants.caller_stays _ _ i.follows) c.in-Some-draw.is c.draw.ensures.mine) c.in-Ok.ensures.items w.number w.worker i.works w.ran;
+      works = works-more c.run_job-report.result (g.met.G.Grants.limits_stay _ _ drawn) (g.met.G.Grants.caller_stays _ _ drawn)
+          (job-found job c.args.config.now c.as_slice.ensures c.index-as_slice-job.is below) refl
+          (relation-then i.peers w.peers) (relation3-then i.programs w.programs)
+          (drawn-as _ (g.met.G.Grants.caller_stays _ _ i.follows) c.in-Some-draw.is c.draw.ensures.mine) c.in-Ok.ensures.items
+          w.number w.worker i.works w.ran;
       few = subst AreFew (sym c.in-Ok.ensures.items) (few-more _ _ job w.number i.few later);
-      within = subst (λ rs. All (λ number. number < length c.args.jobs.now) (numbers_of rs)) (sym c.in-Ok.ensures.items) (within-more _ _ _ job w.number below i.within);
+      within = subst (λ rs. All (λ number. number < length c.args.jobs.now) (numbers_of rs)) (sym c.in-Ok.ensures.items)
+          (within-more _ _ _ job w.number below i.within);
       counted = counted-more c.run_job-report.result c.in-Ok.ensures.items c.requires.some c.requires.tries i.counted w.ran;
       rooms = grind (arith, common_steps, c.in-Some-pop.ensures.items, c.in-Ok.ensures.items, i.rooms);
       room = let r = i.room in let k = c.push.ensures.capacity in omega (arith, r, k);
-      spare = spare-more _ (length c.args.jobs.now) (length c.working.reports.items) _ _ _ _ (grind (arith, common_steps, c.in-Ok.ensures.items)) i.spare d.spare w.spare;
-      pending = w.pending;
-      back = w.none;
-      ready = w.ready;
-      follows = g.met.G.Grants.follows_on _ _ _ drawn w.follows;
-      marked = marked-more g.M.Marks.board g.M.Marks.all g.M.Marks.rows _ _ _ _ _ _ _ job i.marked
+      spare = spare-more _ (length c.args.jobs.now) (length c.working.reports.items) _ _ _ _
+          (grind (arith, common_steps, c.in-Ok.ensures.items)) i.spare d.spare w.returned.spare;
+      pending = w.returned.pending;
+      back = w.returned.none;
+      ready = w.returned.ready;
+      follows = g.met.G.Grants.follows_on _ _ _ drawn w.returned.follows;
+      marked = marked-more g.M.Marks.board g.M.Marks.all g.M.Marks.rows c.args.marks.now c.working.marks c.begin.new.self c.end.new.self
+          c.working.reports.items c.push.new.self.items c.run_job-report.result job i.marked
           c.begin.ensures.board c.begin.ensures.added c.end.ensures.board c.end.ensures.added c.in-Ok.ensures.items w.number;
       peers = relation-then i.peers w.peers;
       programs = relation3-then i.programs w.programs;
@@ -89,7 +112,8 @@ pub unreachable-requires-in_default-push : goal.unreachable-requires-in_default-
 unreachable-requires-in_default-push g c =
     let i = c.working.invariant in
     let few = i.few c.in-Some-draw.job (report-later c.in-Some-draw.job i.works c.in-Some-draw.ensures.later) in
-    let below : c.in-Some-draw.job < length c.args.jobs.now = subst (λ (k : ℕ). c.in-Some-draw.job < k) (ap (λ l. l.jobs) (g.met.G.Grants.limits_stay _ _ i.follows) ∙ c.requires.number) c.in-Some-draw.ensures.job in
+    let below : c.in-Some-draw.job < length c.args.jobs.now = subst (λ (k : ℕ). c.in-Some-draw.job < k)
+    (ap (λ l. l.jobs) (g.met.G.Grants.limits_stay _ _ i.follows) ∙ c.requires.number) c.in-Some-draw.ensures.job in
     let room = i.room in
     let full = c.in_default-push.ensures.full in
     let k = c.working.reports.ok in

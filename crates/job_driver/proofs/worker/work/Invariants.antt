@@ -10,8 +10,10 @@ use Rattle.job_driver.proofs.worker.work.Given as goal
 
 abbrev pub invariant-working : goal.invariant-working
 invariant-working g l = record {
-  works : WorksTo (g.D.Dialer.may_give l.fn.kit.dialer) (g.S.Station.ran l.fn.kit.station) (job_at l.jobs l.config) l.config.period (g.G.Grants.limits l.fn.grants) (g.G.Grants.caller_number l.fn.grants) l.reports.items (g.G.Grants.mine l.grants)
-      (kit_view g.D.Dialer.shows g.S.Station.shows g.K.Keeper.shows g.C.Clock.shows l.fn.kit) (kit_view g.D.Dialer.shows g.S.Station.shows g.K.Keeper.shows g.C.Clock.shows l.kit) l.places;
+  works : WorksTo (g.D.Dialer.may_give l.fn.kit.dialer) (g.S.Station.ran l.fn.kit.station) (job_at l.jobs l.config) l.config.period
+      (g.G.Grants.limits l.fn.grants) (g.G.Grants.caller_number l.fn.grants) l.reports.items (g.G.Grants.mine l.grants)
+      (kit_view g.D.Dialer.shows g.S.Station.shows g.K.Keeper.shows g.C.Clock.shows l.fn.kit)
+      (kit_view g.D.Dialer.shows g.S.Station.shows g.K.Keeper.shows g.C.Clock.shows l.kit) l.places;
   few : AreFew l.reports.items;
   within : AreWithin (length l.jobs) l.reports.items;
   counted : AreCounted l.places l.reports.items;

@@ -1,6 +1,7 @@
 use Rattle.std.proofs.Common.{ℕ, List, Err, refl, sym, ap, subst, arith}
 use Rattle.reply_stream.specs.Objects.{with_object}
 use Rattle.edge_traits.specs.declared.entries.Put.{Put}
+use Rattle.edge_traits.specs.Deeds.{put as PutDeed}
 use Rattle.edge_traits.specs.FileMaps.{IsStaged}
 use Rattle.std.proofs.lemmas.List.{append-nil}
 use Rattle.edge_traits.proofs.ToldLemmas.{Grew-refl}
@@ -12,7 +13,7 @@ use Rattle.job_run.proofs.Composing.{none-rose, stands-by, keeps-none, keeps-by,
 use Rattle.job_run.proofs.Ends.{ends-failed, ends-not-put, next-put}
 use Rattle.job_run.proofs.Failing.{not-put, not-put-cause, not-put-stands, not-put-unfetched, done-cause, done-unfetched}
 use Rattle.job_run.proofs.Keeping.{none-pending}
-use Rattle.job_run.proofs.Leaves.{only-put, no-act, did-nothing, same_peers, same_programs}
+use Rattle.job_run.proofs.Leaves.{only-deed, no-act, did-nothing, same_peers, same_programs}
 use Rattle.job_run.proofs.Names.{output_not_staged}
 use Rattle.job_run.proofs.ending.deliver.Goals as goal
 
@@ -44,7 +45,7 @@ returns-in-Ok-clause-ended g c = λ h l caller number mine object held.
     let x : Put = record { path = task.output.now; bytes = object } in
     record {
       to = Over c.done-in-Ok.result;
-      went = only-put x
+      went = only-deed (PutDeed x)
           (record {
             runs = Grew-refl _;
             fetches = kept.fetches;
@@ -53,9 +54,10 @@ returns-in-Ok-clause-ended g c = λ h l caller number mine object held.
             moments = Grew-refl _;
             files = put.files;
           })
-          (later-kept _ _ refl kept.cause.later (omega (arith, kept.overruns)) (omega arith)) (same_peers _) (same_programs _)
+          (later-kept _ _ refl kept.cause.later (omega (arith, kept.overruns)) (omega arith)) tt (same_peers _) (same_programs _)
           (c.put.ensures.events, c.put.ensures.places) refl
-          (next-put (job_in task) c.args.by c.args.note (with_object c.args.outcome object) x _ c.if-outcome-ne0.false task.named refl end);
+          (next-put (job_in task) c.args.by c.args.note (with_object c.args.outcome object) x _ c.if-outcome-ne0.false task.named refl end)
+          tt;
       ends = refl;
       cause = done-cause _ _ end;
       station = stands-by _ _ _ (none-rose _);

@@ -13,7 +13,8 @@ use Rattle.job_run.specs.Seen.{job_in}
 use Rattle.job_run.specs.Stages.{step_after}
 use Rattle.job_run.proofs.Composing.{none-rose, went-on, later-exchanged}
 use Rattle.job_run.proofs.Failing.{broken-cause, gave-as, begun-as, whole-as, broken-as, undialed, unasked, dialed_once}
-use Rattle.job_run.proofs.Leaves.{noted-then, did-no-exchange, did-exchange, did-exchange-look, exchanged-given, exchanged-alone, given-back, same_programs}
+use Rattle.job_run.proofs.Leaves.{noted-then, did-no-exchange, did-exchange, did-exchange-look, exchanged-given, exchanged-alone}
+use Rattle.job_run.proofs.Leaves.{given-back, same_programs}
 use Rattle.job_run.proofs.Asking.{whole-step, wanted-step, broke-as}
 use Rattle.job_run.proofs.Strictness.{strict-unhurt, strict-broken}
 use Rattle.job_run.proofs.Keeping.{whole-idle}

@@ -8,16 +8,15 @@ use Rattle.job_run.proofs.Names.{is_sent, class_input, class_remote, class_stays
 use Rattle.job_run.proofs.job.run_class.Goals as goal
 
 pub invariant_of-task-clause-remote : goal.invariant_of-task-clause-remote
-invariant_of-task-clause-remote g c = class_remote c.args.words.now _ _ _ _ _ (c.in-Remote.ensures.class (λ h. cc))
+invariant_of-task-clause-remote g c = class_remote c.args.command.now.words.now _ _ _ _ _ (c.in-Remote.ensures.class (λ h. cc))
 
 pub invariant_of-task-clause-named : goal.invariant_of-task-clause-named
-invariant_of-task-clause-named g c = (class_input c.args.words.now _ _ _ _ _ (c.in-Remote.ensures.class (λ h. cc))).1
+invariant_of-task-clause-named g c = (class_input c.args.command.now.words.now _ _ _ _ _ (c.in-Remote.ensures.class (λ h. cc))).1
 
-pub run_remote-requires-clause-input : goal.run_remote-requires-clause-input
-run_remote-requires-clause-input g c = (class_input c.args.words.now _ _ _ _ _ (c.in-Remote.ensures.class (λ h. cc))).0
-
-pub run_remote-requires-clause-preprocessed : goal.run_remote-requires-clause-preprocessed
-run_remote-requires-clause-preprocessed g c = (class_input c.args.words.now _ _ _ _ _ (c.in-Remote.ensures.class (λ h. cc))).2
+pub run_remote-requires-clause-source : goal.run_remote-requires-clause-source
+run_remote-requires-clause-source g c =
+    let input = class_input c.args.command.now.words.now _ _ _ _ _ (c.in-Remote.ensures.class (λ h. cc)) in
+    record { place = input.0; ending = input.2 }
 
 pub returns-in-Memory-clause-ended : goal.returns-in-Memory-clause-ended
 returns-in-Memory-clause-ended g c = record {
@@ -31,8 +30,10 @@ returns-in-Memory-clause-ended g c = record {
 }
 
 pub returns-in-Empty-clause-ended : goal.returns-in-Empty-clause-ended
-returns-in-Empty-clause-ended g c = c.run_in_place.ensures.ended c.args.config.now
+returns-in-Empty-clause-ended g c = c.run_in_place.ensures.ended c.args.command.now.config.now
     (elim c.in-Empty.is [
-      | inl is ↦ class_stays c.args.words.now c.scan.result c.args.config.now (c.scan.ensures.class (λ h. cc)) (ap is_sent is)
-      | inr is ↦ class_stays c.args.words.now c.scan.result c.args.config.now (c.scan.ensures.class (λ h. cc)) (ap is_sent is.2)
+      | inl is ↦ class_stays c.args.command.now.words.now c.scan.result c.args.command.now.config.now (c.scan.ensures.class (λ h. cc))
+          (ap is_sent is)
+      | inr is ↦ class_stays c.args.command.now.words.now c.scan.result c.args.command.now.config.now (c.scan.ensures.class (λ h. cc))
+          (ap is_sent is.2)
     ])

@@ -7,7 +7,8 @@ use Rattle.farm_machine.specs.Course.{LentInPlace, RanInPlace, Over}
 use Rattle.edge_traits.specs.declared.entries.Run.{Run}
 use Rattle.child_runner.specs.Runs.{texts}
 use Rattle.job_run.proofs.Composing.{stands-by, keeps-none, keeps-by, unfetched, later-ran}
-use Rattle.job_run.proofs.Failing.{over-not-run, not-run-cause, not-run-stands, not-run-unfetched, done-cause, done-unfetched, local-given, borrowed-given}
+use Rattle.job_run.proofs.Failing.{over-not-run, not-run-cause, not-run-stands, not-run-unfetched, done-cause, done-unfetched}
+use Rattle.job_run.proofs.Failing.{local-given, borrowed-given}
 use Rattle.job_run.proofs.Leaves.{noted-then, did-run, did-nothing, local-ran, local-not-run, same_peers}
 use Rattle.job_run.proofs.Outstanding.{gave-local, spent-two}
 use Rattle.job_run.proofs.job.run_in_place.Goals as goal
@@ -22,7 +23,7 @@ returns-in-Ok-clause-free g c =
     record {
       ready = gave.ready;
       none = gave-local _ _ _ slot.out (local-given _ refl slot.job gave.mine);
-      spent = spent-two _ (omega (arith, e, f, h)) slot.spare gave.spare;
+      spent = spent-two _ (omega (arith, e, f, h)) slot.waited.spare gave.spare;
       room = omega (arith, e, f, h);
     }
 
@@ -35,14 +36,14 @@ returns-in-Err-clause-free g c =
     record {
       ready = gave.ready;
       none = gave-local _ _ _ slot.out (local-given _ refl slot.job gave.mine);
-      spent = spent-two _ (omega (arith, e, f)) slot.spare gave.spare;
+      spent = spent-two _ (omega (arith, e, f)) slot.waited.spare gave.spare;
       room = omega (arith, e, f);
     }
 
 pub returns-in-Ok-clause-ended : goal.returns-in-Ok-clause-ended
 returns-in-Ok-clause-ended g c = λ config stays.
     let slot = c.borrow_local-grant.ensures in
-    let caller = g.met.G.Grants.caller_stays _ _ slot.follows in
+    let caller = g.met.G.Grants.caller_stays _ _ slot.waited.follows in
     let run = c.in-Ok.ensures in
     let end = c.done_in_place.ensures in
     let x : Run = record { words = texts c.args.words.now; input = []; ran = c.in-Ok.ran } in
@@ -65,7 +66,7 @@ returns-in-Ok-clause-ended g c = λ config stays.
 pub returns-in-Err-clause-ended : goal.returns-in-Err-clause-ended
 returns-in-Err-clause-ended g c = λ config stays.
     let slot = c.borrow_local-grant.ensures in
-    let caller = g.met.G.Grants.caller_stays _ _ slot.follows in
+    let caller = g.met.G.Grants.caller_stays _ _ slot.waited.follows in
     let run = c.in-Err.ensures in
     let why = c.why_not_run.result in
     let is = c.why_not_run.ensures in

@@ -6,11 +6,11 @@ use Rattle.farm_machine.specs.Acts.{slots_of}
 use Rattle.course_laws.specs.Returns.{finds_down}
 use Rattle.course_laws.proofs.Compilers.{end-answer}
 use Rattle.course_laws.proofs.Fallbacks.{own as never-by-host}
-use Rattle.course_laws.proofs.InTable.{in-table}
 use Rattle.course_laws.proofs.Given.{given-untimed, ran-untimed}
 use Rattle.course_laws.proofs.Unbroken.{own-end-law, unbroken-law}
 use Rattle.job_run.specs.Worlds.{Spent}
 use Rattle.job_run.proofs.Asking.{course-of, is-course}
+use Rattle.job_run.proofs.Tabled.{job-course}
 use Rattle.job_run.proofs.Lists.{slots-untimed}
 use Rattle.job_run.proofs.Outstanding.{spare-last}
 use Rattle.job_run.proofs.Returning.{none-down}
@@ -31,8 +31,7 @@ returns-clause-ran g c =
           ∙ ap (λ es. es ++ numbered c.open-journal.result.places went.acts) c.open-journal.ensures.events
           ∙ ap (λ p. numbered p went.acts) c.open-journal.ensures.places;
       grown = went.grown ∙ ap (λ p. advanced p went.acts) c.open-journal.ensures.places;
-      course = in-table j (untimed went.acts) _ course;
-      strict = strict;
+      course = job-course j (untimed went.acts) _ strict;
       mine = went.mine;
       serves = went.serves [] (λ host. refl);
       moments = went.moments;
@@ -54,7 +53,13 @@ returns-clause-ran g c =
           (ran-untimed _ went.acts went.ran) course;
     }
 
-pub returns-clause-spare : goal.returns-clause-spare
-returns-clause-spare g c =
-    spare-last _ _ _ _ (subst (λ (n : ℕ). Spent g.G.Grants.alone n (g.G.Grants.spare c.args.grants.now) c.run_class-end.new.journal.left
-    (g.G.Grants.spare c.run_class-end.new.grants)) c.open-journal.ensures.left c.run_class-end.ensures.free.spent)
+pub returns-clause-returned : goal.returns-clause-returned
+returns-clause-returned g c = let free = c.run_class-end.ensures.free in record {
+  ready = free.ready;
+  follows = c.run_class-end.ensures.follows;
+  none = free.none;
+  spare = spare-last _ _ _ _ (subst (λ (n : ℕ). Spent g.G.Grants.alone n
+      (g.G.Grants.spare c.args.grants.now) c.run_class-end.new.journal.left
+      (g.G.Grants.spare c.run_class-end.new.grants)) c.open-journal.ensures.left free.spent);
+  pending = c.run_class-end.ensures.idle;
+}

@@ -24,7 +24,7 @@ returns-in-Ok-clause-free g c =
     record {
       ready = gave.ready;
       none = gave-local _ _ _ slot.out (local-given _ refl slot.job gave.mine);
-      spent = spent-two _ (omega (arith, e, f, h)) slot.spare gave.spare;
+      spent = spent-two _ (omega (arith, e, f, h)) slot.waited.spare gave.spare;
       room = omega (arith, e, f, h);
     }
 
@@ -37,14 +37,14 @@ returns-in-Err-clause-free g c =
     record {
       ready = gave.ready;
       none = gave-local _ _ _ slot.out (local-given _ refl slot.job gave.mine);
-      spent = spent-two _ (omega (arith, e, f)) slot.spare gave.spare;
+      spent = spent-two _ (omega (arith, e, f)) slot.waited.spare gave.spare;
       room = omega (arith, e, f);
     }
 
 pub returns-in-Ok-clause-compiled : goal.returns-in-Ok-clause-compiled
 returns-in-Ok-clause-compiled g c = λ note at stands.
     let slot = c.borrow_local-grant.ensures in
-    let caller = g.met.G.Grants.caller_stays _ _ slot.follows in
+    let caller = g.met.G.Grants.caller_stays _ _ slot.waited.follows in
     let run = c.in-Ok.ensures in
     let source = c.args.source.now in
     let x : Run = record { words = placed_words c.args.task.now.words.now; input = source; ran = c.in-Ok.ran } in
@@ -61,7 +61,7 @@ returns-in-Ok-clause-compiled g c = λ note at stands.
 pub returns-in-Err-clause-compiled : goal.returns-in-Err-clause-compiled
 returns-in-Err-clause-compiled g c = λ note at stands.
     let slot = c.borrow_local-grant.ensures in
-    let caller = g.met.G.Grants.caller_stays _ _ slot.follows in
+    let caller = g.met.G.Grants.caller_stays _ _ slot.waited.follows in
     let run = c.in-Err.ensures in
     let why = c.why_not_run.result in
     let is = c.why_not_run.ensures in

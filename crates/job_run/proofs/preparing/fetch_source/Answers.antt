@@ -1,13 +1,14 @@
 use Rattle.std.proofs.Common.{refl, sym, ap, [], arith}
 use Rattle.std.proofs.lemmas.List.{append-nil}
 use Rattle.edge_traits.specs.declared.entries.Fetch.{Fetch}
+use Rattle.edge_traits.specs.Deeds.{fetched}
 use Rattle.edge_traits.proofs.ToldLemmas.{Grew-refl}
 use Rattle.farm_machine.specs.declared.reports.End.TheVariants.{Failed}
 use Rattle.farm_machine.specs.Course.{Start, Send}
 use Rattle.job_run.proofs.Composing.{none-rose, stands-by, later-kept}
 use Rattle.job_run.proofs.Ends.{ends-unfetched}
 use Rattle.job_run.proofs.Failing.{not-fetched, not-fetched-cause, not-fetched-stands, fetch-ends}
-use Rattle.job_run.proofs.Leaves.{only-fetch, no-act, same_peers, same_programs}
+use Rattle.job_run.proofs.Leaves.{only-deed, no-act, same_peers, same_programs}
 use Rattle.job_run.proofs.preparing.fetch_source.Goals as goal
 
 pub returns-in-Ok-clause-prepared : goal.returns-in-Ok-clause-prepared
@@ -15,7 +16,7 @@ returns-in-Ok-clause-prepared g c = λ h l caller number mine j sent ready named
     let got = c.in-Ok.ensures in
     let x : Fetch = record { path = c.args.name.now; bytes = c.in-Ok.source } in
     record {
-      went = only-fetch x
+      went = only-deed (fetched x)
           (record {
             runs = Grew-refl _;
             fetches = got.fetches;
@@ -24,7 +25,7 @@ returns-in-Ok-clause-prepared g c = λ h l caller number mine j sent ready named
             moments = Grew-refl _;
             files = got.files;
           })
-          (later-kept _ _ refl got.faults got.overruns (omega arith)) (same_peers _) (same_programs _)
+          (later-kept _ _ refl got.faults got.overruns (omega arith)) tt (same_peers _) (same_programs _)
           (c.fetched.ensures.events, c.fetched.ensures.places) refl
           (sent, ready, sym named, ap (λ note. Send c.in-Ok.source note []) c.new.ensures) got.whole.within;
       station = none-rose _;

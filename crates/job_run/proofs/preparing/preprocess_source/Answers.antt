@@ -1,6 +1,7 @@
 use Rattle.std.proofs.Common.{refl, sym, []}
 use Rattle.std.proofs.lemmas.List.{append-nil}
 use Rattle.edge_traits.specs.declared.entries.Run.{Run}
+use Rattle.edge_traits.specs.Deeds.{ran}
 use Rattle.edge_traits.proofs.ToldLemmas.{Grew-refl}
 use Rattle.arg_strip.specs.Words.{preprocessing_words}
 use Rattle.child_runner.specs.Runs.{texts}
@@ -10,7 +11,7 @@ use Rattle.farm_machine.specs.Jobs.{job_of}
 use Rattle.job_run.proofs.Composing.{stands-by, keeps-none, keeps-by, unfetched, later-ran}
 use Rattle.job_run.proofs.Ends.{preprocessor-failed, preprocessor-well, ends-unpreprocessed}
 use Rattle.job_run.proofs.Failing.{not-run, not-run-cause, not-run-stands, not-run-unfetched, done-cause, done-unfetched}
-use Rattle.job_run.proofs.Leaves.{only-run, no-act, did-run, did-nothing, same_peers}
+use Rattle.job_run.proofs.Leaves.{only-deed, no-act, did-run, did-nothing, same_peers}
 use Rattle.job_run.proofs.Names.{class_unready}
 use Rattle.job_run.proofs.preparing.preprocess_source.Goals as goal
 
@@ -23,7 +24,7 @@ returns-then-ran-ne0-clause-prepared g c = λ h l caller number mine config.
     let x : Run = record { words = texts (preprocessing_words c.args.words.now); input = []; ran = c.in-Ok.ran } in
     record {
       to = Over c.done_by_preprocessor.result;
-      went = only-run x
+      went = only-deed (ran x)
           (did-run _ _ x run.runs refl refl (Grew-refl _)) (later-ran _ _ run.faults run.overruns refl refl) run.ran (same_peers _) run.same
           (c.ran.ensures.events, c.ran.ensures.places) refl (
             c.requires.remote,
@@ -44,7 +45,7 @@ returns-else-ran-ne0-clause-prepared g c = λ h l caller number mine config.
     let run = c.in-Ok.ensures in
     let x : Run = record { words = texts (preprocessing_words c.args.words.now); input = []; ran = c.in-Ok.ran } in
     record {
-      went = only-run x
+      went = only-deed (ran x)
           (did-run _ _ x run.runs refl refl (Grew-refl _)) (later-ran _ _ run.faults run.overruns refl refl) run.ran (same_peers _) run.same
           (c.ran.ensures.events, c.ran.ensures.places) refl
           (c.requires.remote, c.requires.source, (refl, refl), preprocessor-well c.in-Ok.ran c.if-ran-ne0.false) run.within;

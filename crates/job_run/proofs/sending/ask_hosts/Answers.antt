@@ -9,7 +9,8 @@ use Rattle.farm_machine.specs.Jobs.{AreLimitsOf}
 use Rattle.job_run.specs.Events.{try_events, tries_events}
 use Rattle.job_run.specs.Seen.{job_in}
 use Rattle.job_run.specs.Stages.{HasUntried}
-use Rattle.job_run.proofs.Asking.{asks-next, stage-next, stage-last, stage-broken, tried-more, step-then, arrive, here-as, no-host-unfetched, untried-all, untried-more}
+use Rattle.job_run.proofs.Asking.{asks-next, stage-next, stage-last, stage-broken, tried-more, step-then, arrive, here-as}
+use Rattle.job_run.proofs.Asking.{no-host-unfetched, untried-all, untried-more}
 use Rattle.job_run.proofs.Composing.{none-rose, on-then, cause-later, cause-before, keeps-none, later-none}
 use Rattle.job_run.proofs.Free.{free-then, stays-none, stays-then}
 use Rattle.job_run.proofs.Keeping.{idle-step}

@@ -27,8 +27,8 @@ returns-then-host-clause-asked g c = λ note tried untried.
     let fits = subst (λ words. RequestFits words source) c.requires.sent.words c.requires.sent.fits in
     let below = subst (λ (n : ℕ). host < n) c.requires.hosts.count slot.entry.entry in
     let fresh = fresh-entry _ _ _ slot.entry.masked (untried host) in
-    asked-then _ source note tried (Over c.compile_lent-step.result) (g.met.G.Grants.limits_stay _ _ slot.follows)
-    (g.met.G.Grants.caller_stays _ _ slot.follows) slot.entry.job
+    asked-then _ source note tried (Over c.compile_lent-step.result) (g.met.G.Grants.limits_stay _ _ slot.waited.follows)
+    (g.met.G.Grants.caller_stays _ _ slot.waited.follows) slot.entry.job
     (went-asked slot.mine.0 slot.mine.1 (Got host) (Takes host)
     (inr (host, refl)) refl refl refl refl slot.mine.3 (same_peers _) (same_programs _)
     (took-as _ _ _ _ c.host-at.ensures c.note-2.ensures.events, c.note-2.ensures.places) slot.mine.2 untried
@@ -43,8 +43,8 @@ returns-clause-asked g c = λ note tried untried.
     let fits = subst (λ words. RequestFits words source) c.requires.sent.words c.requires.sent.fits in
     let below = subst (λ (n : ℕ). host < n) c.requires.hosts.count slot.entry.entry in
     let fresh = fresh-entry _ _ _ slot.entry.masked (untried host) in
-    asked-then _ source note tried c.exchange.result (g.met.G.Grants.limits_stay _ _ slot.follows)
-    (g.met.G.Grants.caller_stays _ _ slot.follows) slot.entry.job
+    asked-then _ source note tried c.exchange.result (g.met.G.Grants.limits_stay _ _ slot.waited.follows)
+    (g.met.G.Grants.caller_stays _ _ slot.waited.follows) slot.entry.job
     (went-asked slot.mine.0 slot.mine.1 (Got host) (Takes host)
     (inr (host, refl)) refl refl refl refl slot.mine.3 (same_peers _) (same_programs _)
     (took-as _ _ _ _ c.host-at.ensures c.note-2.ensures.events, c.note-2.ensures.places) slot.mine.2 untried

@@ -10,11 +10,11 @@ use Rattle.job_run.proofs.waiting.borrow_host.Goals as goal
 
 pub loop-init : goal.loop-init
 loop-init g c = record {
-  ready = c.requires.ready;
+  ready = c.requires.free.ready;
   follows = g.met.G.Grants.follows_itself _;
   spare = refl;
   waited = ([], sym (append-nil _), Grew-refl _);
-  none = c.requires.none;
+  none = c.requires.free.none;
 }
 
 pub loop-preserved : goal.loop-preserved
@@ -29,11 +29,23 @@ loop-preserved g c =
       none = outstanding-more _ _ _ e.mine ∙ inv.none;
     }
 
-pub returns-in-Got-clause-follows : goal.returns-in-Got-clause-follows
-returns-in-Got-clause-follows g c = g.met.G.Grants.follows_on _ _ _ c.loop.invariant.follows c.in-Got.ensures.follows
+pub returns-in-Got-clause-waited : goal.returns-in-Got-clause-waited
+returns-in-Got-clause-waited g c =
+    let e = c.in-Got.ensures in
+    record {
+      ready = e.ready;
+      follows = g.met.G.Grants.follows_on _ _ _ c.loop.invariant.follows e.follows;
+      spare = e.spare ∙ c.loop.invariant.spare;
+    }
 
-pub returns-in-Down-clause-follows : goal.returns-in-Down-clause-follows
-returns-in-Down-clause-follows g c = g.met.G.Grants.follows_on _ _ _ c.loop.invariant.follows c.in-Down.ensures.follows
+pub returns-in-Down-clause-waited : goal.returns-in-Down-clause-waited
+returns-in-Down-clause-waited g c =
+    let e = c.in-Down.ensures in
+    record {
+      ready = e.ready;
+      follows = g.met.G.Grants.follows_on _ _ _ c.loop.invariant.follows e.follows;
+      spare = e.spare ∙ c.loop.invariant.spare;
+    }
 
 pub returns-in-Got-clause-mine : goal.returns-in-Got-clause-mine
 returns-in-Got-clause-mine g c =

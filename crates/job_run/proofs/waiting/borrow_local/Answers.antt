@@ -8,11 +8,11 @@ use Rattle.job_run.proofs.waiting.borrow_local.Goals as goal
 
 pub loop-init : goal.loop-init
 loop-init g c = record {
-  ready = c.requires.ready;
+  ready = c.requires.free.ready;
   follows = g.met.G.Grants.follows_itself _;
   spare = refl;
   refused = (0, sym (append-nil _));
-  none = c.requires.none;
+  none = c.requires.free.none;
   clock = Grew-refl _;
 }
 
@@ -29,9 +29,14 @@ loop-preserved g c =
       clock = Grew-then inv.clock c.pause.ensures;
     }
 
-pub returns-in-Some-take_local-clause-follows : goal.returns-in-Some-take_local-clause-follows
-returns-in-Some-take_local-clause-follows g c =
-    g.met.G.Grants.follows_on _ _ _ c.loop.invariant.follows c.in-Some-take_local.ensures.follows
+pub returns-in-Some-take_local-clause-waited : goal.returns-in-Some-take_local-clause-waited
+returns-in-Some-take_local-clause-waited g c =
+    let e = c.in-Some-take_local.ensures in
+    record {
+      ready = e.ready;
+      follows = g.met.G.Grants.follows_on _ _ _ c.loop.invariant.follows e.follows;
+      spare = e.spare ∙ c.loop.invariant.spare;
+    }
 
 pub returns-in-Some-take_local-clause-mine : goal.returns-in-Some-take_local-clause-mine
 returns-in-Some-take_local-clause-mine g c =

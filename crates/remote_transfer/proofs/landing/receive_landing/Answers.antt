@@ -1,26 +1,40 @@
-use Rattle.std.proofs.Common.{arith, ◌∙◌, sym, subst}
-use Rattle.std.specs.Prelude.{None}
+use Rattle.std.proofs.Common.{arith, ◌∙◌, refl, sym, subst}
 use Rattle.std.proofs.lemmas.Result.{err_from_is_err_and}
-use Rattle.edge_traits.proofs.ToldLemmas.{Grew-still}
+use Rattle.edge_traits.proofs.ToldLemmas.{Grew-refl, Grew-still}
 use Rattle.reply_stream.specs.Objects.{spanned}
 use Rattle.remote_transfer.specs.declared.receiving.Brought.TheVariants.{More, Whole}
 use Rattle.remote_transfer.specs.Landings.{ReceivedInto}
 use Rattle.remote_transfer.specs.Pieces.{PieceBrought}
 use Rattle.remote_transfer.proofs.ByPieces.{receiving-small}
-use Rattle.remote_transfer.proofs.IntoFiles.{stays-then, into-stops, into-memory, into-more, into-last}
+use Rattle.remote_transfer.proofs.IntoFiles.{stays-same, stays-then, into-begins, into-stops, into-memory, into-more, into-last}
 use Rattle.remote_transfer.proofs.landing.receive_landing.Goals as goal
+
+pub receiving-init : goal.receiving-init
+receiving-init g c = record {
+  room = c.requires.room;
+  small = c.requires.small;
+  shape = refl;
+  into = into-begins (g.L.Link.shows c.args.link.now) c.args.reader.now c.args.path.now (g.K.Keeper.shows c.args.keeper.now) c.requires.at
+      c.requires.idle;
+  sent = Grew-refl (g.L.Link.shows c.args.link.now).sent;
+  stopped = refl;
+  follows = g.met.L.Link.follows_itself _;
+  later = omega arith;
+  stays = stays-same (g.K.Keeper.shows c.args.keeper.now);
+}
 
 pub returns-in_err-count-clause-received : goal.returns-in_err-count-clause-received
 returns-in_err-count-clause-received g c =
     let p = err_from_is_err_and c.from_residual.result c.from_residual.ensures.1 in
-    rw (p.1, p.2) (into-stops (g.L.Link.shows c.args.link.now) (g.L.Link.shows c.receiving.link) (g.L.Link.shows c.receive_piece.new.link) c.receiving.reader c.receiving.have c.receiving.course c.args.path.now (g.K.Keeper.shows c.args.keeper.now) (g.K.Keeper.shows c.receiving.keeper) (g.K.Keeper.shows c.receiving.keeper) c.in_err-count.field-0.0 c.receiving.invariant.into c.in_err-count.ensures.stops)
+    rw (p.1, p.2) (into-stops (g.L.Link.shows c.args.link.now) (g.L.Link.shows c.receiving.link) (g.L.Link.shows c.receive_piece.new.link) c.receiving.reader c.receiving.have c.receiving.course c.args.path.now (g.K.Keeper.shows c.args.keeper.now) (g.K.Keeper.shows c.receiving.keeper) c.in_err-count.field-0.0 c.receiving.invariant.into c.in_err-count.ensures.stops)
 
 pub returns-in_err-course-in-More-clause-received : goal.returns-in_err-course-in-More-clause-received
 returns-in_err-course-in-More-clause-received g c =
     let b : PieceBrought (g.L.Link.shows c.receiving.link) (g.L.Link.shows c.receive_piece.new.link) c.receiving.reader c.receive_piece.new.reader c.receive_piece.new.room (More c.in-More.count c.in-More.object) =
     subst (λ x. PieceBrought (g.L.Link.shows c.receiving.link) (g.L.Link.shows c.receive_piece.new.link) c.receiving.reader c.receive_piece.new.reader c.receive_piece.new.room x) c.in-More.is c.in_ok-count.ensures.read in
     let p = err_from_is_err_and c.from_residual-in_err-course-in-More.result c.from_residual-in_err-course-in-More.ensures.1 in
-    let memory = into-memory (g.L.Link.shows c.args.link.now) (g.L.Link.shows c.receiving.link) (g.L.Link.shows c.receive_piece.new.link) c.receiving.reader c.receive_piece.new.reader c.receiving.have c.receiving.course c.args.path.now (g.K.Keeper.shows c.args.keeper.now) (g.K.Keeper.shows c.receiving.keeper) (g.K.Keeper.shows c.land.new.keeper) c.in-More.count (spanned c.in-More.object c.receive_piece.new.room) None c.receiving.invariant.into b.2 in
+    let memory = into-memory (g.L.Link.shows c.args.link.now) (g.L.Link.shows c.receiving.link) (g.L.Link.shows c.receive_piece.new.link) c.receiving.reader c.receive_piece.new.reader c.receiving.have c.receiving.course c.args.path.now (g.K.Keeper.shows c.args.keeper.now) (g.K.Keeper.shows c.receiving.keeper) (g.K.Keeper.shows c.land.new.keeper) c.in-More.count (spanned c.in-More.object c.receive_piece.new.room) c.receiving.invariant.into b.2
+    c.in_err-course-in-More.ensures.some in
     rw (p.1, p.2, c.in_err-course-in-More.ensures.memory.0) memory
 
 pub overflow_add-have : goal.overflow_add-have
