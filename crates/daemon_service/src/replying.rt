@@ -9,7 +9,7 @@ ghost use Rattle.daemon_service.specs.Services.{LinkCause};
 ghost use Rattle.daemon_service.specs.Parts.{SentPart, SendStops, Replied};
 
 use crate::Served;
-use compile_reply::encode;
+use compile_reply::{encode, encode_head};
 use edge_traits::{EdgeFault, Link};
 use farm_types::Outcome;
 use std::alloc::Global;
@@ -38,8 +38,8 @@ fn send_all<L: Link>(link: &mut L, bytes: &[u8]) -> Result<(), Served>
     Ok(())
 }
 
-/// Makes the whole text of a reply, and then sends it.
-pub(crate) fn reply<L: Link>(alloc: Global, link: &mut L, outcome: &Outcome) -> Served
+// Makes the whole text of a reply, and then sends it at once.
+fn reply_whole<L: Link>(alloc: Global, link: &mut L, outcome: &Outcome) -> Served
     requires { OutcomeFits outcome.now.status outcome.now.err outcome.now.out outcome.now.object }
     ensures replied { Replied (reply_text outcome.now) outcome.now.status (L.shows link.old) (L.shows link.new) result }
     ensures given { Grew (L.shows link.old).given (L.shows link.new).given [] }
@@ -55,3 +55,43 @@ pub(crate) fn reply<L: Link>(alloc: Global, link: &mut L, outcome: &Outcome) -> 
         Err(served) => served,
     }
 }
+
+// Makes the text before the object, and then sends it and the object's own bytes, so that these aren't copied.
+fn reply_apart<L: Link>(alloc: Global, link: &mut L, outcome: &Outcome) -> Served
+    requires { OutcomeFits outcome.now.status outcome.now.err outcome.now.out outcome.now.object }
+    ensures replied { Replied (reply_text outcome.now) outcome.now.status (L.shows link.old) (L.shows link.new) result }
+    ensures given { Grew (L.shows link.old).given (L.shows link.new).given [] }
+    ensures ended { (L.shows link.new).ended ≡ (L.shows link.old).ended }
+    ensures follows { L.follows link.old link.new }
+    ensures cause { LinkCause result (L.shows link.old).faults (L.shows link.new).faults }
+{
+    let Ok(head) = encode_head(alloc, outcome) else {
+        return Served::Memory;
+    };
+    if let Err(served) = send_all(link, head.as_slice()) {
+        return served;
+    }
+    match send_all(link, outcome.object.as_slice()) {
+        Ok(()) => Served::Answered(outcome.status),
+        Err(served) => served,
+    }
+}
+
+/// Makes what isn't there yet of a reply, and then sends the reply.
+pub(crate) fn reply<L: Link>(alloc: Global, link: &mut L, outcome: &Outcome) -> Served
+    requires { OutcomeFits outcome.now.status outcome.now.err outcome.now.out outcome.now.object }
+    ensures replied { Replied (reply_text outcome.now) outcome.now.status (L.shows link.old) (L.shows link.new) result }
+    ensures given { Grew (L.shows link.old).given (L.shows link.new).given [] }
+    ensures ended { (L.shows link.new).ended ≡ (L.shows link.old).ended }
+    ensures follows { L.follows link.old link.new }
+    ensures cause { LinkCause result (L.shows link.old).faults (L.shows link.new).faults }
+{
+    if outcome.object.len() < SENT_APART {
+        return reply_whole(alloc, link, outcome);
+    }
+    reply_apart(alloc, link, outcome)
+}
+
+/// An object of so many bytes or more is sent from where it is, behind the text before it. Below, a copy of it costs less
+/// than a second send.
+const SENT_APART: usize = 65_536;

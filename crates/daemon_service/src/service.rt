@@ -20,8 +20,8 @@ fn make_room(alloc: Global) -> Result<Vec<u8>, AllocError>
     vec![in alloc; 0; ROOM]
 }
 
-/// Serves one connection: reads one request, makes at most one run, and writes one reply, whose whole text is made before
-/// the first of it is sent.
+/// Serves one connection: reads one request, makes at most one run, and writes one reply, all of which is there before the
+/// first of it is sent.
 ///
 /// Where the table doesn't name the request's first word, or the words aren't a compile of one source, the reply says so
 /// and nothing is run. Otherwise the words that compile what was sent are run on the source, with the table's program in

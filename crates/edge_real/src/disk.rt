@@ -9,13 +9,13 @@ ghost use Rattle.edge_real.specs.Views.{files_view, counted_files, files_names};
 use crate::counting::raise;
 use crate::notices::{tell_unput, tell_unread};
 use crate::own_files::OwnNames;
-use crate::reading::{Reading, read_to_end};
+use crate::reading::{Reading, first_room, read_to_end};
 use crate::staging::{StagedFile, move_to, stage};
 use edge_traits::{EdgeFault, FetchFault};
 use farm_types::Bytes;
 use object_delivery::Files;
 use std::alloc::Global;
-use std::fs::File;
+use std::fs::{File, OpenFile};
 use std::io::{Eprint, ErrorKind};
 use std::{fs, io, rt, str};
 
@@ -243,13 +243,24 @@ pub fn load<R: rt::Files + Eprint>(
     ensures cause { IfErr result (IsLoadFault bound) }
 {
     match File::open(rt, path) {
-        Ok(mut file) => loaded(read_to_end(&mut file, alloc, bound)?),
+        Ok(mut file) => {
+            let room = first_room(length_of(&file), bound);
+            loaded(read_to_end(&mut file, alloc, bound, room)?)
+        }
         Err(error) => {
             if error.kind() != ErrorKind::NotFound {
                 tell_unread(rt, path, &error);
             }
             Err(why_unopened(&error))
         }
+    }
+}
+
+/// How long the system says that a file is, and 0 where it doesn't say.
+fn length_of<F: OpenFile>(file: &F) -> u64 {
+    match file.metadata() {
+        Ok(metadata) => metadata.len(),
+        Err(_) => 0,
     }
 }
 

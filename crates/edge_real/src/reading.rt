@@ -1,5 +1,5 @@
 // Files and pipes that are read to their ends, within a bound.
-ghost use Rattle.std.specs.Prelude.{◌≡◌, ◌+◌, ◌-◌, ◌^◌, ◌≤◌, ◌++◌, min, length, IfOk};
+ghost use Rattle.std.specs.Prelude.{◌≡◌, ◌+◌, ◌-◌, ◌^◌, ◌<◌, ◌≤◌, ◌++◌, min, length, IfOk};
 ghost use Rattle.edge_real.specs.Reading.{IsReadWithin, IsReadOf};
 
 use crate::retrying::read_once;
@@ -18,17 +18,34 @@ pub enum Reading {
     Failed,
 }
 
-/// Reads a stream to its end. Past the bound it counts the bytes and keeps none.
+/// How much room a stream is given at first of which so many bytes are expected. A long one has room for as many as the bound allows, of which no
+/// more is touched than is read: a block of such a size is one that the C library gives back to the system at once, and doesn't keep for the next.
+pub fn first_room(expected: u64, bound: u32) -> usize
+    ensures none { bound < expected → result ≡ 0 }
+    ensures some { expected ≤ bound → expected ≤ result }
+    ensures bound { result ≤ bound }
+{
+    if expected > u64::from(bound) {
+        return 0;
+    }
+    if expected > LONG {
+        return bound as usize;
+    }
+    expected as usize
+}
+
+/// Reads a stream to its end, into so much room at first. Past the bound it counts the bytes and keeps none.
 #[tactic(auto, using(crate::proofs::ReadLemmas::reading))]
 pub fn read_to_end<S: Read>(
     stream: &mut S,
     alloc: Global,
     bound: u32,
+    room: usize,
 ) -> Result<Reading, AllocError>
     ensures within { IfOk result (IsReadWithin bound) }
     ensures read { IfOk result (IsReadOf (S.remaining stream.old)) }
 {
-    let mut bytes = Bytes::new(alloc);
+    let mut bytes = Bytes::from_vec(Vec::with_capacity(alloc, room)?);
     let mut total = 0u64;
     let mut piece = [0u8; PIECE];
     for _ in 0..u64::MAX {
@@ -60,3 +77,6 @@ fn count_in(bytes: &mut Bytes, total: u64, bound: u32, piece: &[u8]) -> Result<u
 
 /// How many bytes one read asks for.
 const PIECE: usize = 65_536;
+
+/// A stream of more bytes is a long one.
+const LONG: u64 = 4_194_304;

@@ -166,7 +166,7 @@ fn read_stream<S: Read>(
     ensures fault { IfErr result (IsStreamFault which bound) }
     ensures read { IfOk result (λ bytes. IfSome (S.remaining stream.old) (λ all. bytes ≡ all)) }
 {
-    taken(read_to_end(stream, alloc, bound)?, which)
+    taken(read_to_end(stream, alloc, bound, 0)?, which)
 }
 
 /// What is taken of a stream, by what its reading gave.
