@@ -88,6 +88,15 @@ const LINE_ROWS: &[LineRow] = &[
     ),
     (
         ALL_ENDED,
+        ALL_ENDED,
+        6,
+        3,
+        &[],
+        LineEnd::Whole,
+        "watch 1 ended 6 of 6 busy 0\n",
+    ),
+    (
+        ALL_ENDED,
         THIRD_RUNS,
         5,
         3,

@@ -22,8 +22,8 @@ use std::thread::Threads;
 /// How many kits there are: the most workers.
 const KITS: usize = 16;
 
-/// How many milliseconds lie between two lines of a build that tells how far it has come.
-const LINE_MILLIS: u64 = 1_000;
+/// How many milliseconds a pause lasts between two looks at how far a build has come; a line follows after 20 of them.
+const LOOK_MILLIS: u64 = 50;
 
 /// The variable with the host list.
 const HOSTS: &str = "DISTCC_HOSTS";
@@ -76,10 +76,10 @@ fn notices_of(rt: &HostRuntime) -> Result<Notices, AllocError> {
     Ok(Notices::by(value.as_ref().map(|value| value.as_str())))
 }
 
-// How many milliseconds a pause of the last kit's clock lasts: it is on that clock that lines which tell of a build are apart.
+// How many milliseconds a pause of the last kit's clock lasts: on that clock the lines which tell of a build wait for one another.
 fn last_pause(words: &[String]) -> u64 {
     if is_watched(words) {
-        LINE_MILLIS
+        LOOK_MILLIS
     } else {
         PAUSE_MILLIS
     }

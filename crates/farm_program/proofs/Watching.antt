@@ -1,7 +1,7 @@
 -- From the lines of a watched build to what its sinks got.
-use Rattle.std.proofs.Common.{◌≡◌, ◌<◌, ◌≤◌, ◌+◌, ◌-◌, ◌&&◌, ℕ, zero, suc, Bool, true, nat_le, List, [], ◌∷◌, ◌++◌, length, take, refl}
+use Rattle.std.proofs.Common.{◌≡◌, ◌<◌, ◌≤◌, ◌+◌, ◌-◌, ◌&&◌, ◌==◌, ℕ, zero, suc, Bool, true, false, not, nat_le, if◌then◌else◌, List, [], ◌∷◌, ◌++◌, length, take, refl}
 use Rattle.std.proofs.Common.{sym, ap, ◌∙◌, subst, inl, inr, arith}
-use Rattle.std.proofs.lemmas.Bool.{and_from, and_parts, le-leb}
+use Rattle.std.proofs.lemmas.Bool.{and_from, and_parts, cases_Bool, le-leb, or_right}
 use Rattle.std.proofs.lemmas.List.{append-nil, length-append}
 use Rattle.std.proofs.lemmas.Grind.{common_steps}
 use Rattle.farm_types.specs.declared.hosts.Host.{Host}
@@ -24,7 +24,7 @@ use Rattle.stream_print.specs.declared.pieces.SinkKind.TheVariants.{Err as ErrSi
 use Rattle.watch_lines.specs.declared.count.Count.{Count}
 use Rattle.watch_lines.specs.declared.line_end.LineEnd.{LineEnd}
 use Rattle.watch_lines.specs.declared.line_end.LineEnd.TheVariants.{Whole, SinkFault, Memory}
-use Rattle.watch_lines.specs.Lines.{watch_line, lines_text, last_text, counts_rise}
+use Rattle.watch_lines.specs.Lines.{watch_line, lines_text, last_text, counts_rise, are_all, none_says_all, lines_end}
 use Rattle.watch_lines.specs.Printed.{all_within, LinePrinted, LinesPrinted, LinesCut, WatchLines}
 use Rattle.job_driver.specs.Watching.{WatchPrinted}
 use Rattle.farm_answers.specs.Texts.{no_memory_text}
@@ -66,11 +66,6 @@ again : ℕ → Count → List Count
 again zero c = []
 again (suc n) c = c ∷ again n c
 
-again_long : (n : ℕ) (c : Count) → length (again n c) ≡ n
-unfolding again
-again_long zero c = refl
-again_long (suc n) c = ap suc (again_long n c)
-
 again_rises : (n : ℕ) (c : Count) → counts_rise c.ended (again n c) ≡ true
 unfolding again
 again_rises zero c = refl
@@ -84,6 +79,42 @@ rise_more least [] c n h = and_from (nat_le least c.ended) (counts_rise c.ended 
 rise_more least (x ∷ xs) c n h =
     let both = and_parts (nat_le least x.ended) (counts_rise x.ended (xs ++ c ∷ [])) h in
     and_from (nat_le least x.ended) (counts_rise x.ended (xs ++ c ∷ again n c)) both.0 (rise_more x.ended xs c n both.1)
+
+-- so many lines are left behind one of this count
+left_behind : ℕ → Count → ℕ → ℕ
+left_behind jobs c left = if are_all jobs c then 0 else left
+
+end_again : (jobs left : ℕ) (c : Count) → are_all jobs c ≡ false → lines_end jobs (left + 1) (c ∷ again left c) ≡ true
+unfolding again
+end_again jobs zero c goes = refl
+end_again jobs (suc left) c goes =
+    let same : suc left + 1 - 1 ≡ left + 1 = omega arith in
+    let rest = end_again jobs left c goes in rw (goes, same, rest) refl
+
+end_here : (jobs left : ℕ) (c : Count) → lines_end jobs (left + 1) (c ∷ again (left_behind jobs c left) c) ≡ true
+unfolding again left_behind
+end_here jobs left c = elim (cases_Bool (are_all jobs c)) [
+  | inl all ↦ let some : nat_le 1 (left + 1) ≡ true = le-leb 1 (left + 1) (omega arith) in
+      rw (all, some) (or_right (left + 1 == 1) (are_all jobs c) all)
+  | inr goes ↦ rw goes (end_again jobs left c goes)
+]
+
+end_more : (jobs left : ℕ) (counts : List Count) (c : Count) → none_says_all jobs counts ≡ true
+    → lines_end jobs (length counts + left + 1) (counts ++ c ∷ again (left_behind jobs c left) c) ≡ true
+end_more jobs left [] c none =
+    let same : 0 + left + 1 ≡ left + 1 = omega arith in
+    subst (λ (n : ℕ). lines_end jobs n (c ∷ again (left_behind jobs c left) c) ≡ true) (sym same) (end_here jobs left c)
+end_more jobs left (x ∷ []) c none =
+    let goes = and_parts (not (are_all jobs x)) true none in
+    let same : length (x ∷ []) + left + 1 - 1 ≡ left + 1 = omega arith in
+    and_from (not (are_all jobs x)) _ goes.0
+    (subst (λ (n : ℕ). lines_end jobs n (c ∷ again (left_behind jobs c left) c) ≡ true) (sym same) (end_here jobs left c))
+end_more jobs left (x ∷ y ∷ ys) c none =
+    let goes = and_parts (not (are_all jobs x)) (none_says_all jobs (y ∷ ys)) none in
+    let same : length (x ∷ y ∷ ys) + left + 1 - 1 ≡ length (y ∷ ys) + left + 1 = omega arith in
+    and_from (not (are_all jobs x)) _ goes.0
+    (subst (λ (n : ℕ). lines_end jobs n (y ∷ ys ++ c ∷ again (left_behind jobs c left) c) ≡ true) (sym same)
+    (end_more jobs left (y ∷ ys) c goes.1))
 
 module _ (jobs workers : ℕ) where
   within_one : (c : Count) (more : List Count) → all_within jobs workers (c ∷ []) ≡ true → all_within jobs workers more ≡ true
@@ -126,7 +157,7 @@ record LinesEnd (jobs workers lines : ℕ) (end : LineEnd) (a b : SinksView) : T
 module _ {jobs workers lines : ℕ} (told : Bool) (out old new : SinkView) where
   module _ (c : LinesCut jobs workers 1 lines 0 old new) where
     left : ℕ
-    left = lines - (length c.counts + 1)
+    left = left_behind jobs c.next (lines - (length c.counts + 1))
 
     all_counts : List Count
     all_counts = c.counts ++ c.next ∷ again left c.next
@@ -134,11 +165,11 @@ module _ {jobs workers lines : ℕ} (told : Bool) (out old new : SinkView) where
     tell_cut : AreCounts jobs workers lines all_counts
     unfolding all_counts left
     tell_cut = record {
-      many =
+      ends =
           let few = c.few in
-          let long = length-append c.counts (c.next ∷ again left c.next) in
-          let rest = again_long left c.next in
-          omega (arith, few, long, rest);
+          let same : length c.counts + (lines - (length c.counts + 1)) + 1 ≡ lines = omega (arith, few) in
+          subst (λ (n : ℕ). lines_end jobs n all_counts ≡ true) same
+          (end_more jobs (lines - (length c.counts + 1)) c.counts c.next c.going);
       rises = rise_more 0 c.counts c.next left c.rises;
       within = within_more jobs workers c.counts c.next left c.within;
     }
@@ -201,7 +232,7 @@ last_after {jobs = jobs} told out old mid new Whole l last =
     record {
       counts = l.counts;
       told = told;
-      tell = record { many = l.many; rises = l.rises; within = l.within };
+      tell = record { ends = l.ends; rises = l.rises; within = l.within };
       got = (Printed-join before.0 (Printed-err last.0 refl), goes-join before.1 (record { out = goes-same out; err = last.1 }));
     }
 last_after {jobs = jobs} told out old mid new SinkFault l last =
@@ -209,7 +240,7 @@ last_after {jobs = jobs} told out old mid new SinkFault l last =
     record {
       counts = l.counts;
       told = told;
-      tell = record { many = l.many; rises = l.rises; within = l.within };
+      tell = record { ends = l.ends; rises = l.rises; within = l.within };
       got = PrintedPart-after (line_pieces 1 jobs l.counts) [] (watch_pieces jobs l.counts told) refl before.0 before.1
           (complaint_part (last_text jobs told) Stopped out mid new last.0 (λ _. last.1) (λ is. absurd (cc)));
     }
@@ -218,23 +249,23 @@ last_after {jobs = jobs} told out old mid new Memory l last =
     record {
       counts = l.counts;
       told = told;
-      tell = record { many = l.many; rises = l.rises; within = l.within };
+      tell = record { ends = l.ends; rises = l.rises; within = l.within };
       got = PrintedPart-after (line_pieces 1 jobs l.counts) [] (watch_pieces jobs l.counts told) refl before.0 before.1
           (complaint_part (last_text jobs told) WantsMemory out mid new last.0 (λ is. absurd (cc)) (λ _. last.1));
     }
 
-lines_end : {jobs workers lines : ℕ} (told : Bool) (out old new : SinkView) (end : LineEnd)
+lines_ended : {jobs workers lines : ℕ} (told : Bool) (out old new : SinkView) (end : LineEnd)
     → WatchPrinted jobs workers lines told old new end
     → LinesEnd jobs workers lines end (sinks out old) (sinks out new)
-lines_end told out old new end (inr (mid, lines, last)) = last_after told out old mid new end lines last
-lines_end told out old new Whole (inl (cut, lines)) = absurd (cut refl)
-lines_end told out old new SinkFault (inl (cut, lines)) = record {
+lines_ended told out old new end (inr (mid, lines, last)) = last_after told out old mid new end lines last
+lines_ended told out old new Whole (inl (cut, lines)) = absurd (cut refl)
+lines_ended told out old new SinkFault (inl (cut, lines)) = record {
   counts = all_counts told out old new lines.0;
   told = told;
   tell = tell_cut told out old new lines.0;
   got = lines_cut told out old new lines.0 Stopped (λ _. lines.1) (λ is. absurd (cc));
 }
-lines_end told out old new Memory (inl (cut, lines)) = record {
+lines_ended told out old new Memory (inl (cut, lines)) = record {
   counts = all_counts told out old new lines.0;
   told = told;
   tell = tell_cut told out old new lines.0;
@@ -307,7 +338,7 @@ pub watch_ends : {jobs workers lines : ℕ} (told : Bool) (hosts : List Host) (r
     → WatchPrinted jobs workers lines told old mid end → AfterLines end hosts reports (sinks out mid) c answer
     → WatchEnd jobs workers lines hosts reports (sinks out old) c answer
 watch_ends told hosts reports out old mid c answer end printed after =
-    end_by hosts reports (sinks out old) (sinks out mid) c answer end (lines_end told out old mid end printed) after
+    end_by hosts reports (sinks out old) (sinks out mid) c answer end (lines_ended told out old mid end printed) after
 
 -- ---- the same by other names
 

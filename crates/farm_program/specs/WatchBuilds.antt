@@ -20,7 +20,7 @@ use Rattle.stream_print.specs.Ends.{complaint, stopped_status, Ends, WantOf}
 use Rattle.watch_lines.specs.declared.count.Count.{Count}
 use Rattle.watch_lines.specs.declared.line_end.LineEnd.{LineEnd}
 use Rattle.watch_lines.specs.declared.line_end.LineEnd.TheVariants.{Whole, SinkFault, Memory}
-use Rattle.watch_lines.specs.Lines.{watch_line, last_text, counts_rise}
+use Rattle.watch_lines.specs.Lines.{watch_line, last_text, counts_rise, lines_end}
 use Rattle.watch_lines.specs.Printed.{all_within}
 use Rattle.farm_answers.specs.Texts.{bad_jobs_status, cannot_read_status, cannot_read_text, job_fault_text, no_memory_text}
 use Rattle.farm_program.specs.Worlds.{World, Refused}
@@ -28,10 +28,10 @@ use Rattle.farm_program.specs.Builds.{Builds, HasListFault, Wanted, input_limit}
 
 -- ---- the lines
 
--- What lines tell: there are so many of them. The jobs ended never fall from one line to the next, and are no more than there are jobs; the
--- workers at a job are no more than there are workers.
+-- What lines tell: there are so many of them, or fewer where the last one says that all jobs have ended. The jobs ended never fall from one
+-- line to the next, and are no more than there are jobs; the workers at a job are no more than there are workers.
 pub record AreCounts (jobs workers lines : ℕ) (counts : List Count) : Type 0 where
-  pub many : length counts ≡ lines
+  pub ends : lines_end jobs lines counts ≡ true
   pub rises : counts_rise 0 counts ≡ true
   pub within : all_within jobs workers counts ≡ true
 

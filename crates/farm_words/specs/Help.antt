@@ -97,7 +97,7 @@ watch_help =
     ++ codes "  watch last ended N of N busy 0  all jobs have ended\n"
     ++ codes "  watch last no memory            the same, where memory for the lines was wanting\n"
     ++ codes "\n"
-    ++ codes "  --lines N      print N lines before the last, 1 to 100; 10 where it isn't given\n"
+    ++ codes "  --lines N      print at most N lines before the last, 1 to 100; by default 10\n"
     ++ codes "\n"
     ++ codes "The other options and the host list are those of farm build. One of the 16 workers\n"
     ++ codes "that there may be keeps the time, so at most 15 jobs are done at once.\n"

@@ -95,7 +95,7 @@ build prints.
   watch last ended N of N busy 0  all jobs have ended
   watch last no memory            the same, where memory for the lines was wanting
 
-  --lines N      print N lines before the last, 1 to 100; 10 where it isn't given
+  --lines N      print at most N lines before the last, 1 to 100; by default 10
 
 The other options and the host list are those of farm build. One of the 16 workers
 that there may be keeps the time, so at most 15 jobs are done at once.

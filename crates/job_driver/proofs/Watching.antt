@@ -1,9 +1,8 @@
 -- What is known of a build that is watched.
-use Rattle.std.proofs.Common.{◌≡◌, ℕ, zero, suc, ◌-◌, ◌<◌, nat_le}
+use Rattle.std.proofs.Common.{◌≡◌, ℕ, zero, suc, ◌-◌, ◌<◌}
 use Rattle.std.proofs.Common.{Bool, true, List, [], ◌∷◌, ◌++◌, length, get_or, map, take, drop}
 use Rattle.std.proofs.Common.{refl, sym, ap, ◌∙◌, subst, arith, inl, inr}
 use Rattle.std.specs.Prelude.{All}
-use Rattle.std.proofs.lemmas.Bool.Decides.{nat_tests}
 use Rattle.std.proofs.lemmas.List.{length-map, length-append}
 use Rattle.slot_table.specs.declared.limits.Limits.{Limits}
 use Rattle.slot_table.specs.declared.state.SlotState.{SlotState}
@@ -11,48 +10,11 @@ use Rattle.slot_table.specs.declared.calls.CallEntry.{CallEntry}
 use Rattle.edge_traits.specs.Sinks.{SinkView}
 use Rattle.farm_machine.specs.declared.reports.Report.{Report}
 use Rattle.farm_machine.specs.Jobs.{Job}
-use Rattle.watch_lines.specs.declared.count.Count.{Count}
 use Rattle.watch_lines.specs.declared.line_end.LineEnd.{LineEnd}
 use Rattle.watch_lines.specs.declared.line_end.LineEnd.TheVariants.{Whole, SinkFault, Memory}
-use Rattle.watch_lines.specs.Lines.{counts_rise}
-use Rattle.watch_lines.specs.Printed.{LinesCut, WatchLines}
+use Rattle.watch_lines.specs.Printed.{WatchLines}
 use Rattle.job_driver.specs.Driven.{Devices, JobsRan}
 use Rattle.job_driver.specs.Watching.{front, Lent, WatchedRan, WatchPrinted, AfterLines}
-
--- counts that never fall from some number never fall from 0
-rise-from-none : (least : ℕ) (counts : List Count) → counts_rise least counts ≡ true → counts_rise 0 counts ≡ true
-rise-from-none least [] rises = refl
-rise-from-none least (c ∷ counts) rises =
-    let rest : counts_rise c.ended counts ≡ true = grind (arith, nat_tests) in
-    let none : nat_le 0 c.ended ≡ true = grind (arith, nat_tests) in
-    rw (none, rest) refl
-
-cut-from-none : (jobs workers at lines least : ℕ) (old new : SinkView) → LinesCut jobs workers at lines least old new
-    → LinesCut jobs workers at lines 0 old new
-cut-from-none jobs workers at lines least old new cut = record {
-  counts = cut.counts;
-  next = cut.next;
-  few = cut.few;
-  rises = rise-from-none least (cut.counts ++ cut.next ∷ []) cut.rises;
-  within = cut.within;
-  part = cut.part;
-  short = cut.short;
-  printed = cut.printed;
-}
-
-pub lines-from-none : (jobs workers at lines least : ℕ) (old new : SinkView) (end : LineEnd)
-    → WatchLines jobs workers at lines least old new end
-    → WatchLines jobs workers at lines 0 old new end
-lines-from-none jobs workers at lines least old new Whole whole = record {
-  counts = whole.counts;
-  many = whole.many;
-  rises = rise-from-none least whole.counts whole.rises;
-  within = whole.within;
-  printed = whole.printed;
-  goes_on = whole.goes_on;
-}
-lines-from-none jobs workers at lines least old new SinkFault cut = (cut-from-none jobs workers at lines least old new cut.0, cut.1)
-lines-from-none jobs workers at lines least old new Memory cut = (cut-from-none jobs workers at lines least old new cut.0, cut.1)
 
 -- what is written over a whole list is the list then
 pub all-written : {X : Type 0} (old new : List X) → length new ≡ length old → take (length old) (new ++ drop (length new) old) ≡ new

@@ -1,6 +1,7 @@
 -- One line, and then the others.
-use Rattle.std.proofs.Common.{◌≡◌, ℕ, ◌+◌, ◌≤◌, ◌<◌, nat_le, true, [], ◌∷◌, ◌++◌}
+use Rattle.std.proofs.Common.{◌≡◌, ℕ, zero, suc, ◌+◌, ◌-◌, ◌≤◌, ◌<◌, nat_le, true, false, List, [], ◌∷◌, ◌++◌, ◌==◌, ◌||◌, ◌&&◌, Bool}
 use Rattle.std.proofs.Common.{length, take, refl, sym, ◌∙◌, subst, inl, inr, arith, append_assoc}
+use Rattle.std.proofs.lemmas.Bool.{and_parts, and_from, le-leb, leb-true}
 use Rattle.std.proofs.lemmas.Bool.Decides.{nat_tests}
 use Rattle.edge_traits.specs.Told.{Grew}
 use Rattle.edge_traits.specs.Sinks.{SinkView}
@@ -10,8 +11,8 @@ use Rattle.stream_print.specs.Prints.{GoesOn, DidStop}
 use Rattle.watch_lines.specs.declared.count.Count.{Count}
 use Rattle.watch_lines.specs.declared.line_end.LineEnd.{LineEnd}
 use Rattle.watch_lines.specs.declared.line_end.LineEnd.TheVariants.{Whole, SinkFault, Memory}
-use Rattle.watch_lines.specs.Lines.{watch_line, lines_text}
-use Rattle.watch_lines.specs.Printed.{PartPrinted, LinePrinted, LinesCut, WatchLines}
+use Rattle.watch_lines.specs.Lines.{watch_line, lines_text, counts_rise, are_all, none_says_all, lines_end}
+use Rattle.watch_lines.specs.Printed.{PartPrinted, LinePrinted, LinesPrinted, LinesCut, WatchLines}
 
 goes-join : {a b c : SinkView} → GoesOn a b → GoesOn b c → GoesOn a c
 goes-join first second = record { faults = second.faults ∙ first.faults; stopped = second.stopped ∙ first.stopped }
@@ -24,12 +25,66 @@ stop-after a b c goes (inr stopped) = inr stopped
 pub none-left : (jobs workers at lines least : ℕ) (sink : SinkView) → lines ≡ 0 → WatchLines jobs workers at lines least sink sink Whole
 none-left jobs workers at lines least sink none = record {
   counts = [];
-  many = sym none;
+  ends = rw none refl;
   rises = refl;
   within = refl;
   printed = Grew-refl _;
   goes_on = record { faults = refl; stopped = refl };
 }
+
+or-false-right : (x y : Bool) → (x || y) ≡ false → y ≡ false
+or-false-right false y is = is
+or-false-right true y is = absurd (cc)
+
+-- where a line isn't the last another is left
+pub more-left : (left : ℕ) (all : Bool) → 0 < left → ((left == 1) || all) ≡ false → 1 ≤ left - 1
+more-left zero all some goes = elim some [ ]
+more-left (suc zero) all some goes = absurd (cc)
+more-left (suc (suc left)) all some goes = omega arith
+
+-- a line that doesn't say that all jobs have ended, and then the others
+ends-more : (jobs lines left : ℕ) (c : Count) (counts : List Count) → lines ≡ left + 1 → 1 ≤ left → are_all jobs c ≡ false
+    → lines_end jobs left counts ≡ true → lines_end jobs lines (c ∷ counts) ≡ true
+ends-more jobs lines left c [] one some not_all ends =
+    let none : left ≡ 0 = grind (arith, nat_tests) in absurd (omega (arith, some, none))
+ends-more jobs lines left c (d ∷ counts) one some not_all ends =
+    let same : lines - 1 ≡ left = omega arith in rw (not_all, same, ends) refl
+
+-- what the jobs ended are at least in the first line they are also where that is less
+rises-from : (least low : ℕ) (counts : List Count) → low ≤ least → counts_rise least counts ≡ true → counts_rise low counts ≡ true
+rises-from least low [] less rises = refl
+rises-from least low (c ∷ counts) less rises =
+    let both = and_parts (nat_le least c.ended) (counts_rise c.ended counts) rises in
+    let up = leb-true least c.ended both.0 in
+    and_from (nat_le low c.ended) (counts_rise c.ended counts) (le-leb low c.ended (omega (arith, up, less))) both.1
+
+cut-from : (jobs workers at lines least low : ℕ) (old new : SinkView) → low ≤ least → LinesCut jobs workers at lines least old new
+    → LinesCut jobs workers at lines low old new
+cut-from jobs workers at lines least low old new less c = record {
+  counts = c.counts;
+  next = c.next;
+  few = c.few;
+  going = c.going;
+  rises = rises-from least low (c.counts ++ c.next ∷ []) less c.rises;
+  within = c.within;
+  part = c.part;
+  short = c.short;
+  printed = c.printed;
+}
+
+-- lines are lines also from a lower least on
+pub lines-from : (jobs workers at lines least low : ℕ) (old new : SinkView) (end : LineEnd) → low ≤ least
+    → WatchLines jobs workers at lines least old new end → WatchLines jobs workers at lines low old new end
+lines-from jobs workers at lines least low old new Whole less w = record {
+  counts = w.counts;
+  ends = w.ends;
+  rises = rises-from least low w.counts less w.rises;
+  within = w.within;
+  printed = w.printed;
+  goes_on = w.goes_on;
+}
+lines-from jobs workers at lines least low old new SinkFault less w = (cut-from jobs workers at lines least low old new less w.0, w.1)
+lines-from jobs workers at lines least low old new Memory less w = (cut-from jobs workers at lines least low old new less w.0, w.1)
 
 pub record Fits (jobs workers least : ℕ) (c : Count) : Type 0 where
   pub rises : nat_le least c.ended ≡ true
@@ -41,13 +96,14 @@ fits jobs workers least c up few busy =
     record { rises = grind (arith, nat_tests); jobs_within = grind (arith, nat_tests); workers_within = grind (arith, nat_tests) }
 
 cut-more : (jobs workers at lines left least : ℕ) (c : Count) (old mid new : SinkView) → Fits jobs workers least c → lines ≡ left + 1
-    → Grew old.written mid.written (watch_line at jobs c)
+    → are_all jobs c ≡ false → Grew old.written mid.written (watch_line at jobs c)
     → LinesCut jobs workers (at + 1) left c.ended mid new → LinesCut jobs workers at lines least old new
-cut-more jobs workers at lines left least c old mid new fit one line rest =
+cut-more jobs workers at lines left least c old mid new fit one not_all line rest =
     let here : at + 1 + length rest.counts ≡ at + length (c ∷ rest.counts) = omega arith in record {
       counts = c ∷ rest.counts;
       next = rest.next;
       few = let f = rest.few in omega arith;
+      going = rw (not_all, rest.going) refl;
       rises = rw (fit.rises, rest.rises) refl;
       within = rw (fit.jobs_within, fit.workers_within, rest.within) refl;
       part = rest.part;
@@ -62,20 +118,33 @@ cut-more jobs workers at lines left least c old mid new fit one line rest =
 
 -- a line was printed, and then the others were, or were cut short
 pub one-more : (jobs workers at lines left least : ℕ) (c : Count) (old mid new : SinkView) (end : LineEnd) → Fits jobs workers least c
-    → lines ≡ left + 1 → LinePrinted (watch_line at jobs c) old mid Whole
+    → lines ≡ left + 1 → 1 ≤ left → ((lines == 1) || are_all jobs c) ≡ false → LinePrinted (watch_line at jobs c) old mid Whole
     → WatchLines jobs workers (at + 1) left c.ended mid new end → WatchLines jobs workers at lines least old new end
-one-more jobs workers at lines left least c old mid new Whole fit one line rest = record {
+one-more jobs workers at lines left least c old mid new Whole fit one some goes line rest = record {
   counts = c ∷ rest.counts;
-  many = let m = rest.many in omega arith;
+  ends = ends-more jobs lines left c rest.counts one some (or-false-right (lines == 1) (are_all jobs c) goes) rest.ends;
   rises = rw (fit.rises, rest.rises) refl;
   within = rw (fit.jobs_within, fit.workers_within, rest.within) refl;
   printed = Grew-join line.0 rest.printed refl;
   goes_on = goes-join line.1 rest.goes_on;
 }
-one-more jobs workers at lines left least c old mid new SinkFault fit one line rest =
-    (cut-more jobs workers at lines left least c old mid new fit one line.0 rest.0, stop-after old mid new line.1 rest.1)
-one-more jobs workers at lines left least c old mid new Memory fit one line rest =
-    (cut-more jobs workers at lines left least c old mid new fit one line.0 rest.0, goes-join line.1 rest.1)
+one-more jobs workers at lines left least c old mid new SinkFault fit one some goes line rest =
+    (cut-more jobs workers at lines left least c old mid new fit one (or-false-right (lines == 1) (are_all jobs c) goes) line.0 rest.0, stop-after old mid new line.1 rest.1)
+one-more jobs workers at lines left least c old mid new Memory fit one some goes line rest =
+    (cut-more jobs workers at lines left least c old mid new fit one (or-false-right (lines == 1) (are_all jobs c) goes) line.0 rest.0, goes-join line.1 rest.1)
+
+-- the last line was printed: no other is left, or it says that all jobs have ended
+pub last-here : (jobs workers at lines least : ℕ) (c : Count) (old new : SinkView) → Fits jobs workers least c → 0 < lines
+    → ((lines == 1) || are_all jobs c) ≡ true → LinePrinted (watch_line at jobs c) old new Whole
+    → WatchLines jobs workers at lines least old new Whole
+last-here jobs workers at lines least c old new fit some last line = record {
+  counts = c ∷ [];
+  ends = and_from (nat_le 1 lines) ((lines == 1) || are_all jobs c) (le-leb 1 lines some) last;
+  rises = rw fit.rises refl;
+  within = rw (fit.jobs_within, fit.workers_within) refl;
+  printed = Grew-join line.0 (Grew-refl _) refl;
+  goes_on = line.1;
+}
 
 -- a line was cut short
 pub cut-here : (jobs workers at lines least : ℕ) (c : Count) (old new : SinkView) → Fits jobs workers least c → 0 < lines
@@ -85,6 +154,7 @@ cut-here jobs workers at lines least c old new fit some part =
       counts = [];
       next = c;
       few = some;
+      going = refl;
       rises = rw fit.rises refl;
       within = rw (fit.jobs_within, fit.workers_within) refl;
       part = part.0;

@@ -1,5 +1,5 @@
 -- The lines of a watched build.
-use Rattle.std.specs.Prelude.{ℕ, ◌+◌, nat_le, Bool, true, ◌&&◌, List, [], ◌∷◌, ◌++◌, codes, decimal, if◌then◌else◌}
+use Rattle.std.specs.Prelude.{ℕ, ◌+◌, ◌-◌, ◌==◌, nat_le, Bool, true, false, ◌&&◌, ◌||◌, not, List, [], ◌∷◌, ◌++◌, codes, decimal, if◌then◌else◌}
 use Rattle.watch_lines.specs.declared.count.Count.{Count}
 
 -- the line with this number: so many of the jobs have ended, and so many workers are at a job
@@ -28,3 +28,18 @@ lines_text at jobs (c ∷ counts) = watch_line at jobs c ++ lines_text (at + 1) 
 abbrev pub counts_rise : ℕ → List Count → Bool
 counts_rise least [] = true
 counts_rise least (c ∷ counts) = nat_le least c.ended && counts_rise c.ended counts
+
+-- all jobs have ended, and no worker is at one
+abbrev pub are_all : ℕ → Count → Bool
+are_all jobs c = c.ended == jobs && c.busy == 0
+
+-- none of these lines says that
+abbrev pub none_says_all : ℕ → List Count → Bool
+none_says_all jobs [] = true
+none_says_all jobs (c ∷ counts) = not (are_all jobs c) && none_says_all jobs counts
+
+-- lines follow one another until there are so many, or one says that all jobs have ended
+abbrev pub lines_end : ℕ → ℕ → List Count → Bool
+lines_end jobs left [] = left == 0
+lines_end jobs left (c ∷ []) = nat_le 1 left && ((left == 1) || are_all jobs c)
+lines_end jobs left (c ∷ d ∷ counts) = not (are_all jobs c) && lines_end jobs (left - 1) (d ∷ counts)

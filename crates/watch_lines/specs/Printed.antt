@@ -6,7 +6,7 @@ use Rattle.stream_print.specs.Prints.{GoesOn, DidStop}
 use Rattle.watch_lines.specs.declared.count.Count.{Count}
 use Rattle.watch_lines.specs.declared.line_end.LineEnd.{LineEnd}
 use Rattle.watch_lines.specs.declared.line_end.LineEnd.TheVariants.{Whole, SinkFault, Memory}
-use Rattle.watch_lines.specs.Lines.{watch_line, lines_text, counts_rise}
+use Rattle.watch_lines.specs.Lines.{watch_line, lines_text, counts_rise, lines_end, none_says_all}
 
 -- no more jobs have ended than there are, and no more workers are at a job than there are
 abbrev pub all_within : ℕ → ℕ → List Count → Bool
@@ -23,20 +23,22 @@ LinePrinted line old new Whole = Grew old.written new.written line × GoesOn old
 LinePrinted line old new SinkFault = PartPrinted line old new × DidStop old new
 LinePrinted line old new Memory = PartPrinted line old new × GoesOn old new
 
--- So many lines were printed, numbered from `at`. The jobs ended are at least so many in the first, and never fall
+-- So many lines were printed, or fewer where the last one says that all jobs have ended; they are numbered from `at`. The jobs ended are at
+-- least so many in the first, and never fall.
 pub record LinesPrinted (jobs workers at lines least : ℕ) (old new : SinkView) : Type 0 where
   pub counts : List Count
-  pub many : length counts ≡ lines
+  pub ends : lines_end jobs lines counts ≡ true
   pub rises : counts_rise least counts ≡ true
   pub within : all_within jobs workers counts ≡ true
   pub printed : Grew old.written new.written (lines_text at jobs counts)
   pub goes_on : GoesOn old new
 
--- some lines were printed, and a prefix of the next one, not all of it
+-- some lines were printed, none of which says that all jobs have ended, and a prefix of the next one, not all of it
 pub record LinesCut (jobs workers at lines least : ℕ) (old new : SinkView) : Type 0 where
   pub counts : List Count
   pub next : Count
   pub few : length counts < lines
+  pub going : none_says_all jobs counts ≡ true
   pub rises : counts_rise least (counts ++ next ∷ []) ≡ true
   pub within : all_within jobs workers (counts ++ next ∷ []) ≡ true
   pub part : ℕ

@@ -42,6 +42,6 @@ pub fn watch_last<E: Sink>(
     ensures printed { LinePrinted (last_text jobs result.1) (E.shows err.old) (E.shows err.new) result.0 }
 {
     let count = count_rows(watchers, jobs);
-    let all = told && count.ended == jobs && count.busy == 0;
+    let all = told && count.are_all(jobs);
     (print_last(jobs, all, err), all)
 }

@@ -1,9 +1,9 @@
 //! The lines that are printed while workers work.
-ghost use Rattle.std.specs.Prelude.{◌≡◌, ◌+◌, ◌^◌, ◌<◌, [], length, map, min};
+ghost use Rattle.std.specs.Prelude.{◌≡◌, ◌+◌, ◌==◌, ◌^◌, ◌<◌, ◌≤◌, ◌||◌, [], length, map, min};
 ghost use Rattle.edge_traits.specs.Told.{Grew};
 ghost use Rattle.farm_monitor.specs.Boards.{board_watched};
 ghost use Rattle.watch_lines.specs.Counts.{total};
-ghost use Rattle.watch_lines.specs.Lines.{watch_line};
+ghost use Rattle.watch_lines.specs.Lines.{watch_line, are_all};
 ghost use Rattle.watch_lines.specs.Printed.{LinePrinted, WatchLines};
 
 use crate::count::{Count, count_rows};
@@ -25,13 +25,30 @@ fn print_line<E: Sink>(number: u32, jobs: u32, count: Count, err: &mut E) -> Lin
     }
 }
 
-// Pauses where more than one line is left.
-fn pause_between<C: Clock>(clock: &mut C, left: u32)
-    ensures { Grew (C.shows clock.old).moments (C.shows clock.new).moments [] }
+/// The pauses between two lines.
+const PAUSES: u32 = 20;
+
+// Pauses so many times, or until all jobs have ended.
+fn pause_on<C: Clock>(clock: &mut C, watchers: &mut [Watcher], jobs: u32, pauses: u32)
+    requires few { length watchers.old < 2 ^ 32 }
+    ensures same { map board_watched watchers.new ≡ map board_watched watchers.old }
+    ensures rises { total watchers.old ≤ total watchers.new }
+    ensures paused { Grew (C.shows clock.old).moments (C.shows clock.new).moments [] }
 {
-    if left > 1 {
-        clock.pause();
+    if pauses == 0 {
+        return;
     }
+    clock.pause();
+    if !count_rows(watchers, jobs).are_all(jobs) {
+        pause_on(clock, watchers, jobs, pauses - 1);
+    }
+}
+
+// Whether a line with this count is the last where so many are left.
+fn is_last(left: u32, count: Count, jobs: u32) -> bool
+    ensures { result ≡ ((left == 1) || are_all jobs count) }
+{
+    left == 1 || count.are_all(jobs)
 }
 
 // Goes on with the line of this number, where so many are left.
@@ -55,8 +72,9 @@ fn watch_on<C: Clock, E: Sink>(
     }
     let count = count_rows(watchers, jobs);
     match print_line(number, jobs, count, err) {
+        LineEnd::Whole if is_last(left, count, jobs) => LineEnd::Whole,
         LineEnd::Whole => {
-            pause_between(clock, left);
+            pause_on(clock, watchers, jobs, PAUSES);
             watch_on(clock, watchers, jobs, number + 1, left - 1, err)
         }
         LineEnd::SinkFault => LineEnd::SinkFault,
@@ -64,8 +82,9 @@ fn watch_on<C: Clock, E: Sink>(
     }
 }
 
-/// Reads all boards so many times, and prints a line each time; between two of them it pauses. It ends early where the sink
-/// stops or wants memory. It waits for nobody, and takes no memory of its own.
+/// Prints so many lines of what all boards show, or fewer where one says that all jobs have ended. Between two of them it pauses on the
+/// clock 20 times, or until all have ended. It ends early where the sink stops or wants memory. It waits for nobody, and takes no memory
+/// of its own.
 pub fn watch<C: Clock, E: Sink>(
     clock: &mut C,
     watchers: &mut [Watcher],

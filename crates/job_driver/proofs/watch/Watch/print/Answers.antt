@@ -1,7 +1,7 @@
-use Rattle.std.proofs.Common.{length, min, subst}
+use Rattle.std.proofs.Common.{length, min, subst, arith}
 use Rattle.watch_lines.specs.Counts.{total}
 use Rattle.watch_lines.specs.Printed.{WatchLines}
-use Rattle.job_driver.proofs.Watching.{lines-from-none}
+use Rattle.watch_lines.proofs.Going.{lines-from}
 use Rattle.job_driver.proofs.watch.Watch.print.Goals as goal
 
 pub returns-clause-printed : goal.returns-clause-printed
@@ -11,6 +11,6 @@ returns-clause-printed g c =
     let lines = c.args.self.now.lines in
     let old = shows c.args.err.now in
     let new = shows c.watch.new.err in
-    lines-from-none jobs _ 1 lines _ _ _ c.watch.result
+    lines-from jobs _ 1 lines _ 0 _ _ c.watch.result (omega arith)
     (subst (λ ws. WatchLines jobs (length ws) 1 lines (min jobs (total ws)) old new c.watch.result) c.as_mut_slice.ensures.value
     c.watch.ensures.printed)
