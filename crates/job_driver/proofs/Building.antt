@@ -1,5 +1,6 @@
 -- A run of all workers, from the kits that they were given.
-use Rattle.std.proofs.Common.{◌≡◌, ℕ, zero, suc, ◌<◌, ◌≤◌, List, [], ◌∷◌, ◌++◌, length, get_or, map, reverse, refl, sym, ap, ◌∙◌, subst, arith}
+use Rattle.std.proofs.Common.{◌≡◌, ℕ, zero, suc, ◌<◌, ◌≤◌, List, [], ◌∷◌, ◌++◌, length, get_or, map, reverse, refl, sym, ap, ◌∙◌, subst}
+use Rattle.std.proofs.Common.{arith}
 use Rattle.std.specs.Prelude.{All}
 use Rattle.std.specs.List.{flat_map}
 use Rattle.std.specs.List.Sorted.{IsPermutation, IsNonDecreasingBy}
@@ -30,7 +31,8 @@ use Rattle.job_driver.proofs.Joining.{Joins, joins-of}
 use Rattle.job_driver.proofs.Driving.{Stays, total, ran-all}
 
 -- what holds of each in its place holds of what is made of it
-at-map : {X Y : Type 0} (f : X → Y) (Q : Y → Type 0) (xs : List X) (k : ℕ) (y : Y) → k < length xs → ((x : X) → Q (f (get_or xs k x))) → Q (get_or (map f xs) k y)
+at-map : {X Y : Type 0} (f : X → Y) (Q : Y → Type 0) (xs : List X) (k : ℕ) (y : Y) → k < length xs → ((x : X) → Q (f (get_or xs k x)))
+    → Q (get_or (map f xs) k y)
 at-map f Q [] k y below h = absurd (omega (arith, below))
 at-map f Q (x ∷ xs) zero y below h = h x
 at-map f Q (x ∷ xs) (suc k) y below h = at-map f Q xs k y (omega (arith, below)) h
@@ -45,7 +47,8 @@ get-left [] ys k x below = absurd (omega (arith, below))
 get-left (z ∷ xs) ys zero x below = refl
 get-left (z ∷ xs) ys (suc k) x below = get-left xs ys k x (omega (arith, below))
 
-get-right : {X : Type 0} (xs ys zs : List X) (k : ℕ) (x : X) → length xs ≡ length ys → length xs ≤ k → get_or (xs ++ zs) k x ≡ get_or (ys ++ zs) k x
+get-right : {X : Type 0} (xs ys zs : List X) (k : ℕ) (x : X) → length xs ≡ length ys → length xs ≤ k
+    → get_or (xs ++ zs) k x ≡ get_or (ys ++ zs) k x
 get-right [] [] zs k x same above = refl
 get-right [] (y ∷ ys) zs k x same above = absurd (omega (arith, same))
 get-right (a ∷ xs) [] zs k x same above = absurd (omega (arith, same))
@@ -57,7 +60,8 @@ first-of : {X : Type 0} (P : Type 0) (xs : List X) → 0 < length xs → (X → 
 first-of P [] some h = absurd (omega (arith, some))
 first-of P (x ∷ xs) some h = h x
 
-module _ {D S K C : Type 0} {d : Devices (Kit D S K C)} {c : Cell 16 34} {jobs : ℕ} (vs : List (Worker D S K C)) (fresh : AreFresh d c jobs vs) where
+module _ {D S K C : Type 0} {d : Devices (Kit D S K C)} {c : Cell 16 34} {jobs : ℕ} (vs : List (Worker D S K C))
+    (fresh : AreFresh d c jobs vs) where
   numbered-at : (k : ℕ) (w : Worker D S K C) → k < length vs → IsNumbered c k (get_or vs k w).pass
   numbered-at k w below =
       let one = fresh.passes.each k (pass_of w) (let e = length-map vs pass_of in omega (arith, e, below)) in
@@ -124,7 +128,8 @@ module _ {D S K C : Type 0} {d : Devices (Kit D S K C)} {words : List (List (Lis
   none-out k p below =
       let low = inside k below in
       subst (λ (q : Pass). outstanding (mine_of q) ≡ []) (ap (λ (zs : List Pass). get_or zs k p) (sym back_are))
-      (at-map pass_of (λ q. outstanding (mine_of q) ≡ []) ws k p (let e = done.long in omega (arith, e, low)) (λ w. (done.each k w low).back))
+      (at-map pass_of (λ q. outstanding (mine_of q) ≡ []) ws k p (let e = done.long in omega (arith, e, low))
+      (λ w. (done.each k w low).back))
 
   module _ (H : List CallEntry) (legal : IsLegal (limits_of run.cell) H) (callers : AreByCallersBelow (callers_of run.cell) H)
       (mines : HasEachMine H ps) where
@@ -149,7 +154,8 @@ module _ {D S K C : Type 0} {d : Devices (Kit D S K C)} {words : List (List (Lis
           mines i (pass_of first) (omega (arith, e, low))
           ∙ ap mine_of (ap (λ (zs : List Pass). get_or zs i (pass_of first)) back_are ∙ get-map pass_of ws i first (pass_of first) low)
 
-      worked : (i : ℕ) → i < length vs → WorkedOff (d.peers (V i)) (d.programs (V i)) (job_at words config) config.period (limits_of run.cell)
+      worked : (i : ℕ) → i < length vs → WorkedOff (d.peers (V i)) (d.programs (V i)) (job_at words config) config.period
+          (limits_of run.cell)
           i (R i) (calls_by i H) (d.shows (V i)) (d.shows (N i))
       worked i below =
           let h = done.each i first below in
@@ -182,7 +188,8 @@ module _ {D S K C : Type 0} {d : Devices (Kit D S K C)} {words : List (List (Lis
           sorted (subst (Joins (length vs) R) (sym gathered) joins) moved order last (map kit_of vs ++ rest) new last_is
           (λ i other below. (
             get-left (map kit_of vs) rest i other (omega (arith, below, many)) ∙ get-map kit_of vs i first other below,
-            ap (λ (zs : List (Kit D S K C)). get_or zs i other) new_is ∙ get-left (map kit_of ws) rest i other (omega (arith, below, many, lists))
+            ap (λ (zs : List (Kit D S K C)). get_or zs i other) new_is
+                ∙ get-left (map kit_of ws) rest i other (omega (arith, below, many, lists))
                 ∙ get-map kit_of ws i first other (omega (arith, below, long)),
           ))
           (let b = ap length new_is in let e = length-append (map kit_of vs) rest in let f = length-append (map kit_of ws) rest in

@@ -30,7 +30,8 @@ returns-clause-opened g c =
       idle = subst (All (λ kit. IsIdle (g.K.Keeper.shows kit.keeper))) (sym (h.kits.1 ∙ c.in_ok-unused.ensures.items))
           (All-take (λ kit. IsIdle (g.K.Keeper.shows kit.keeper)) c.args.workers c.args.kits.now.items c.requires.idle);
     } in
-    let number : c.in_ok-cell.cell.limits.jobs ≡ length c.args.plan.jobs.now = ap (λ (l : Limits 16). l.jobs) new.limits ∙ c.limits_of-limits.ensures.jobs ∙ c.len-jobs.ensures in
+    let number : c.in_ok-cell.cell.limits.jobs ≡ length c.args.plan.jobs.now = ap (λ (l : Limits 16). l.jobs) new.limits
+    ∙ c.limits_of-limits.ensures.jobs ∙ c.len-jobs.ensures in
     record {
       many = many;
       fresh = fresh;
