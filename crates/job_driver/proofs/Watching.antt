@@ -16,7 +16,8 @@ use Rattle.watch_lines.specs.declared.line_end.LineEnd.{LineEnd}
 use Rattle.watch_lines.specs.declared.line_end.LineEnd.TheVariants.{Whole, SinkFault, Memory}
 use Rattle.watch_lines.specs.Lines.{counts_rise}
 use Rattle.watch_lines.specs.Printed.{LinesCut, WatchLines}
-use Rattle.job_driver.specs.Driven.{Devices, JobsRan}
+use Rattle.farm_machine.specs.Devices.{Devices}
+use Rattle.job_driver.specs.Driven.{JobsRan}
 use Rattle.job_driver.specs.Watching.{front, Lent, WatchedRan, WatchPrinted, AfterLines}
 
 -- counts that never fall from some number never fall from 0
