@@ -37,14 +37,7 @@ want_answer old new answer err (told_whole goes is) = is
 want_answer old new answer err (told_stopped part stop is) = absurd (err stop)
 want_answer old new answer err (told_wanted part goes is) = is
 
--- so the status is answered, or that for want of memory
-pub answered : {notice : List ℕ} (texts : List Piece) (status : ℕ) (old new : SinksView) (answer : ℕ) → ¬ (DidStop old.out new.out) → ¬
-    (DidStop old.err new.err) → Ends notice texts status old new answer → (answer ≡ status) ⊎ (answer ≡ memory_status)
-answered texts status old new answer out err (all_printed printed go is) = inl is
-answered texts status old new answer out err (sink_stopped part is) = absurd (no_stop part.next.sink old new out err (part.stopped refl))
-answered texts status old new answer out err (memory_wanted front want) = inr (want_answer old new answer err want.end)
-
--- and then all was printed
+-- so all was printed and the status is answered, or that for want of memory
 pub printed_or_wanted : {notice : List ℕ} (texts : List Piece) (status : ℕ) (old new : SinksView) (answer : ℕ) → ¬ (DidStop old.out new.out)
     → ¬ (DidStop old.err new.err) → Ends notice texts status old new answer
     → (Printed old new texts × (answer ≡ status)) ⊎ (answer ≡ memory_status)
@@ -110,10 +103,10 @@ module _ {K : Type 0} {d : Devices K} {config : JobConfig} {most : ℕ} {jobs : 
     (known : IsTrue new.source.left.known) (smooth : IsSmooth old new) (asks : JobsOf old.source.left.value jobs) where
   pub completes : Builds d config most old new answer → Completed d config most jobs old new answer ⊎ (answer ≡ memory_status)
   completes (built build) =
-      elim (answered _ _ old.sinks new.sinks answer smooth.out smooth.err build.prints) [
-        | inl status ↦ inl (subst (λ (js : List (List (List ℕ))). Completed d config most js old new answer)
+      elim (printed_or_wanted _ _ old.sinks new.sinks answer smooth.out smooth.err build.prints) [
+        | inl ended ↦ inl (subst (λ (js : List (List (List ℕ))). Completed d config most js old new answer)
             (list_read old new known jobs asks build.text build.jobs build.read build.asks)
-            (record { nothing_left = build.read.nothing_left known; done = build.done; status = status }))
+            (record { nothing_left = build.read.nothing_left known; done = build.done; status = ended.1 }))
         | inr no_memory ↦ inr no_memory
       ]
   completes (none_ran none) = inr (none_wanted smooth (no_list_fault old new known jobs asks) none)

@@ -22,7 +22,7 @@ use Rattle.farm_program.specs.GraphBuilds.{BuildsGraph, graph_built, none_ran, n
 use Rattle.farm_program.specs.GraphBuilds.{HasJobsFault, GraphCompleted, LevelsDone}
 use Rattle.farm_program.specs.Commands.{Answers, IsGraphBy}
 use Rattle.farm_program.specs.Smooth.{IsSmooth}
-use Rattle.farm_program.proofs.Completing.{want_answer, answered, all_left, none_wanted, on_config}
+use Rattle.farm_program.proofs.Completing.{want_answer, all_left, none_wanted, on_config, printed_or_wanted}
 
 -- a text that is a graph has no fault
 no_error : (text : List ℕ) (graph : Graph) (e : GraphError) → GraphOf text graph → IsError text e → e ≡ error.Memory
@@ -53,8 +53,8 @@ module _ {K : Type 0} (d : Devices K) (config : JobConfig) (most : ℕ) (old new
       (answer ≡ memory_status)
   graph_completes (graph_built build) =
       let same : build.graph ≡ graph = only_graph (Ok build.graph) build.text build.asks tt graph (asked build.text build.read) in
-      elim (answered _ _ old.sinks new.sinks answer smooth.out smooth.err build.done.prints) [
-        | inl status ↦ inl (done_as build.graph same build.done (build.read.nothing_left known) status)
+      elim (printed_or_wanted _ _ old.sinks new.sinks answer smooth.out smooth.err build.done.prints) [
+        | inl ended ↦ inl (done_as build.graph same build.done (build.read.nothing_left known) ended.1)
         | inr no_memory ↦ inr no_memory
       ]
     where
