@@ -108,10 +108,10 @@ jobs_as {d = d} {config = config} {jobs = jobs} {workers = workers} {workers' = 
         only = done.only;
         of_hosts = done.of_hosts;
         of_jobs = done.of_jobs ∙ ap (λ (js : List (List (List ℕ))). length js) same_jobs;
-        ran = subst (λ (js : List (List (List ℕ))). JobsRan d done.one.last.limits (job_at js config) config.period workers' done.one.reports
-            (seen_of done.one.pass) done.one.last.state old new) same_jobs
-            (subst (λ (n : ℕ). JobsRan d done.one.last.limits (job_at jobs config) config.period n done.one.reports (seen_of done.one.pass)
-            done.one.last.state old new) same_workers done.ran);
+        ran = subst (λ (js : List (List (List ℕ))). JobsRan d done.one.last.limits (job_at js config) config.period workers'
+            done.one.reports (seen_of done.one.pass) done.one.last.state old new) same_jobs
+            (subst (λ (n : ℕ). JobsRan d done.one.last.limits (job_at jobs config) config.period n done.one.reports
+            (seen_of done.one.pass) done.one.last.state old new) same_workers done.ran);
       },
       refl,
     )

@@ -56,7 +56,7 @@ get-right (a ∷ xs) (y ∷ ys) zs zero x same above = absurd (omega (arith, abo
 get-right (a ∷ xs) (y ∷ ys) zs (suc k) x same above = get-right xs ys zs k x (omega (arith, same)) (omega (arith, above))
 
 -- a list that isn't empty has a first element
-first-of : {X : Type 0} (P : Type 0) (xs : List X) → 0 < length xs → (X → P) → P
+pub first-of : {X : Type 0} (P : Type 0) (xs : List X) → 0 < length xs → (X → P) → P
 first-of P [] some h = absurd (omega (arith, some))
 first-of P (x ∷ xs) some h = h x
 

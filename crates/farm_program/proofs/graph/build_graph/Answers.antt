@@ -7,5 +7,8 @@ pub returns-in-Ok : goal.returns-in-Ok
 returns-in-Ok g c = read_and_level c.in-Ok.text c.in-Ok.ensures.text c.read_text.ensures.some c.build_text.ensures
 
 pub returns-in-Err : goal.returns-in-Err
-returns-in-Err g c = none_ran (refused _ c.in-Err.error (stands_as (g.R.Source.shows c.args.input.now) (g.R.Source.shows c.read_text.new.input) graph_too_long c.in-Err.error c.in-Err.ensures.fault)
-    c.read_text.ensures.some c.refuse_input.ensures.none c.refuse_input.ensures.status)
+returns-in-Err g c =
+    let old = g.R.Source.shows c.args.input.now in
+    let new = g.R.Source.shows c.read_text.new.input in
+    let stands = stands_as old new graph_too_long c.in-Err.error c.in-Err.ensures.fault in
+    none_ran (refused _ c.in-Err.error stands c.read_text.ensures.some c.refuse_input.ensures.none c.refuse_input.ensures.status)
