@@ -9,7 +9,7 @@ use Rattle.host_list.specs.HostLists.{IsHost, AreHosts}
 use Rattle.edge_traits.specs.Causes.{Still}
 use Rattle.edge_traits.specs.Sources.{SourceView}
 use Rattle.farm_machine.specs.declared.reports.Report.{Report}
-use Rattle.input_read.specs.Reads.{AllRead, ReadTo, BrokeOff, HasReadSome}
+use Rattle.input_read.specs.Reads.{HasReadSome}
 use Rattle.job_driver.specs.declared.driver.Built.{Built}
 use Rattle.farm_machine.specs.Devices.{Devices}
 use Rattle.job_driver.specs.Driven.{JobsRan}
@@ -26,7 +26,8 @@ use Rattle.report_text.specs.Numbers.{number}
 use Rattle.stream_print.specs.Prints.{SinksView}
 use Rattle.stream_print.specs.Ends.{complaint, Ends, WantOf}
 use Rattle.farm_answers.specs.Texts.{bad_jobs_status, cannot_read_status, cannot_read_text, job_fault_text, no_memory_text}
-use Rattle.farm_program.specs.Builds.{JobsDone, input_limit, Builds, built, faulty, unread, wanted, whole_text, long_text, RunsText, text_ran, text_faulty, text_wanted}
+use Rattle.farm_program.specs.Builds.{JobsDone, input_limit, Builds, built, none_ran, wanted, JobsEnd, jobs_ran, jobs_wanted}
+use Rattle.farm_program.specs.Inputs.{HasJobs}
 
 -- the hosts of a list are usable
 pub usable_hosts : (hosts : Hosts) → AreHosts hosts → AreUsable hosts
@@ -55,47 +56,30 @@ one_doable words some = record {
     one zero d below = some
     one (suc k) d below = absurd (omega (arith, below))
 
--- the whole text was read, and then the rest was done
-pub read_whole : {K : Type 0} {d : Devices K} {config : JobConfig} {most : ℕ} {a b : SourceView} {old_kits new_kits : List K} {made : List Built} {old new : SinksView} {answer : ℕ} (text : List ℕ)
-    → AllRead a b text → length text < input_limit → RunsText d config most text old_kits new_kits made old new answer
-    → Builds d config most (record { source = a; kits = old_kits; sinks = old; built = [] }) (record { source = b; kits = new_kits; sinks = new; built = made }) answer
-read_whole text read short (text_ran {jobs = jobs} asks done prints) =
-    built (record { text = text; jobs = jobs; read = read; asks = asks; done = done; prints = prints })
-read_whole text read short (text_faulty {line = line} {fault = fault} stands undone none ends) =
-    faulty {line = line} {fault = fault} (whole_text read stands)
-    (record { idle = record { undone = undone; none_built = none }; ends = ends })
-read_whole text read short (text_wanted undone none want) =
-    wanted (record {
-      read = record { text = text; took = read.took; within = omega (arith, short) };
-      still = read.still;
+-- the jobs were read, and then the rest was done
+pub read_and_run : {K : Type 0} {d : Devices K} {config : JobConfig} {most : ℕ} {jobs : List (List (List ℕ))} {a b : SourceView}
+    {old_kits new_kits : List K} {made : List Built} {old new : SinksView} {answer : ℕ}
+    → HasJobs a b jobs → HasReadSome input_limit a b → JobsEnd d config most jobs old_kits new_kits made old new answer
+    → Builds d config most (record { source = a; kits = old_kits; sinks = old; built = [] })
+    (record { source = b; kits = new_kits; sinks = new; built = made }) answer
+read_and_run {jobs = jobs} has some (jobs_ran done prints) =
+    built (record { text = has.text; jobs = jobs; read = has.read; asks = has.asks; done = done; prints = prints })
+read_and_run has some (jobs_wanted undone none want) =
+    none_ran (wanted (record {
+      read = some;
+      still = has.read.still;
       idle = record { undone = undone; none_built = none };
       want = want;
-    })
-
--- memory was wanting while it was read
-pub read_wanted : {K : Type 0} {d : Devices K} {config : JobConfig} {most : ℕ} {a b : SourceView} {kits : List K} {made : List Built} {old new : SinksView} {answer : ℕ}
-    → made ≡ [] → HasReadSome input_limit a b → Still a.faults b.faults → WantOf no_memory_text [] old new answer
-    → Builds d config most (record { source = a; kits = kits; sinks = old; built = [] }) (record { source = b; kits = kits; sinks = new; built = made }) answer
-read_wanted none read still want =
-    wanted (record { read = read; still = still; idle = record { undone = refl; none_built = none }; want = want })
-
--- what was read is no text of jobs, so none was run
-module _ {K : Type 0} {d : Devices K} {config : JobConfig} {most : ℕ} {a b : SourceView} {kits : List K} {made : List Built} {old new : SinksView} {answer : ℕ} (none : made ≡ []) where
-  pub read_too_long : ReadTo input_limit a b → Ends no_memory_text (complaint (job_fault_text 0 (TooLong input_limit)) ∷ []) bad_jobs_status old new answer
-      → Builds d config most (record { source = a; kits = kits; sinks = old; built = [] }) (record { source = b; kits = kits; sinks = new; built = made }) answer
-  read_too_long read ends =
-      let stands : JobFaultStands read.text 0 (TooLong input_limit) = inl (let long = read.long in omega (arith, long), refl, ap TooLong (sym read.long)) in
-      faulty (long_text read stands) (record { idle = record { undone = refl; none_built = none }; ends = ends })
-
-  pub read_broke_off : BrokeOff input_limit a b → Ends no_memory_text (complaint cannot_read_text ∷ []) cannot_read_status old new answer
-      → Builds d config most (record { source = a; kits = kits; sinks = old; built = [] }) (record { source = b; kits = kits; sinks = new; built = made }) answer
-  read_broke_off read ends = unread read (record { idle = record { undone = refl; none_built = none }; ends = ends })
+    }))
 
 -- the status by another name
-pub status_as : {notice : List ℕ} {texts : List Piece} {status answer other : ℕ} {old new : SinksView} → other ≡ answer → Ends notice texts status old new answer → Ends notice texts status old new other
-status_as {notice = notice} {texts = texts} {status = status} {old = old} {new = new} same ends = subst (λ (a : ℕ). Ends notice texts status old new a) (sym same) ends
+pub status_as : {notice : List ℕ} {texts : List Piece} {status answer other : ℕ} {old new : SinksView} → other ≡ answer
+    → Ends notice texts status old new answer → Ends notice texts status old new other
+status_as {notice = notice} {texts = texts} {status = status} {old = old} {new = new} same ends = subst
+    (λ (a : ℕ). Ends notice texts status old new a) (sym same) ends
 
-pub want_as : {notice : List ℕ} {answer other : ℕ} {old new : SinksView} → other ≡ answer → WantOf notice [] old new answer → WantOf notice [] old new other
+pub want_as : {notice : List ℕ} {answer other : ℕ} {old new : SinksView} → other ≡ answer → WantOf notice [] old new answer
+    → WantOf notice [] old new other
 want_as {notice = notice} {old = old} {new = new} same want = subst (λ (a : ℕ). WantOf notice [] old new a) (sym same) want
 
 -- the one element of a list
@@ -107,28 +91,40 @@ one-of [] long = absurd (omega (arith, long))
 one-of (x ∷ []) long = (x, refl)
 one-of (x ∷ (y ∷ xs)) long = absurd (omega (arith, long))
 
-pub reports_as : (hosts : List Host) {reports reports' : List Report} {old new : SinksView} {answer : ℕ} → reports ≡ reports' → Ends no_memory_text (pieces hosts reports) (number reports) old new answer → Ends no_memory_text (pieces hosts reports') (number reports') old new answer
-reports_as hosts {old = old} {new = new} {answer = answer} same ends = subst (λ (rs : List Report). Ends no_memory_text (pieces hosts rs) (number rs) old new answer) same ends
+pub reports_as : (hosts : List Host) {reports reports' : List Report} {old new : SinksView} {answer : ℕ} → reports ≡ reports'
+    → Ends no_memory_text (pieces hosts reports) (number reports) old new answer
+    → Ends no_memory_text (pieces hosts reports') (number reports') old new answer
+reports_as hosts {old = old} {new = new} {answer = answer} same ends = subst
+    (λ (rs : List Report). Ends no_memory_text (pieces hosts rs) (number rs) old new answer) same ends
 
-pub jobs_as : {K : Type 0} {d : Devices K} {config : JobConfig} {jobs jobs' : List (List (List ℕ))} {workers workers' : ℕ} {made : List Built} {old new : List K} → jobs ≡ jobs' → workers ≡ workers'
-    → (done : JobsDone d config jobs workers made old new) → (done' : JobsDone d config jobs' workers' made old new) × (done'.one ≡ done.one)
-jobs_as {d = d} {config = config} {jobs = jobs} {workers = workers} {workers' = workers'} {made = made} {old = old} {new = new} same_jobs same_workers done = (
-  record {
-    one = done.one;
-    only = done.only;
-    of_hosts = done.of_hosts;
-    of_jobs = done.of_jobs ∙ ap (λ (js : List (List (List ℕ))). length js) same_jobs;
-    ran = subst (λ (js : List (List (List ℕ))). JobsRan d done.one.last.limits (job_at js config) config.period workers' done.one.reports (seen_of done.one.pass) done.one.last.state old new) same_jobs
-        (subst (λ (n : ℕ). JobsRan d done.one.last.limits (job_at jobs config) config.period n done.one.reports (seen_of done.one.pass) done.one.last.state old new) same_workers done.ran);
-  },
-  refl,
-)
+pub jobs_as : {K : Type 0} {d : Devices K} {config : JobConfig} {jobs jobs' : List (List (List ℕ))} {workers workers' : ℕ}
+    {made : List Built} {old new : List K} → jobs ≡ jobs' → workers ≡ workers'
+    → (done : JobsDone d config jobs workers made old new) → (done' : JobsDone d config jobs' workers' made old new)
+    × (done'.one ≡ done.one)
+jobs_as {d = d} {config = config} {jobs = jobs} {workers = workers} {workers' = workers'} {made = made} {old = old} {new = new} same_jobs
+    same_workers done = (
+      record {
+        one = done.one;
+        only = done.only;
+        of_hosts = done.of_hosts;
+        of_jobs = done.of_jobs ∙ ap (λ (js : List (List (List ℕ))). length js) same_jobs;
+        ran = subst (λ (js : List (List (List ℕ))). JobsRan d done.one.last.limits (job_at js config) config.period workers'
+            done.one.reports (seen_of done.one.pass) done.one.last.state old new) same_jobs
+            (subst (λ (n : ℕ). JobsRan d done.one.last.limits (job_at jobs config) config.period n done.one.reports
+            (seen_of done.one.pass) done.one.last.state old new) same_workers done.ran);
+      },
+      refl,
+    )
 
 -- what a single command prints, by other names
 pub command_ends : (hosts : List Host) (end : End) {err out : List ℕ} {status status' answer : ℕ} {notice : List ℕ} {old new : SinksView}
     → err ≡ err_messages end ++ failure_text hosts end → out ≡ out_messages end → status ≡ status'
-    → Ends notice (record { sink = ErrSink; bytes = err } ∷ record { sink = OutSink; bytes = out } ∷ []) status old new answer → Ends notice (command_pieces hosts end) status' old new answer
-command_ends hosts end {out = out} {status = status} {answer = answer} {notice = notice} {old = old} {new = new} same_err same_out same ends =
+    → Ends notice (record { sink = ErrSink; bytes = err } ∷ record { sink = OutSink; bytes = out } ∷ []) status old new answer
+    → Ends notice (command_pieces hosts end) status' old new answer
+command_ends hosts end {out = out} {status = status} {answer = answer} {notice = notice} {old = old} {new = new} same_err same_out same
+    ends =
     subst (λ (s : ℕ). Ends notice (command_pieces hosts end) s old new answer) same
-    (subst (λ (t : List ℕ). Ends notice (record { sink = ErrSink; bytes = err_messages end ++ failure_text hosts end } ∷ record { sink = OutSink; bytes = t } ∷ []) status old new answer) same_out
-    (subst (λ (t : List ℕ). Ends notice (record { sink = ErrSink; bytes = t } ∷ record { sink = OutSink; bytes = out } ∷ []) status old new answer) same_err ends))
+    (subst (λ (t : List ℕ). Ends notice (record { sink = ErrSink; bytes = err_messages end ++ failure_text hosts end } ∷ record
+    { sink = OutSink; bytes = t } ∷ []) status old new answer) same_out
+    (subst (λ (t : List ℕ). Ends notice (record { sink = ErrSink; bytes = t } ∷ record { sink = OutSink; bytes = out } ∷ []) status old new
+    answer) same_err ends))

@@ -6,30 +6,20 @@ use Rattle.stream_print.specs.Prints.{SinksView}
 use Rattle.stream_print.specs.declared.pieces.Piece.{Piece}
 use Rattle.stream_print.specs.Ends.{Ends}
 use Rattle.job_driver.specs.declared.driver.Built.{Built}
-use Rattle.farm_machine.specs.Devices.{Devices}
 use Rattle.farm_answers.specs.Texts.{no_memory_text}
 use Rattle.farm_answers.specs.ByHosts.{ByHosts}
-use Rattle.farm_program.specs.Worlds.{World, Untouched}
-use Rattle.farm_program.specs.Builds.{Builds, RunsCommand, config_of}
+use Rattle.farm_program.specs.Worlds.{Untouched}
 
 -- what printed alone left the input and the kits as they were
-pub printed_alone : {K : Type 0} {a : SourceView} {kits : List K} {old new : SinksView} {made : List Built} → made ≡ [] → Untouched (record { source = a; kits = kits; sinks = old; built = [] }) (record { source = a; kits = kits; sinks = new; built = made })
+pub printed_alone : {K : Type 0} {a : SourceView} {kits : List K} {old new : SinksView} {made : List Built} → made ≡ []
+    → Untouched (record { source = a; kits = kits; sinks = old; built = [] })
+    (record { source = a; kits = kits; sinks = new; built = made })
 printed_alone none = record { unread = refl; idle = record { undone = refl; none_built = none } }
 
 -- the same text of a host list, and the same status, by other names
-pub by_hosts_as : {text text' : List ℕ} {printed : Hosts → List Piece} {status : ℕ} {old new : SinksView} {answer other : ℕ} → other ≡ answer → text ≡ text' → ByHosts text (λ hosts. Ends no_memory_text (printed hosts) status old new answer) old new answer → ByHosts text' (λ hosts. Ends no_memory_text (printed hosts) status old new other) old new other
+pub by_hosts_as : {text text' : List ℕ} {printed : Hosts → List Piece} {status : ℕ} {old new : SinksView} {answer other : ℕ}
+    → other ≡ answer → text ≡ text' → ByHosts text (λ hosts. Ends no_memory_text (printed hosts) status old new answer) old new answer
+    → ByHosts text' (λ hosts. Ends no_memory_text (printed hosts) status old new other) old new other
 by_hosts_as {text' = text'} {printed = printed} {status = status} {old = old} {new = new} {answer = answer} same same_text by =
     subst (λ (a : ℕ). ByHosts text' (λ hosts. Ends no_memory_text (printed hosts) status old new a) old new a) (sym same)
     (subst (λ (t : List ℕ). ByHosts t (λ hosts. Ends no_memory_text (printed hosts) status old new answer) old new answer) same_text by)
-
--- the same build and the same command, as they are configured
-pub builds_as : {K : Type 0} {d : Devices K} {hosts : Hosts} {fallback fallback' retry : Bool} {period tries tries' most most' : ℕ} {old new : World K} {answer : ℕ} → fallback ≡ fallback' → tries ≡ tries' → most ≡ most'
-    → Builds d (config_of hosts fallback retry period tries) most old new answer → Builds d (config_of hosts fallback' retry period tries') most' old new answer
-builds_as {d = d} {hosts = hosts} {fallback = fallback} {fallback' = fallback'} {retry = retry} {period = period} {tries = tries} {tries' = tries'} {most = most} {most' = most'} {old = old} {new = new} {answer = answer} same_fallback same_tries same_most builds =
-    subst (λ (m : ℕ). Builds d (config_of hosts fallback' retry period tries') m old new answer) same_most
-    (subst (λ (t : ℕ). Builds d (config_of hosts fallback' retry period t) most old new answer) same_tries
-    (subst (λ (f : Bool). Builds d (config_of hosts f retry period tries) most old new answer) same_fallback builds))
-
-pub runs_as : {K : Type 0} {d : Devices K} {hosts : Hosts} {fallback fallback' retry : Bool} {period tries : ℕ} {words : List (List ℕ)} {old new : World K} {answer : ℕ} → fallback ≡ fallback'
-    → RunsCommand d (config_of hosts fallback retry period tries) words old new answer → RunsCommand d (config_of hosts fallback' retry period tries) words old new answer
-runs_as {d = d} {hosts = hosts} {retry = retry} {period = period} {tries = tries} {words = words} {old = old} {new = new} {answer = answer} same runs = subst (λ (f : Bool). RunsCommand d (config_of hosts f retry period tries) words old new answer) same runs

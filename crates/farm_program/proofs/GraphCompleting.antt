@@ -1,10 +1,8 @@
 -- Where source and sinks do nothing wrong, all levels of a graph are run, or memory was wanting.
 use Rattle.std.proofs.Common.{◌≡◌, ◌⊎◌, ◌≤◌, ℕ, IsTrue, List, [], ◌++◌, ◌∙◌, length, sym, ap, subst, inl, inr, arith, Ok, Err}
 use Rattle.std.proofs.lemmas.List.{length-append}
-use Rattle.farm_types.specs.declared.hosts.Hosts.{Hosts}
 use Rattle.farm_types.specs.declared.jobs.JobConfig.{JobConfig}
 use Rattle.stream_print.specs.Ends.{memory_status}
-use Rattle.host_list.proofs.TextReading.{one_hosts, no_both}
 use Rattle.input_read.specs.Reads.{AllRead}
 use Rattle.farm_machine.specs.Devices.{Devices}
 use Rattle.job_list.specs.declared.fault.JobFault.{JobFault}
@@ -17,14 +15,14 @@ use Rattle.job_graph.proofs.Answering.{only_graph}
 use Rattle.job_graph.proofs.Cutting.{cut_long}
 use Rattle.farm_words.specs.Commands.{Graph as GraphCommand}
 use Rattle.farm_words.specs.Options.{worker_count}
-use Rattle.farm_words.proofs.Periods.{one_period, no_bad_period}
 use Rattle.farm_program.specs.Worlds.{World}
 use Rattle.farm_program.specs.Outcomes.{graph_number}
-use Rattle.farm_program.specs.GraphBuilds.{BuildsGraph, graph_built, jobs_faulty, needs_faulty, cyclic, unread, wanted, cut_short}
-use Rattle.farm_program.specs.GraphBuilds.{HasJobsFault, whole_text, long_text, GraphCompleted, LevelsDone}
-use Rattle.farm_program.specs.Commands.{Answers, on_hosts, bad_period, bad_hosts, no_hosts, build_config, IsGraphBy}
+use Rattle.farm_program.specs.Builds.{whole_text, long_text}
+use Rattle.farm_program.specs.GraphBuilds.{BuildsGraph, graph_built, none_ran, needs_faulty, cyclic, cut_short}
+use Rattle.farm_program.specs.GraphBuilds.{HasJobsFault, GraphCompleted, LevelsDone}
+use Rattle.farm_program.specs.Commands.{Answers, IsGraphBy}
 use Rattle.farm_program.specs.Smooth.{IsSmooth}
-use Rattle.farm_program.proofs.Completing.{want_answer, answered, all_left}
+use Rattle.farm_program.proofs.Completing.{want_answer, all_left, none_wanted, on_config, printed_or_wanted}
 
 -- a text that is a graph has no fault
 no_error : (text : List ℕ) (graph : Graph) (e : GraphError) → GraphOf text graph → IsError text e → e ≡ error.Memory
@@ -55,8 +53,8 @@ module _ {K : Type 0} (d : Devices K) (config : JobConfig) (most : ℕ) (old new
       (answer ≡ memory_status)
   graph_completes (graph_built build) =
       let same : build.graph ≡ graph = only_graph (Ok build.graph) build.text build.asks tt graph (asked build.text build.read) in
-      elim (answered _ _ old.sinks new.sinks answer smooth.out smooth.err build.done.prints) [
-        | inl status ↦ inl (done_as build.graph same build.done (build.read.nothing_left known) status)
+      elim (printed_or_wanted _ _ old.sinks new.sinks answer smooth.out smooth.err build.done.prints) [
+        | inl ended ↦ inl (done_as build.graph same build.done (build.read.nothing_left known) ended.1)
         | inr no_memory ↦ inr no_memory
       ]
     where
@@ -64,37 +62,29 @@ module _ {K : Type 0} (d : Devices K) (config : JobConfig) (most : ℕ) (old new
           → (done : LevelsDone d config most g old.kits new.kits new.built old.sinks new.sinks answer) → new.source.left.value ≡ []
           → answer ≡ graph_number done.outcomes → GraphCompleted d config most graph old new answer
       done_as g same done left status =
-          subst (λ (h : Graph). GraphCompleted d config most h old new answer) same
-          (record { nothing_left = left; outcomes = done.outcomes; levels = done.levels; ended = done.ended; needs_done = done.needs_done; status = status })
-  graph_completes (jobs_faulty {line = line} {fault = fault} has refused) = absurd (no_jobs_fault line fault has)
+          subst (λ (h : Graph). GraphCompleted d config most h old new answer) same (record {
+            nothing_left = left;
+            outcomes = done.outcomes;
+            levels = done.levels;
+            ended = done.ended;
+            needs_done = done.needs_done;
+            status = status;
+          })
+  graph_completes (none_ran none) = inr (none_wanted smooth no_jobs_fault none)
   graph_completes (needs_faulty {text = text} {line = line} {fault = fault} read stands refused) =
       let e : error.Fault line fault ≡ error.Memory = no_error text graph (error.Fault line fault) (asked text read) stands in absurd cc
   graph_completes (cyclic {text = text} {cycle = cycle} read stands refused) =
       let e : error.Cycle cycle ≡ error.Memory = no_error text graph (error.Cycle cycle) (asked text read) stands in absurd cc
-  graph_completes (unread broke refused) = absurd (smooth.source broke.rose)
-  graph_completes (wanted want) = inr (want_answer old.sinks new.sinks answer smooth.err want.want.end)
   graph_completes (cut_short short) = inr (want_answer old.sinks new.sinks answer smooth.err short.cut.want.end)
 
 -- the words are a graph's build by this configuration, and the input is this graph
 pub graph_completes_on : {K : Type 0} {d : Devices K} {variables : List (List ℕ × List ℕ)} {words : List (List ℕ)} {config : JobConfig}
-    {most : ℕ}
-    {graph : Graph} {old new : World K} {answer : ℕ} (build : IsGraphBy words variables config most)
+    {most : ℕ} {graph : Graph} {old new : World K} {answer : ℕ} (build : IsGraphBy words variables config most)
     → IsTrue new.source.left.known → IsSmooth old new → GraphOf old.source.left.value graph
     → Answers d variables old new answer (GraphCommand build.options)
     → GraphCompleted d config most graph old new answer ⊎ (answer ≡ memory_status)
-graph_completes_on {d = d} {variables = variables} {config = config} {most = most} {graph = graph} {old = old} {new = new}
-    {answer = answer} build known
-    smooth asks (on_hosts {hosts = hosts} {period = period} lasts listed builds) =
-    let lists : hosts ≡ build.hosts = one_hosts _ hosts build.hosts listed build.listed in
-    let periods : period ≡ build.period = one_period variables period build.period lasts build.lasts in
-    let same : build_config build.options variables hosts period ≡ config =
-    ap (λ (hs : Hosts). build_config build.options variables hs period) lists
-    ∙ ap (build_config build.options variables build.hosts) periods ∙ sym build.meant in
-    graph_completes d config most old new answer known smooth graph asks
-    (subst (λ (n : ℕ). BuildsGraph d config n old new answer) (sym build.workers)
-    (subst (λ (c : JobConfig). BuildsGraph d c (worker_count build.options) old new answer) same builds))
-graph_completes_on {variables = variables} build known smooth asks (bad_period bad refused) =
-    absurd (no_bad_period variables build.period build.lasts bad)
-graph_completes_on build known smooth asks (bad_hosts period lasts stands refused) = absurd (no_both _ build.hosts _ _ build.listed stands)
-graph_completes_on {old = old} {new = new} {answer = answer} build known smooth asks (no_hosts untouched want) =
-    inr (want_answer old.sinks new.sinks answer smooth.err want.end)
+graph_completes_on {d = d} {config = config} {most = most} {graph = graph} {old = old} {new = new} {answer = answer} build known smooth
+    asks answers =
+    on_config (λ (c : JobConfig). BuildsGraph d c (worker_count build.options) old new answer) build.configured smooth.err
+    (λ builds. graph_completes d config most old new answer known smooth graph asks
+    (subst (λ (n : ℕ). BuildsGraph d config n old new answer) (sym build.workers) builds)) answers

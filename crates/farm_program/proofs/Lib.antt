@@ -1,6 +1,8 @@
 pub mod ReportLemmas
 pub mod Building
 pub mod Commanding
+mod Configuring
+mod Inputs
 pub mod Completing
 mod Places
 mod GraphPrinting
@@ -14,3 +16,4 @@ mod Graphing
 mod GraphCompleting
 mod Watching
 mod WatchTexts
+mod WatchCompleting

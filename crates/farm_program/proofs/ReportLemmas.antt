@@ -1,5 +1,6 @@
 -- The pieces of jobs, one job after another.
-use Rattle.std.proofs.Common.{◌≡◌, ◌<◌, ◌+◌, ℕ, suc, List, [], ◌∷◌, ◌++◌, ◌∙◌, refl, sym, ap, subst, inl, inr, length, take, drop, get_or, drop-cons, arith}
+use Rattle.std.proofs.Common.{◌≡◌, ◌<◌, ◌+◌, ℕ, suc, List, [], ◌∷◌, ◌++◌, ◌∙◌, refl, sym, ap, subst, inl, inr, length, take, drop, get_or}
+use Rattle.std.proofs.Common.{drop-cons, arith}
 use Rattle.std.proofs.lemmas.Grind.{common_steps, flat_map-append}
 use Rattle.std.proofs.lemmas.List.{append-nil, take-append-drop}
 use Rattle.farm_types.specs.declared.hosts.Host.{Host}
@@ -12,14 +13,16 @@ use Rattle.stream_print.proofs.PrintLemmas.{Printed-join, Printed-nothing, Print
 use Rattle.report_text.specs.Pieces.{job_pieces, jobs_pieces, total_piece, pieces}
 
 -- a front of some texts, after those before them
-pub IsFront-after : {texts done all : List Piece} (before after : List Piece) → before ++ (texts ++ after) ≡ all → IsFront texts done → IsFront all (before ++ done)
+pub IsFront-after : {texts done all : List Piece} (before after : List Piece) → before ++ (texts ++ after) ≡ all → IsFront texts done
+    → IsFront all (before ++ done)
 IsFront-after {texts = texts} {done = done} before after are (inl (next, rest, whole)) =
     inl (next, rest ++ after, sym are ∙ ap (λ ts. before ++ (ts ++ after)) whole ∙ grind (arith, common_steps))
 IsFront-after {texts = texts} {done = done} before after are (inr (next, part)) =
     inr (next, subst (λ ts. IsPart ts (before ++ done) next) are (IsPart-after before after part))
 
 -- a front of what comes after some whole texts
-pub PrintedFront-after : {stop : PrintStop} {texts : List Piece} {a b c : SinksView} (before after all : List Piece) → before ++ (texts ++ after) ≡ all → Printed a b before → BothGoOn a b → PrintedFront texts stop b c → PrintedFront all stop a c
+pub PrintedFront-after : {stop : PrintStop} {texts : List Piece} {a b c : SinksView} (before after all : List Piece)
+    → before ++ (texts ++ after) ≡ all → Printed a b before → BothGoOn a b → PrintedFront texts stop b c → PrintedFront all stop a c
 PrintedFront-after before after all are printed goes front = record {
   done = before ++ front.done;
   front = IsFront-after before after are front.front;
@@ -28,12 +31,16 @@ PrintedFront-after before after all are printed goes front = record {
   memory = λ wanted. goes-join goes (front.memory wanted);
 }
 
-module _ (hosts : List Host) (reports : List Report) (i : ℕ) (report : Report) (within : i < length reports) (is : report ≡ get_or reports i report) where
+module _ (hosts : List Host) (reports : List Report) (i : ℕ) (report : Report) (within : i < length reports)
+    (is : report ≡ get_or reports i report) where
   whole : take i reports ++ (report ∷ drop (suc i) reports) ≡ reports
-  whole = ap (λ r. take i reports ++ (r ∷ drop (suc i) reports)) is ∙ ap (λ rs. take i reports ++ rs) (sym (drop-cons reports i report within)) ∙ take-append-drop i reports
+  whole = ap (λ r. take i reports ++ (r ∷ drop (suc i) reports)) is
+      ∙ ap (λ rs. take i reports ++ rs) (sym (drop-cons reports i report within)) ∙ take-append-drop i reports
 
-  spread : jobs_pieces hosts (take i reports) ++ (job_pieces hosts report ++ jobs_pieces hosts (drop (suc i) reports)) ≡ jobs_pieces hosts reports
-  spread = sym (flat_map-append (λ r. job_pieces hosts r) (take i reports) (report ∷ drop (suc i) reports)) ∙ ap (λ rs. jobs_pieces hosts rs) whole
+  spread : jobs_pieces hosts (take i reports) ++ (job_pieces hosts report ++ jobs_pieces hosts (drop (suc i) reports)) ≡ jobs_pieces hosts
+      reports
+  spread = sym (flat_map-append (λ r. job_pieces hosts r) (take i reports) (report ∷ drop (suc i) reports))
+      ∙ ap (λ rs. jobs_pieces hosts rs) whole
 
   one_more : jobs_pieces hosts (take i reports) ++ job_pieces hosts report ≡ jobs_pieces hosts (take (i + 1) reports)
   one_more =
@@ -42,17 +49,21 @@ module _ (hosts : List Host) (reports : List Report) (i : ℕ) (report : Report)
       ∙ ap (λ rs. jobs_pieces hosts rs) (ap (λ r. take i reports ++ (r ∷ [])) is ∙ grind (arith, common_steps))
 
   -- a job was printed in part, after those before it
-  pub job_cut : {stop : PrintStop} {a b c : SinksView} → Printed a b (jobs_pieces hosts (take i reports)) → BothGoOn a b → PrintedFront (job_pieces hosts report) stop b c → PrintedFront (jobs_pieces hosts reports) stop a c
-  job_cut printed goes front = PrintedFront-after (jobs_pieces hosts (take i reports)) (jobs_pieces hosts (drop (suc i) reports)) (jobs_pieces hosts reports) spread printed goes front
+  pub job_cut : {stop : PrintStop} {a b c : SinksView} → Printed a b (jobs_pieces hosts (take i reports)) → BothGoOn a b
+      → PrintedFront (job_pieces hosts report) stop b c → PrintedFront (jobs_pieces hosts reports) stop a c
+  job_cut printed goes front = PrintedFront-after (jobs_pieces hosts (take i reports)) (jobs_pieces hosts (drop (suc i) reports))
+      (jobs_pieces hosts reports) spread printed goes front
 
   -- a job was printed whole, after those before it
-  pub job_printed : {a b c : SinksView} → Printed a b (jobs_pieces hosts (take i reports)) → Printed b c (job_pieces hosts report) → Printed a c (jobs_pieces hosts (take (i + 1) reports))
+  pub job_printed : {a b c : SinksView} → Printed a b (jobs_pieces hosts (take i reports)) → Printed b c (job_pieces hosts report)
+      → Printed a c (jobs_pieces hosts (take (i + 1) reports))
   job_printed {a = a} {c = c} first second = subst (λ ps. Printed a c ps) one_more (Printed-join first second)
 
 module _ (hosts : List Host) (slice reports : List Report) (same : slice ≡ reports) (a b : SinksView) where
   -- the jobs were printed in part
   pub jobs_cut : {stop : PrintStop} → PrintedFront (jobs_pieces hosts slice) stop a b → PrintedFront (pieces hosts reports) stop a b
-  jobs_cut {stop = stop} front = PrintedFront-after [] (total_piece reports ∷ []) (pieces hosts reports) refl (Printed-nothing a) (record { out = goes-same a.out; err = goes-same a.err }) (subst (λ rs. PrintedFront (jobs_pieces hosts rs) stop a b) same front)
+  jobs_cut {stop = stop} front = PrintedFront-after [] (total_piece reports ∷ []) (pieces hosts reports) refl (Printed-nothing a)
+      (record { out = goes-same a.out; err = goes-same a.err }) (subst (λ rs. PrintedFront (jobs_pieces hosts rs) stop a b) same front)
 
   module _ (jobs : Printed a b (jobs_pieces hosts slice)) (c : SinksView) where
     jobs_whole : Printed a b (jobs_pieces hosts reports)
@@ -62,5 +73,6 @@ module _ (hosts : List Host) (slice reports : List Report) (same : slice ≡ rep
     pub total_printed : Printed b c (total_piece reports ∷ []) → Printed a c (pieces hosts reports)
     total_printed total = Printed-join jobs_whole total
 
-    pub total_cut : {stop : PrintStop} → BothGoOn a b → PrintedFront (total_piece reports ∷ []) stop b c → PrintedFront (pieces hosts reports) stop a c
+    pub total_cut : {stop : PrintStop} → BothGoOn a b → PrintedFront (total_piece reports ∷ []) stop b c
+        → PrintedFront (pieces hosts reports) stop a c
     total_cut goes front = PrintedFront-after (jobs_pieces hosts reports) [] (pieces hosts reports) refl jobs_whole goes front

@@ -17,7 +17,7 @@ use Rattle.job_list.specs.Jobs.{JobsOf, JobFaultStands}
 use Rattle.report_text.specs.Pieces.{pieces, command_pieces}
 use Rattle.report_text.specs.Numbers.{number}
 use Rattle.stream_print.specs.Prints.{SinksView}
-use Rattle.stream_print.specs.Ends.{complaint, Ends, WantOf}
+use Rattle.stream_print.specs.Ends.{Ends, WantOf}
 use Rattle.farm_answers.specs.Texts.{bad_jobs_status, cannot_read_status, cannot_read_text, job_fault_text, no_memory_text}
 use Rattle.farm_program.specs.Worlds.{World, Idle, Refused}
 
@@ -50,10 +50,14 @@ pub record ListBuilt {K : Type 0} (d : Devices K) (config : JobConfig) (most : �
   pub done : JobsDone d config jobs (worker_number most old.kits jobs) new.built old.kits new.kits
   pub prints : Ends no_memory_text (pieces config.hosts.list done.one.reports) (number done.one.reports) old.sinks new.sinks answer
 
--- what was read of the input, to its end or to the limit, is no job list, by this fault
-pub data HasListFault (old new : SourceView) (line : ℕ) (fault : JobFault) : Type 0 where
-  whole_text : {text : List ℕ} → AllRead old new text → JobFaultStands text line fault → HasListFault old new line fault
-  long_text : (read : ReadTo input_limit old new) → JobFaultStands read.text line fault → HasListFault old new line fault
+-- what was read of the input, to its end or to the limit, has this fault, by what it is for one to stand in a text
+pub data HasFaultOf (Stands : List ℕ → ℕ → JobFault → Type 0) (old new : SourceView) (line : ℕ) (fault : JobFault) : Type 0 where
+  whole_text : {text : List ℕ} → AllRead old new text → Stands text line fault → HasFaultOf Stands old new line fault
+  long_text : (read : ReadTo input_limit old new) → Stands read.text line fault → HasFaultOf Stands old new line fault
+
+-- it is no job list, by this fault
+abbrev pub HasListFault : SourceView → SourceView → ℕ → JobFault → Type 0
+HasListFault = HasFaultOf JobFaultStands
 
 -- Memory was wanting before the first job began: while the input was read or after that, and no more of it was read than the limit. None was run, and
 -- nothing but the notice was printed. No fault of the input is told so.
@@ -63,19 +67,28 @@ pub record Wanted {K : Type 0} (old new : World K) (answer : ℕ) : Type 0 where
   pub idle : Idle old new
   pub want : WantOf no_memory_text [] old.sinks new.sinks answer
 
--- A build by this configuration. What the input is and how far it could be read tell the first three apart; the last is free.
+-- No job was run: what was read of the input has a fault of a job list, or it couldn't be read, or memory was wanting. What the input is
+-- and how far it could be read tell the first two from a build; the last is free.
+pub data NoneRan {K : Type 0} (HasFault : ℕ → JobFault → Type 0) (old new : World K) (answer : ℕ) : Type 0 where
+  faulty : {line : ℕ} {fault : JobFault} → HasFault line fault → Refused (job_fault_text line fault) bad_jobs_status old new answer
+      → NoneRan HasFault old new answer
+  unread : BrokeOff input_limit old.source new.source → Refused cannot_read_text cannot_read_status old new answer
+      → NoneRan HasFault old new answer
+  wanted : Wanted old new answer → NoneRan HasFault old new answer
+
+-- A build by this configuration.
 pub data Builds {K : Type 0} (d : Devices K) (config : JobConfig) (most : ℕ) (old new : World K) (answer : ℕ) : Type 0 where
   built : ListBuilt d config most old new answer → Builds d config most old new answer
-  faulty : {line : ℕ} {fault : JobFault} → HasListFault old.source new.source line fault → Refused (job_fault_text line fault) bad_jobs_status old new answer → Builds d config most old new answer
-  unread : BrokeOff input_limit old.source new.source → Refused cannot_read_text cannot_read_status old new answer → Builds d config most old new answer
-  wanted : Wanted old new answer → Builds d config most old new answer
+  none_ran : NoneRan (HasListFault old.source new.source) old new answer → Builds d config most old new answer
 
--- the rest of a build, once its whole text was read
-pub data RunsText {K : Type 0} (d : Devices K) (config : JobConfig) (most : ℕ) (text : List ℕ) (old_kits new_kits : List K) (made : List Built) (old new : SinksView) (answer : ℕ) : Type 0 where
-  text_ran : {jobs : List (List (List ℕ))} → JobsOf text jobs → (done : JobsDone d config jobs (worker_number most old_kits jobs) made old_kits new_kits)
-      → Ends no_memory_text (pieces config.hosts.list done.one.reports) (number done.one.reports) old new answer → RunsText d config most text old_kits new_kits made old new answer
-  text_faulty : {line : ℕ} {fault : JobFault} → JobFaultStands text line fault → new_kits ≡ old_kits → made ≡ [] → Ends no_memory_text (complaint (job_fault_text line fault) ∷ []) bad_jobs_status old new answer → RunsText d config most text old_kits new_kits made old new answer
-  text_wanted : new_kits ≡ old_kits → made ≡ [] → WantOf no_memory_text [] old new answer → RunsText d config most text old_kits new_kits made old new answer
+-- the rest of a build, once its jobs were read: they were run; or memory was wanting before the first of them
+pub data JobsEnd {K : Type 0} (d : Devices K) (config : JobConfig) (most : ℕ) (jobs : List (List (List ℕ))) (old_kits new_kits : List K)
+    (made : List Built) (old new : SinksView) (answer : ℕ) : Type 0 where
+  jobs_ran : (done : JobsDone d config jobs (worker_number most old_kits jobs) made old_kits new_kits)
+      → Ends no_memory_text (pieces config.hosts.list done.one.reports) (number done.one.reports) old new answer
+      → JobsEnd d config most jobs old_kits new_kits made old new answer
+  jobs_wanted : new_kits ≡ old_kits → made ≡ [] → WantOf no_memory_text [] old new answer
+      → JobsEnd d config most jobs old_kits new_kits made old new answer
 
 -- The command was run as the one job of one worker, and its report was to be printed.
 pub record CommandRan {K : Type 0} (d : Devices K) (config : JobConfig) (words : List (List ℕ)) (old new : World K) (answer : ℕ) : Type 0 where

@@ -5,7 +5,7 @@ use Rattle.farm_types.specs.declared.hosts.Hosts.{Hosts}
 use Rattle.host_list.specs.declared.fault.HostFault.{HostFault}
 use Rattle.host_list.specs.HostLists.{HostListOf, HostFaultStands, printed}
 use Rattle.farm_words.specs.Commands.{IsCommand, Meaning, Build, Watch, Graph, Cc, Hosts as HostsCommand, Scan, Rehearse, Help, Version}
-use Rattle.farm_words.specs.Options.{Given, worker_count, try_count, line_count}
+use Rattle.farm_words.specs.Options.{Given, worker_count, line_count}
 use Rattle.farm_words.specs.Environment.{host_text_of, is_fallback_on, PeriodOf, HasBadPeriod}
 use Rattle.farm_words.specs.Help.{help_of}
 use Rattle.farm_machine.specs.Devices.{Devices}
@@ -18,6 +18,7 @@ use Rattle.farm_program.specs.Builds.{Builds, RunsCommand, config_of}
 use Rattle.farm_program.specs.GraphBuilds.{BuildsGraph}
 use Rattle.farm_program.specs.WatchBuilds.{Watches}
 use Rattle.farm_program.specs.Rehearsed.{DidRehearse}
+use Rattle.farm_program.specs.Settings.{IsConfigOf, build_config}
 
 -- A command that runs jobs, by the back-off period of the environment and by the text of a host list. Both are right, and then this is done;
 -- or the period isn't; or the period is, and the list has this fault; or memory was wanting while the list was read. What the environment
@@ -32,10 +33,6 @@ pub data OnHosts {K : Type 0} (text : List ℕ) (variables : List (List ℕ × L
 pub record ListsHosts {K : Type 0} (text : List ℕ) (old new : World K) (answer : ℕ) : Type 0 where
   pub untouched : Untouched old new
   pub lists : ByHosts text (λ hosts. Ends no_memory_text (output (printed hosts) ∷ []) 0 old.sinks new.sinks answer) old.sinks new.sinks answer
-
--- how a build with these options runs its jobs
-abbrev pub build_config : Given → List (List ℕ × List ℕ) → Hosts → ℕ → JobConfig
-build_config options variables hosts period = config_of hosts (is_fallback_on options.fallback variables) options.retry period (try_count options)
 
 -- how a single command is run: with retry, and at one host
 abbrev pub command_config : List (List ℕ × List ℕ) → Hosts → ℕ → JobConfig
@@ -57,24 +54,23 @@ Answers d variables old new answer (Rehearse jobs) = DidRehearse jobs old new an
 Answers d variables old new answer (Help name) = Answered (output (help_of name)) 0 old new answer
 Answers d variables old new answer Version = Answered (output version_text) 0 old new answer
 
--- the words are `build`, with this configuration and this many workers at most
-pub record IsBuildBy (words : List (List ℕ)) (variables : List (List ℕ × List ℕ)) (config : JobConfig) (most : ℕ) : Type 0 where
+-- the words are this command with some options, which give this configuration and this many workers at most
+pub record IsBy (named : Given → Meaning) (words : List (List ℕ)) (variables : List (List ℕ × List ℕ)) (config : JobConfig) (most : ℕ)
+    : Type 0 where
   pub options : Given
-  pub hosts : Hosts
-  pub period : ℕ
-  pub command : IsCommand words (Build options)
-  pub lasts : PeriodOf variables period
-  pub listed : HostListOf (host_text_of options.hosts variables) hosts
-  pub meant : config ≡ build_config options variables hosts period
+  pub command : IsCommand words (named options)
+  pub configured : IsConfigOf options variables config
   pub workers : most ≡ worker_count options
 
--- the words are `graph`, with this configuration and this many workers at most
-pub record IsGraphBy (words : List (List ℕ)) (variables : List (List ℕ × List ℕ)) (config : JobConfig) (most : ℕ) : Type 0 where
-  pub options : Given
-  pub hosts : Hosts
-  pub period : ℕ
-  pub command : IsCommand words (Graph options)
-  pub lasts : PeriodOf variables period
-  pub listed : HostListOf (host_text_of options.hosts variables) hosts
-  pub meant : config ≡ build_config options variables hosts period
-  pub workers : most ≡ worker_count options
+-- it is `build`
+abbrev pub IsBuildBy : List (List ℕ) → List (List ℕ × List ℕ) → JobConfig → ℕ → Type 0
+IsBuildBy = IsBy Build
+
+-- it is `watch`, with this many lines
+pub record IsWatchBy (words : List (List ℕ)) (variables : List (List ℕ × List ℕ)) (config : JobConfig) (most lines : ℕ) : Type 0 where
+  pub by : IsBy Watch words variables config most
+  pub lines_are : lines ≡ line_count by.options
+
+-- it is `graph`
+abbrev pub IsGraphBy : List (List ℕ) → List (List ℕ × List ℕ) → JobConfig → ℕ → Type 0
+IsGraphBy = IsBy Graph

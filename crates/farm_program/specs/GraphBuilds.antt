@@ -2,7 +2,7 @@
 use Rattle.std.specs.Prelude.{◌≡◌, ℕ, ◌<◌, List, [], ◌∷◌, All}
 use Rattle.farm_types.specs.declared.jobs.JobConfig.{JobConfig}
 use Rattle.edge_traits.specs.Sources.{SourceView}
-use Rattle.input_read.specs.Reads.{AllRead, ReadTo, BrokeOff}
+use Rattle.input_read.specs.Reads.{AllRead}
 use Rattle.job_driver.specs.declared.driver.Built.{Built}
 use Rattle.farm_machine.specs.Devices.{Devices}
 use Rattle.job_list.specs.declared.fault.JobFault.{JobFault}
@@ -13,10 +13,10 @@ use Rattle.job_graph.specs.Lines.{cut_text}
 use Rattle.job_graph.specs.Graphs.{GraphOf, NeedsFaultStands, CycleStands}
 use Rattle.stream_print.specs.Prints.{SinksView}
 use Rattle.stream_print.specs.Ends.{complaint, Ends, WantOf}
-use Rattle.farm_answers.specs.Texts.{bad_jobs_status, cannot_read_status, cannot_read_text, cycle_text, job_fault_text}
+use Rattle.farm_answers.specs.Texts.{bad_jobs_status, cycle_text, job_fault_text}
 use Rattle.farm_answers.specs.Texts.{needs_fault_text, no_memory_text}
 use Rattle.farm_program.specs.Worlds.{World, Refused}
-use Rattle.farm_program.specs.Builds.{Wanted, input_limit}
+use Rattle.farm_program.specs.Builds.{HasFaultOf, NoneRan}
 use Rattle.farm_program.specs.Outcomes.{Outcome, graph_pieces, graph_number}
 use Rattle.farm_program.specs.Levels.{LevelsRan, HasEnded, NeedsWereDone, level_count}
 
@@ -69,23 +69,18 @@ pub record GraphCutShort {K : Type 0} (d : Devices K) (config : JobConfig) (most
 
 -- ---- the text is no graph
 
--- what was read of the input, to its end or to the limit, has this fault of a job list
-pub data HasJobsFault (old new : SourceView) (line : ℕ) (fault : JobFault) : Type 0 where
-  whole_text : {text : List ℕ} → AllRead old new text → JobFaultStands (cut_text text) line fault → HasJobsFault old new line fault
-  long_text : (read : ReadTo input_limit old new) → JobFaultStands (cut_text read.text) line fault → HasJobsFault old new line fault
+-- what was read of the input, without its lines of needs, is no job list by this fault
+abbrev pub HasJobsFault : SourceView → SourceView → ℕ → JobFault → Type 0
+HasJobsFault = HasFaultOf (λ text. JobFaultStands (cut_text text))
 
--- A graph is built by this configuration. What the input is and how far it could be read tell all but the last two apart; these are free.
+-- A graph is built by this configuration. What the input is and how far it could be read tell these apart, but for want of memory.
 pub data BuildsGraph {K : Type 0} (d : Devices K) (config : JobConfig) (most : ℕ) (old new : World K) (answer : ℕ) : Type 0 where
   graph_built : GraphBuilt d config most old new answer → BuildsGraph d config most old new answer
-  jobs_faulty : {line : ℕ} {fault : JobFault} → HasJobsFault old.source new.source line fault
-      → Refused (job_fault_text line fault) bad_jobs_status old new answer → BuildsGraph d config most old new answer
+  none_ran : NoneRan (HasJobsFault old.source new.source) old new answer → BuildsGraph d config most old new answer
   needs_faulty : {text : List ℕ} {line : ℕ} {fault : GraphFault} → AllRead old.source new.source text → NeedsFaultStands text line fault
       → Refused (needs_fault_text line fault) bad_jobs_status old new answer → BuildsGraph d config most old new answer
   cyclic : {text cycle : List ℕ} → AllRead old.source new.source text → CycleStands text cycle
       → Refused (cycle_text cycle) bad_jobs_status old new answer → BuildsGraph d config most old new answer
-  unread : BrokeOff input_limit old.source new.source → Refused cannot_read_text cannot_read_status old new answer
-      → BuildsGraph d config most old new answer
-  wanted : Wanted old new answer → BuildsGraph d config most old new answer
   cut_short : GraphCutShort d config most old new answer → BuildsGraph d config most old new answer
 
 -- the rest of it, once the whole text was read

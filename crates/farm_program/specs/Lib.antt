@@ -5,5 +5,7 @@ pub mod Levels
 pub mod GraphBuilds
 pub mod WatchBuilds
 pub mod Rehearsed
+pub mod Inputs
+pub mod Settings
 pub mod Commands
 pub mod Smooth

@@ -7,11 +7,10 @@ use Rattle.farm_machine.specs.declared.reports.Report.{Report}
 use Rattle.farm_machine.specs.Devices.{Devices}
 use Rattle.farm_machine.specs.Jobs.{AreLimitsOf}
 use Rattle.farm_machine.specs.Usable.{job_at}
-use Rattle.input_read.specs.Reads.{AllRead, BrokeOff}
+use Rattle.input_read.specs.Reads.{AllRead}
 use Rattle.job_driver.specs.declared.driver.Built.{Built}
 use Rattle.job_driver.specs.Watching.{WatchedRan}
-use Rattle.job_list.specs.declared.fault.JobFault.{JobFault}
-use Rattle.job_list.specs.Jobs.{JobsOf, JobFaultStands}
+use Rattle.job_list.specs.Jobs.{JobsOf}
 use Rattle.report_text.specs.Pieces.{pieces}
 use Rattle.report_text.specs.Numbers.{number}
 use Rattle.stream_print.specs.declared.pieces.Piece.{Piece}
@@ -22,9 +21,9 @@ use Rattle.watch_lines.specs.declared.line_end.LineEnd.{LineEnd}
 use Rattle.watch_lines.specs.declared.line_end.LineEnd.TheVariants.{Whole, SinkFault, Memory}
 use Rattle.watch_lines.specs.Lines.{watch_line, last_text, counts_rise, lines_end}
 use Rattle.watch_lines.specs.Printed.{all_within}
-use Rattle.farm_answers.specs.Texts.{bad_jobs_status, cannot_read_status, cannot_read_text, job_fault_text, no_memory_text}
-use Rattle.farm_program.specs.Worlds.{World, Refused}
-use Rattle.farm_program.specs.Builds.{Builds, HasListFault, Wanted, input_limit}
+use Rattle.farm_answers.specs.Texts.{no_memory_text}
+use Rattle.farm_program.specs.Worlds.{World}
+use Rattle.farm_program.specs.Builds.{Builds, HasListFault, NoneRan}
 
 -- ---- the lines
 
@@ -76,11 +75,7 @@ pub record ListWatched {K : Type 0} (d : Devices K) (config : JobConfig) (most l
 -- A watched build: what is refused is refused as in a build that nobody watches.
 pub data BuildsWatched {K : Type 0} (d : Devices K) (config : JobConfig) (most lines : ℕ) (old new : World K) (answer : ℕ) : Type 0 where
   watched : ListWatched d config most lines old new answer → BuildsWatched d config most lines old new answer
-  faulty : {line : ℕ} {fault : JobFault} → HasListFault old.source new.source line fault
-      → Refused (job_fault_text line fault) bad_jobs_status old new answer → BuildsWatched d config most lines old new answer
-  unread : BrokeOff input_limit old.source new.source → Refused cannot_read_text cannot_read_status old new answer
-      → BuildsWatched d config most lines old new answer
-  wanted : Wanted old new answer → BuildsWatched d config most lines old new answer
+  none_ran : NoneRan (HasListFault old.source new.source) old new answer → BuildsWatched d config most lines old new answer
 
 -- With one kit it is a build that nobody watches, since no kit is left to lend its clock.
 pub data Watches {K : Type 0} (d : Devices K) (config : JobConfig) (most lines : ℕ) (old new : World K) (answer : ℕ) : Type 0 where
@@ -96,17 +91,14 @@ AfterLines Whole hosts reports old new answer = Ends no_memory_text (pieces host
 AfterLines SinkFault hosts reports old new answer = (new ≡ old) × (answer ≡ stopped_status)
 AfterLines Memory hosts reports old new answer = WantOf no_memory_text [] old new answer
 
--- the rest of a watched build, once its whole text was read
-pub data WatchesText {K : Type 0} (d : Devices K) (config : JobConfig) (most lines : ℕ) (text : List ℕ) (old_kits new_kits : List K)
+-- the rest of a watched build, once its jobs were read
+pub data WatchEnd {K : Type 0} (d : Devices K) (config : JobConfig) (most lines : ℕ) (jobs : List (List (List ℕ))) (old_kits new_kits : List K)
     (made : List Built) (old new : SinksView) (answer : ℕ) : Type 0 where
-  text_watched : {jobs : List (List (List ℕ))} {counts : List Count} (told : Bool) → JobsOf text jobs
+  jobs_watched : {counts : List Count} (told : Bool)
       → (done : JobsWatched d config jobs (watched_workers most old_kits jobs) made old_kits new_kits)
       → AreCounts (length jobs) (watched_workers most old_kits jobs) lines counts
       → Ends no_memory_text (watch_pieces (length jobs) counts told ++ pieces config.hosts.list done.one.reports)
       (number done.one.reports) old new answer
-      → WatchesText d config most lines text old_kits new_kits made old new answer
-  text_faulty : {line : ℕ} {fault : JobFault} → JobFaultStands text line fault → new_kits ≡ old_kits → made ≡ []
-      → Ends no_memory_text (complaint (job_fault_text line fault) ∷ []) bad_jobs_status old new answer
-      → WatchesText d config most lines text old_kits new_kits made old new answer
-  text_wanted : new_kits ≡ old_kits → made ≡ [] → WantOf no_memory_text [] old new answer
-      → WatchesText d config most lines text old_kits new_kits made old new answer
+      → WatchEnd d config most lines jobs old_kits new_kits made old new answer
+  jobs_wanted : new_kits ≡ old_kits → made ≡ [] → WantOf no_memory_text [] old new answer
+      → WatchEnd d config most lines jobs old_kits new_kits made old new answer

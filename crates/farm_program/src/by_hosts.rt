@@ -1,7 +1,6 @@
 //! The commands that run jobs, by the environment and their host list.
-ghost use Rattle.std.specs.Prelude.{◌≡◌, ◌<◌, ◌≤◌, [], false, All, length, map, string_bytes, None};
+ghost use Rattle.std.specs.Prelude.{◌≡◌, ◌<◌, ◌≤◌, [], false, All, length, map, string_bytes};
 ghost use Rattle.edge_traits.specs.Keepers.{IsIdle};
-ghost use Rattle.farm_words.specs.Environment.{host_text_of};
 ghost use Rattle.farm_words.specs.Options.{given};
 ghost use Rattle.farm_words.specs.Commands as commands;
 ghost use Rattle.farm_machine.specs.Devices.{devices};
@@ -11,14 +10,14 @@ ghost use Rattle.farm_program.specs.Worlds.{world};
 ghost use Rattle.farm_program.specs.Commands.{Answers};
 ghost use Rattle.farm_words.specs.Within.{AreWithin};
 
-use crate::jobs::Ended;
+use crate::graph::build_graph;
+use crate::jobs::{BuildPlan, Ended};
 use crate::list::build_list;
+use crate::settings::{Settings, configure, refuse_config};
 use crate::single::run_command;
+use crate::watch::{WatchPlan, watch_list};
 use edge_traits::{Clock, Dialer, Keeper, Kit, Sink, Source, Station};
-use farm_answers::{refuse_host_list, refuse_period, want_memory};
-use farm_types::JobConfig;
-use farm_words::{Options, back_off_period, host_text, is_fallback_on};
-use host_list::{HostError, parse};
+use farm_words::Options;
 use std::alloc::Global;
 use std::sync::Wait;
 use std::thread::Threads;
@@ -33,7 +32,7 @@ const NO_OPTIONS: Options<'static> = Options {
     retry: true,
 };
 
-/// Builds by these options, or refuses the environment or the host list.
+/// Builds by these settings, or refuses them.
 pub fn build_by<
     T: Threads + Wait + Sync,
     D: Dialer + Send + Drop,
@@ -46,8 +45,7 @@ pub fn build_by<
 >(
     rt: &T,
     alloc: Global,
-    options: Options<'_>,
-    env: &[(String, String)],
+    settings: Settings<'_>,
     input: &mut R,
     kits: &mut Vec<Kit<D, S, K, C>>,
     out: &mut O,
@@ -55,36 +53,115 @@ pub fn build_by<
 ) -> Ended
 where
     D::Link: Send,
-    requires within { AreWithin (given options) }
+    requires within { AreWithin (given settings.options) }
     requires input { (R.shows input.old).ended ≡ false }
     requires some { 1 ≤ length kits.old.items }
     requires most { length kits.old.items ≤ 16 }
     requires idle { All (λ kit. IsIdle (K.shows kit.keeper)) kits.old.items }
     ensures { Answers (devices D.shows S.shows K.shows C.shows D.may_give S.ran)
-        (map (λ v. (string_bytes v.0, string_bytes v.1)) env.now)
+        (map (λ v. (string_bytes v.0, string_bytes v.1)) settings.entry.env.now)
         (world R.shows O.shows E.shows input.old kits.old.items out.old err.old [])
         (world R.shows O.shows E.shows input.new kits.new.items out.new err.new result.built) result.status
-        (commands.Build (given options.entry)) }
+        (commands.Build (given settings.entry.options)) }
 {
-    let Some(period) = back_off_period(env) else {
-        return Ended::idle(alloc, refuse_period(out, err));
-    };
-    match parse(alloc, host_text(options.hosts, env).as_bytes()) {
-        Ok(hosts) => {
-            let config = JobConfig {
-                hosts,
-                fallback: is_fallback_on(&options, env),
-                retry: options.retry,
-                period,
-                tries: options.try_count(),
+    match configure(alloc, &settings) {
+        Ok(config) => {
+            let plan = BuildPlan {
+                config: &config,
+                most: settings.options.worker_count(),
             };
-            let most = options.worker_count();
-            build_list(rt, alloc, &config, most, input, kits, out, err)
+            build_list(rt, alloc, plan, input, kits, out, err)
         }
-        Err(HostError::Fault { at, fault }) => {
-            Ended::idle(alloc, refuse_host_list(alloc, at, fault, out, err))
+        Err(error) => refuse_config(alloc, error, out, err),
+    }
+}
+
+/// Builds a job graph by these settings, or refuses them.
+pub fn graph_by<
+    T: Threads + Wait + Sync,
+    D: Dialer + Send + Drop,
+    S: Station + Send + Drop,
+    K: Keeper + Send + Drop,
+    C: Clock + Send + Drop,
+    R: Source,
+    O: Sink,
+    E: Sink,
+>(
+    rt: &T,
+    alloc: Global,
+    settings: Settings<'_>,
+    input: &mut R,
+    kits: &mut Vec<Kit<D, S, K, C>>,
+    out: &mut O,
+    err: &mut E,
+) -> Ended
+where
+    D::Link: Send,
+    requires within { AreWithin (given settings.options) }
+    requires input { (R.shows input.old).ended ≡ false }
+    requires some { 1 ≤ length kits.old.items }
+    requires most { length kits.old.items ≤ 16 }
+    requires idle { All (λ kit. IsIdle (K.shows kit.keeper)) kits.old.items }
+    ensures { Answers (devices D.shows S.shows K.shows C.shows D.may_give S.ran)
+        (map (λ v. (string_bytes v.0, string_bytes v.1)) settings.entry.env.now)
+        (world R.shows O.shows E.shows input.old kits.old.items out.old err.old [])
+        (world R.shows O.shows E.shows input.new kits.new.items out.new err.new result.built) result.status
+        (commands.Graph (given settings.entry.options)) }
+{
+    match configure(alloc, &settings) {
+        Ok(config) => {
+            let plan = BuildPlan {
+                config: &config,
+                most: settings.options.worker_count(),
+            };
+            build_graph(rt, alloc, plan, input, kits, out, err)
         }
-        Err(HostError::Memory) => Ended::idle(alloc, want_memory(out, err)),
+        Err(error) => refuse_config(alloc, error, out, err),
+    }
+}
+
+/// Builds by these settings while lines tell of it, or refuses them.
+pub fn watch_by<
+    T: Threads + Wait + Sync,
+    D: Dialer + Send + Drop,
+    S: Station + Send + Drop,
+    K: Keeper + Send + Drop,
+    C: Clock + Send + Drop,
+    R: Source,
+    O: Sink,
+    E: Sink + Send,
+>(
+    rt: &T,
+    alloc: Global,
+    settings: Settings<'_>,
+    input: &mut R,
+    kits: &mut Vec<Kit<D, S, K, C>>,
+    out: &mut O,
+    err: &mut E,
+) -> Ended
+where
+    D::Link: Send,
+    requires within { AreWithin (given settings.options) }
+    requires input { (R.shows input.old).ended ≡ false }
+    requires some { 1 ≤ length kits.old.items }
+    requires most { length kits.old.items ≤ 16 }
+    requires idle { All (λ kit. IsIdle (K.shows kit.keeper)) kits.old.items }
+    ensures { Answers (devices D.shows S.shows K.shows C.shows D.may_give S.ran)
+        (map (λ v. (string_bytes v.0, string_bytes v.1)) settings.entry.env.now)
+        (world R.shows O.shows E.shows input.old kits.old.items out.old err.old [])
+        (world R.shows O.shows E.shows input.new kits.new.items out.new err.new result.built) result.status
+        (commands.Watch (given settings.entry.options)) }
+{
+    match configure(alloc, &settings) {
+        Ok(config) => {
+            let plan = WatchPlan {
+                config: &config,
+                most: settings.options.worker_count(),
+                lines: settings.options.line_count(),
+            };
+            watch_list(rt, alloc, plan, input, kits, out, err)
+        }
+        Err(error) => refuse_config(alloc, error, out, err),
     }
 }
 
@@ -118,23 +195,12 @@ where
         (record { source = source; kits = kits.new.items; sinks = sinks_view O.shows E.shows out.new err.new; built = result.built })
         result.status (commands.Cc (map string_bytes words.now)) }
 {
-    let Some(period) = back_off_period(env) else {
-        return Ended::idle(alloc, refuse_period(out, err));
+    let settings = Settings {
+        options: NO_OPTIONS,
+        env,
     };
-    match parse(alloc, host_text(None, env).as_bytes()) {
-        Ok(hosts) => {
-            let config = JobConfig {
-                hosts,
-                fallback: is_fallback_on(&NO_OPTIONS, env),
-                retry: true,
-                period,
-                tries: 1,
-            };
-            run_command(rt, alloc, &config, words, kits, out, err)
-        }
-        Err(HostError::Fault { at, fault }) => {
-            Ended::idle(alloc, refuse_host_list(alloc, at, fault, out, err))
-        }
-        Err(HostError::Memory) => Ended::idle(alloc, want_memory(out, err)),
+    match configure(alloc, &settings) {
+        Ok(config) => run_command(rt, alloc, &config, words, kits, out, err),
+        Err(error) => refuse_config(alloc, error, out, err),
     }
 }

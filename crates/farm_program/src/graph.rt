@@ -9,20 +9,16 @@ ghost use Rattle.farm_program.specs.Levels.{AreReady, IsPlan};
 ghost use Rattle.farm_program.specs.GraphBuilds.{BuildsGraph, LevelsEnd, RunsGraph};
 
 use crate::graph_print::finish_graph;
-use crate::jobs::{BuiltList, Ended};
+use crate::input::{read_text, refuse_input};
+use crate::jobs::{BuildPlan, BuiltList, Ended};
 use crate::levels::{Plan, Progress, level_count, run_levels};
 use edge_traits::{Clock, Dialer, Keeper, Kit, Sink, Source, Station};
-use farm_answers::{refuse_cycle, refuse_job_list, refuse_needs, refuse_unread, want_memory};
-use farm_types::{Bytes, JobConfig};
-use input_read::{Input, read_input};
+use farm_answers::{refuse_cycle, refuse_job_list, refuse_needs, want_memory};
+use farm_types::Bytes;
 use job_graph::{GraphError, parse};
-use job_list::JobFault;
 use std::alloc::Global;
 use std::sync::Wait;
 use std::thread::Threads;
-
-/// The most bytes of an input that are read: one more than a job list may have.
-const INPUT_MAX: usize = 16_777_217;
 
 // Runs the levels of a graph, and prints what became of its jobs.
 fn build_levels<
@@ -79,8 +75,7 @@ fn build_text<
 >(
     rt: &T,
     alloc: Global,
-    config: &JobConfig,
-    most: u8,
+    plan: BuildPlan<'_>,
     text: &Bytes,
     kits: &mut Vec<Kit<D, S, K, C>>,
     out: &mut O,
@@ -88,10 +83,10 @@ fn build_text<
 ) -> Ended
 where
     D::Link: Send,
-    requires config { IsUsable config.now }
-    requires workers { 1 ≤ most }
+    requires config { IsUsable plan.config.now }
+    requires workers { 1 ≤ plan.most }
     requires kits { AreReady (λ kit. IsIdle (K.shows kit.keeper)) kits.old.items }
-    ensures { RunsGraph (devices D.shows S.shows K.shows C.shows D.may_give S.ran) config.now most text.now
+    ensures { RunsGraph (devices D.shows S.shows K.shows C.shows D.may_give S.ran) plan.entry.config.now plan.entry.most text.now
         kits.old.items kits.new.items result.built
         (sinks_view O.shows E.shows out.old err.old)
         (sinks_view O.shows E.shows out.new err.new) result.status }
@@ -100,8 +95,8 @@ where
         Ok(graph) => {
             let plan = Plan {
                 graph: &graph,
-                config,
-                most,
+                config: plan.config,
+                most: plan.most,
             };
             build_levels(rt, alloc, plan, kits, out, err)
         }
@@ -131,8 +126,7 @@ pub fn build_graph<
 >(
     rt: &T,
     alloc: Global,
-    config: &JobConfig,
-    most: u8,
+    plan: BuildPlan<'_>,
     input: &mut R,
     kits: &mut Vec<Kit<D, S, K, C>>,
     out: &mut O,
@@ -140,23 +134,16 @@ pub fn build_graph<
 ) -> Ended
 where
     D::Link: Send,
-    requires config { IsUsable config.now }
-    requires workers { 1 ≤ most }
+    requires config { IsUsable plan.config.now }
+    requires workers { 1 ≤ plan.most }
     requires input { (R.shows input.old).ended ≡ false }
     requires kits { AreReady (λ kit. IsIdle (K.shows kit.keeper)) kits.old.items }
-    ensures { BuildsGraph (devices D.shows S.shows K.shows C.shows D.may_give S.ran) config.now most
+    ensures { BuildsGraph (devices D.shows S.shows K.shows C.shows D.may_give S.ran) plan.entry.config.now plan.entry.most
         (world R.shows O.shows E.shows input.old kits.old.items out.old err.old [])
         (world R.shows O.shows E.shows input.new kits.new.items out.new err.new result.built) result.status }
 {
-    match read_input(alloc, input, INPUT_MAX) {
-        Ok(Input::Whole(text)) => build_text(rt, alloc, config, most, &text, kits, out, err),
-        Ok(Input::TooLong) => {
-            let fault = JobFault::TooLong {
-                bytes: INPUT_MAX as u64,
-            };
-            Ended::idle(alloc, refuse_job_list(alloc, 0, fault, out, err))
-        }
-        Ok(Input::Unread) => Ended::idle(alloc, refuse_unread(out, err)),
-        Err(_) => Ended::idle(alloc, want_memory(out, err)),
+    match read_text(alloc, input) {
+        Ok(text) => build_text(rt, alloc, plan, &text, kits, out, err),
+        Err(error) => refuse_input(alloc, error, out, err),
     }
 }

@@ -35,6 +35,13 @@ impl Ended {
     }
 }
 
+/// How jobs are run, and by how many workers at most.
+#[derive(Clone, Copy)]
+pub struct BuildPlan<'a> {
+    pub config: &'a JobConfig,
+    pub most: u8,
+}
+
 /// Runs jobs by so many workers. An error says that memory was wanting before the first of them began.
 pub fn run_jobs<
     T: Threads + Wait + Sync,

@@ -1,17 +1,17 @@
 //! The program `farm`: what its `main` calls.
 #![tactic(auto)]
 
-mod by_graph;
 mod by_hosts;
-mod by_watch;
 mod graph;
 mod graph_print;
+mod input;
 mod jobs;
 mod levels;
 mod list;
 mod outcomes;
 mod rehearsing;
 mod report;
+mod settings;
 mod single;
 mod top;
 mod watch;

@@ -8,24 +8,30 @@ ghost use Rattle.job_list.specs.Jobs.{JobsOf};
 ghost use Rattle.farm_words.specs.Commands.{BadAt, IsCommand, Meaning, meaning};
 ghost use Rattle.farm_answers.specs.Texts.{bad_words_status, bad_words_text};
 ghost use Rattle.farm_program.specs.Worlds.{world, Answered};
-ghost use Rattle.farm_program.specs.Smooth.{IsSmooth, Completed};
+ghost use Rattle.farm_program.specs.Smooth.{IsSmooth, Completed, WatchCompleted};
 ghost use Rattle.farm_words.specs.Within.{IsWithin};
-ghost use Rattle.farm_program.specs.Commands.{Answers, IsBuildBy, IsGraphBy};
+ghost use Rattle.farm_program.specs.Commands.{Answers, IsBuildBy, IsGraphBy, IsWatchBy};
 ghost use Rattle.farm_program.specs.GraphBuilds.{GraphCompleted};
 ghost use Rattle.job_graph.specs.Graphs.{GraphOf};
 ghost use Rattle.job_graph.specs.declared.graph.Graph.{Graph};
 
-use crate::by_graph::graph_by;
-use crate::by_hosts::{build_by, command_by};
-use crate::by_watch::watch_by;
+use crate::by_hosts::{build_by, command_by, graph_by, watch_by};
 use crate::jobs::Ended;
 use crate::rehearsing::run_rehearsal;
+use crate::settings::Settings;
 use edge_traits::{Clock, Dialer, Keeper, Kit, Sink, Source, Station};
 use farm_answers::{answer_help, answer_hosts, answer_scan, answer_version, refuse_words};
 use farm_words::{Command, host_text, parse_command};
 use std::alloc::Global;
 use std::sync::Wait;
 use std::thread::Threads;
+
+/// A call of the program: its command, and the environment.
+#[derive(Clone, Copy)]
+struct Invocation<'a> {
+    command: Command<'a>,
+    env: &'a [(String, String)],
+}
 
 // Does a command, and answers its exit status.
 fn answer<
@@ -40,8 +46,7 @@ fn answer<
 >(
     rt: &T,
     alloc: Global,
-    command: Command<'_>,
-    env: &[(String, String)],
+    call: Invocation<'_>,
     input: &mut R,
     kits: &mut Vec<Kit<D, S, K, C>>,
     out: &mut O,
@@ -53,17 +58,27 @@ where
     requires some { 1 ≤ length kits.old.items }
     requires most { length kits.old.items ≤ 16 }
     requires idle { All (λ kit. IsIdle (K.shows kit.keeper)) kits.old.items }
-    requires within { IsWithin (meaning command) }
+    requires within { IsWithin (meaning call.command) }
     ensures { Answers (devices D.shows S.shows K.shows C.shows D.may_give S.ran)
-        (map (λ v. (string_bytes v.0, string_bytes v.1)) env.now)
+        (map (λ v. (string_bytes v.0, string_bytes v.1)) call.entry.env.now)
         (world R.shows O.shows E.shows input.old kits.old.items out.old err.old [])
         (world R.shows O.shows E.shows input.new kits.new.items out.new err.new result.built)
-        result.status (meaning command.entry) }
+        result.status (meaning call.entry.command) }
 {
+    let Invocation { command, env } = call;
     match command {
-        Command::Build(options) => build_by(rt, alloc, options, env, input, kits, out, err),
-        Command::Watch(options) => watch_by(rt, alloc, options, env, input, kits, out, err),
-        Command::Graph(options) => graph_by(rt, alloc, options, env, input, kits, out, err),
+        Command::Build(options) => {
+            let settings = Settings { options, env };
+            build_by(rt, alloc, settings, input, kits, out, err)
+        }
+        Command::Watch(options) => {
+            let settings = Settings { options, env };
+            watch_by(rt, alloc, settings, input, kits, out, err)
+        }
+        Command::Graph(options) => {
+            let settings = Settings { options, env };
+            graph_by(rt, alloc, settings, input, kits, out, err)
+        }
         Command::Cc { words } => command_by(rt, alloc, words, env, kits, out, err),
         Command::Hosts { hosts } => {
             let text = host_text(hosts, env).as_bytes();
@@ -80,7 +95,7 @@ where
 /// `DISTCC_FALLBACK` and `DISTCC_BACKOFF_PERIOD` are read. There are 1 to 16 kits, in none of which a put is pending; the
 /// input may not have ended, and neither sink may be stopped. It may wait for a slot or a worker.
 ///
-/// Words are one command, or none; so one clause speaks of each call, `complete` says more of a build, and `complete_graph` of a graph's.
+/// Words are one command, or none; so one clause speaks of each call; `complete`, `complete_graph` and `complete_watch` say more of builds.
 pub fn farm<
     T: Threads + Wait + Sync,
     D: Dialer + Send + Drop,
@@ -147,9 +162,24 @@ where
         (world R.shows O.shows E.shows input.old kits.old.items out.old err.old [])
         (world R.shows O.shows E.shows input.new kits.new.items out.new err.new result.built) result.status
         ⊎ (result.status ≡ memory_status) }
+
+    // The same of a watched build: and all its lines were printed, and the reports behind them, or memory was wanting.
+    ensures complete_watch { (config : JobConfig) (most lines : ℕ) (jobs : List (List (List ℕ))) →
+        IsWatchBy (map string_bytes words.now)
+        (map (λ v. (string_bytes v.0, string_bytes v.1)) env.now) config most lines →
+        IsTrue (R.shows input.new).left.known → JobsOf (R.shows input.old).left.value jobs →
+        IsSmooth (world R.shows O.shows E.shows input.old kits.old.items out.old err.old [])
+        (world R.shows O.shows E.shows input.new kits.new.items out.new err.new result.built) →
+        WatchCompleted (devices D.shows S.shows K.shows C.shows D.may_give S.ran) config most lines jobs
+        (world R.shows O.shows E.shows input.old kits.old.items out.old err.old [])
+        (world R.shows O.shows E.shows input.new kits.new.items out.new err.new result.built) result.status
+        ⊎ (result.status ≡ memory_status) }
 {
     match parse_command(words) {
-        Ok(command) => answer(rt, alloc, command, env, input, kits, out, err),
+        Ok(command) => {
+            let call = Invocation { command, env };
+            answer(rt, alloc, call, input, kits, out, err)
+        }
         Err(place) => Ended::idle(alloc, refuse_words(alloc, place, out, err)),
     }
 }

@@ -6,18 +6,17 @@ ghost use Rattle.farm_machine.specs.Usable.{AreDoable, IsUsable};
 ghost use Rattle.job_driver.specs.Watching.{WatchPrinted};
 ghost use Rattle.stream_print.specs.Prints.{sinks_view};
 ghost use Rattle.farm_program.specs.Worlds.{world};
-ghost use Rattle.farm_program.specs.WatchBuilds.{AfterLines, BuildsWatched, JobsWatched, Watches, WatchesText, watched_workers};
+ghost use Rattle.farm_program.specs.WatchBuilds.{AfterLines, BuildsWatched, JobsWatched, WatchEnd, Watches, watched_workers};
 
-use crate::jobs::{BuiltList, Ended};
-use crate::list::{INPUT_MAX, build_list};
+use crate::input::{read_jobs, refuse_input};
+use crate::jobs::{BuildPlan, BuiltList, Ended};
+use crate::list::build_list;
 use crate::report::finish_build;
 use edge_traits::{Clock, Dialer, Keeper, Kit, Sink, Source, Station};
-use farm_answers::{refuse_job_list, refuse_unread, want_memory};
+use farm_answers::want_memory;
 use farm_machine::ReportList;
-use farm_types::{Bytes, Hosts, JobConfig, Jobs};
-use input_read::{Input, read_input};
+use farm_types::{Hosts, JobConfig, Jobs};
 use job_driver::{LineEnd, build_watched};
-use job_list::{JobError, JobFault, parse};
 use std::alloc::{AllocError, Global};
 use std::sync::Wait;
 use std::thread::Threads;
@@ -102,8 +101,8 @@ fn finish_watched<O: Sink, E: Sink>(
     }
 }
 
-// Runs the jobs of a text while lines tell of them, and prints their reports.
-fn watch_text<
+// Runs these jobs while lines tell of them, and prints their reports.
+fn build_jobs<
     T: Threads + Wait + Sync,
     D: Dialer + Send + Drop,
     S: Station + Send + Drop,
@@ -115,32 +114,26 @@ fn watch_text<
     rt: &T,
     alloc: Global,
     plan: WatchPlan<'_>,
-    text: &Bytes,
+    jobs: &Jobs,
     kits: &mut Vec<Kit<D, S, K, C>>,
     out: &mut O,
     err: &mut E,
 ) -> Ended
 where
     D::Link: Send,
+    requires jobs { AreDoable jobs.now }
     requires config { IsUsable plan.config.now }
     requires workers { 1 ≤ plan.most }
     requires lines { plan.lines ≤ 100 }
     requires some { 2 ≤ length kits.old.items }
     requires most { length kits.old.items ≤ 16 }
     requires idle { All (λ kit. IsIdle (K.shows kit.keeper)) kits.old.items }
-    ensures { WatchesText (devices D.shows S.shows K.shows C.shows D.may_give S.ran) plan.entry.config.now plan.entry.most plan.entry.lines
-        text.now kits.old.items kits.new.items result.built
+    ensures { WatchEnd (devices D.shows S.shows K.shows C.shows D.may_give S.ran) plan.entry.config.now plan.entry.most plan.entry.lines
+        jobs.now kits.old.items kits.new.items result.built
         (sinks_view O.shows E.shows out.old err.old)
         (sinks_view O.shows E.shows out.new err.new) result.status }
 {
-    let jobs = match parse(alloc, text.as_slice()) {
-        Ok(jobs) => jobs,
-        Err(JobError::Fault { line, fault }) => {
-            return Ended::idle(alloc, refuse_job_list(alloc, line, fault, out, err));
-        }
-        Err(JobError::Memory) => return Ended::idle(alloc, want_memory(out, err)),
-    };
-    match watch_jobs(rt, alloc, &jobs, plan, kits, err) {
+    match watch_jobs(rt, alloc, jobs, plan, kits, err) {
         Ok((built, end)) => {
             let reports = &built.as_slice()[0].reports;
             let status = finish_watched(alloc, end, &plan.config.hosts, reports, out, err);
@@ -182,16 +175,9 @@ where
         (world R.shows O.shows E.shows input.old kits.old.items out.old err.old [])
         (world R.shows O.shows E.shows input.new kits.new.items out.new err.new result.built) result.status }
 {
-    match read_input(alloc, input, INPUT_MAX) {
-        Ok(Input::Whole(text)) => watch_text(rt, alloc, plan, &text, kits, out, err),
-        Ok(Input::TooLong) => {
-            let fault = JobFault::TooLong {
-                bytes: INPUT_MAX as u64,
-            };
-            Ended::idle(alloc, refuse_job_list(alloc, 0, fault, out, err))
-        }
-        Ok(Input::Unread) => Ended::idle(alloc, refuse_unread(out, err)),
-        Err(_) => Ended::idle(alloc, want_memory(out, err)),
+    match read_jobs(alloc, input) {
+        Ok(jobs) => build_jobs(rt, alloc, plan, &jobs, kits, out, err),
+        Err(error) => refuse_input(alloc, error, out, err),
     }
 }
 
@@ -229,7 +215,11 @@ where
         (world R.shows O.shows E.shows input.new kits.new.items out.new err.new result.built) result.status }
 {
     if kits.len() == 1 {
-        build_list(rt, alloc, plan.config, plan.most, input, kits, out, err)
+        let plan = BuildPlan {
+            config: plan.config,
+            most: plan.most,
+        };
+        build_list(rt, alloc, plan, input, kits, out, err)
     } else {
         watch_input(rt, alloc, plan, input, kits, out, err)
     }

@@ -1,5 +1,6 @@
 -- What each job's runs left and what its exchanges were given.
-use Rattle.std.proofs.Common.{◌≡◌, inl, inr, ℕ, zero, suc, ◌+◌, ◌<◌, Bool, true, false, cond, List, [], ◌∷◌, Some, length, map, refl, sym, ap, ◌∙◌, subst, arith, nat_eq, eq-eqb}
+use Rattle.std.proofs.Common.{◌≡◌, inl, inr, ℕ, zero, suc, ◌+◌, ◌<◌, Bool, true, false, cond, List, [], ◌∷◌, Some, length, map, refl, sym}
+use Rattle.std.proofs.Common.{ap, ◌∙◌, subst, arith, nat_eq, eq-eqb}
 use Rattle.std.specs.Prelude.{All, slice_get}
 use Rattle.std.proofs.lemmas.List.Elements.{All-nil, All-cons, All-head, All-tail}
 use Rattle.std.proofs.lemmas.Bool.{true≢false}
@@ -59,8 +60,10 @@ ran-by programs read (r ∷ rs) all =
 -- what holds of the number, the acts and the end of each job of a worker holds of those that are read for its reports
 pub reports-each : (P : ℕ → List Act → End → Type 0) (w : ℕ) (read : Reports) (done : List DoneJob) (at : Places) (rs : List Report)
     → AreReportsOf w at done rs → Each (λ job. IsReported read w job × (read.ends job.number ≡ job.end)) (map untimed_job done)
-    → Each (λ job. P job.number (untimed job.acts) job.end) done → All (λ r. (read.worker r.number ≡ w) × P r.number (read.acts r.number) (read.ends r.number)) rs
-reports-each P w read [] at [] all told each = All-nil (λ r. (read.worker r.number ≡ w) × P r.number (read.acts r.number) (read.ends r.number))
+    → Each (λ job. P job.number (untimed job.acts) job.end) done
+    → All (λ r. (read.worker r.number ≡ w) × P r.number (read.acts r.number) (read.ends r.number)) rs
+reports-each P w read [] at [] all told each = All-nil
+    (λ r. (read.worker r.number ≡ w) × P r.number (read.acts r.number) (read.ends r.number))
 reports-each P w read [] at (r ∷ rs) all told each = absurd all
 reports-each P w read (job ∷ done) at [] all told each = absurd all
 reports-each P w read (job ∷ done) at (r ∷ rs) all told each =
@@ -69,8 +72,11 @@ reports-each P w read (job ∷ done) at (r ∷ rs) all told each =
     let acts : read.acts r.number ≡ untimed job.acts = ap read.acts own.number ∙ first.0.1 in
     let end : read.ends r.number ≡ job.end = ap read.ends own.number ∙ first.1 in
     let same : P r.number (untimed job.acts) job.end = subst (λ (k : ℕ). P k (untimed job.acts) job.end) (sym own.number) each.0 in
-    All-cons (λ q. (read.worker q.number ≡ w) × P q.number (read.acts q.number) (read.ends q.number)) r rs
-    (ap read.worker own.number ∙ first.0.0, subst (λ (xs : List Act). P r.number xs (read.ends r.number)) (sym acts) (subst (P r.number (untimed job.acts)) (sym end) same))
+    All-cons (λ q. (read.worker q.number ≡ w) × P q.number (read.acts q.number) (read.ends q.number)) r rs (
+      ap read.worker own.number ∙ first.0.0,
+      subst (λ (xs : List Act). P r.number xs (read.ends r.number)) (sym acts)
+          (subst (P r.number (untimed job.acts)) (sym end) same),
+    )
     (reports-each P w read done (advanced at job.acts) rs all.1 told.1 each.1)
 
 -- what no report ends with none does
@@ -101,7 +107,8 @@ none-together number a a' b b' rose not not' =
     omega (arith, one, two, enough)
 
 -- an end that no host, station or keeper is the cause of
-pub returned-well : (end : End) → is_own_end end ≡ true → is_station_failure end ≡ false → is_keeper_failure end ≡ false → is_done_or_wanted end ≡ true
+pub returned-well : (end : End) → is_own_end end ≡ true → is_station_failure end ≡ false → is_keeper_failure end ≡ false
+    → is_done_or_wanted end ≡ true
 returned-well (Done status note err out by) own station keeper = refl
 returned-well (Failed Station) own station keeper = absurd (true≢false station)
 returned-well (Failed Put) own station keeper = absurd (true≢false keeper)

@@ -6,12 +6,15 @@ use Rattle.std.proofs.lemmas.List.Concat.{flat_map-append, length-flat_map}
 use Rattle.std.proofs.lemmas.List.Sorted.{sum_by-IsPermutation, IsPermutation-reverse}
 
 -- the last worker is taken off
-pub gathered-more : {X Y : Type 0} (f : X → List Y) (all : List Y) (before mid after : List Y) (xs ys : List X) (x : X) → xs ≡ ys ++ x ∷ [] → reverse xs ≡ x ∷ reverse ys
+pub gathered-more : {X Y : Type 0} (f : X → List Y) (all : List Y) (before mid after : List Y) (xs ys : List X) (x : X) → xs ≡ ys ++ x ∷ []
+    → reverse xs ≡ x ∷ reverse ys
     → before ++ flat_map f (reverse xs) ≡ all → mid ≡ before ++ f x → mid ++ flat_map f (reverse ys) ≡ all
 gathered-more f all before mid after xs ys x is back so_far more =
-    ap (λ z. z ++ flat_map f (reverse ys)) more ∙ append_assoc before (f x) (flat_map f (reverse ys)) ∙ ap (λ z. before ++ flat_map f z) (sym back) ∙ so_far
+    ap (λ z. z ++ flat_map f (reverse ys)) more ∙ append_assoc before (f x) (flat_map f (reverse ys))
+    ∙ ap (λ z. before ++ flat_map f z) (sym back) ∙ so_far
 
-pub gathered-room : {X Y : Type 0} (f : X → List Y) (xs ys : List X) (x : X) → xs ≡ ys ++ x ∷ [] → length (flat_map f xs) ≡ length (flat_map f ys) + length (f x)
+pub gathered-room : {X Y : Type 0} (f : X → List Y) (xs ys : List X) (x : X) → xs ≡ ys ++ x ∷ []
+    → length (flat_map f xs) ≡ length (flat_map f ys) + length (f x)
 gathered-room f xs ys x is =
     let e = ap (λ z. length (flat_map f z)) is in
     let s = ap length (flat_map-append f ys (x ∷ [])) in
@@ -28,4 +31,5 @@ moved-more f all before mid xs ys x is so_far more =
 
 -- in whatever order the lists are put together, there are as many
 pub flat-length : {X Y : Type 0} (f : X → List Y) (xs : List X) → length (flat_map f xs) ≡ length (flat_map f (reverse xs))
-flat-length f xs = length-flat_map f xs ∙ sym (sum_by-IsPermutation (λ x. length (f x)) xs (reverse xs) (IsPermutation-reverse xs)) ∙ sym (length-flat_map f (reverse xs))
+flat-length f xs = length-flat_map f xs ∙ sym (sum_by-IsPermutation (λ x. length (f x)) xs (reverse xs) (IsPermutation-reverse xs))
+    ∙ sym (length-flat_map f (reverse xs))

@@ -52,19 +52,25 @@ serves-none wants w j past [] [] serves = refl
 serves-none wants w j past [] (e ∷ es) serves = absurd serves
 serves-none wants w j past (x ∷ xs) [] serves = absurd serves
 serves-none wants w j past (x ∷ xs) (e ∷ es) serves =
-    none-first e es (not-drawn wants j past x e.call e.reply (Serves wants w j (past ++ x ∷ []) xs es) (Serves wants w j past (x ∷ xs) es) serves.1)
-    ∙ goes-on wants j past x e.call e.reply (Serves wants w j (past ++ x ∷ []) xs es) (Serves wants w j past (x ∷ xs) es) (jobs_drawn es ≡ [])
+    none-first e es (not-drawn wants j past x e.call e.reply (Serves wants w j (past ++ x ∷ []) xs es) (Serves wants w j past (x ∷ xs) es)
+    serves.1)
+    ∙ goes-on wants j past x e.call e.reply (Serves wants w j (past ++ x ∷ []) xs es) (Serves wants w j past (x ∷ xs) es)
+    (jobs_drawn es ≡ [])
     (λ s. serves-none wants w j (past ++ x ∷ []) xs es s) (λ s. serves-none wants w j past (x ∷ xs) es s) serves.1
 
 pub drawn-append : (xs ys : List CallEntry) → jobs_drawn (xs ++ ys) ≡ jobs_drawn xs ++ jobs_drawn ys
 drawn-append xs ys = filter_map-append (λ (e : CallEntry). job_drawn e.call e.reply) xs ys
 
-pub does-drawn : (wants : Wants) (w : ℕ) (done : List DoneJob) (es : List CallEntry) → DoesJobs wants w done es → jobs_drawn es ≡ map (λ job. job.number) done
+pub does-drawn : (wants : Wants) (w : ℕ) (done : List DoneJob) (es : List CallEntry) → DoesJobs wants w done es
+    → jobs_drawn es ≡ map (λ job. job.number) done
 does-drawn wants w [] es does = ap jobs_drawn does
 does-drawn wants w (job ∷ done) es (calls, more, is, serves, rest) =
-    ap jobs_drawn is ∙ ap (λ (ks : List ℕ). job.number ∷ ks) (drawn-append calls more ∙ ap (λ (ks : List ℕ). ks ++ jobs_drawn more) (serves-none wants w job.number [] (slots_of job.acts) calls serves) ∙ does-drawn wants w done more rest)
+    ap jobs_drawn is ∙ ap (λ (ks : List ℕ). job.number ∷ ks)
+    (drawn-append calls more ∙ ap (λ (ks : List ℕ). ks ++ jobs_drawn more)
+    (serves-none wants w job.number [] (slots_of job.acts) calls serves) ∙ does-drawn wants w done more rest)
 
-pub report-numbers : (w : ℕ) (done : List DoneJob) (at : Places) (rs : List Report) → AreReportsOf w at done rs → numbers_of rs ≡ map (λ job. job.number) (map untimed_job done)
+pub report-numbers : (w : ℕ) (done : List DoneJob) (at : Places) (rs : List Report) → AreReportsOf w at done rs
+    → numbers_of rs ≡ map (λ job. job.number) (map untimed_job done)
 report-numbers w [] at [] all = refl
 report-numbers w [] at (r ∷ rs) all = absurd all
 report-numbers w (job ∷ done) at [] all = absurd all
@@ -78,16 +84,19 @@ last-of-all P (y ∷ xs) x all = last-of-all P xs x (All-tail P y (xs ++ x ∷ [
 numbers-more : (rs : List Report) (r : Report) → numbers_of (rs ++ r ∷ []) ≡ numbers_of rs ++ r.number ∷ []
 numbers-more rs r = map-append (λ (report : Report). report.number) rs (r ∷ [])
 
-pub few-more : (rs : List Report) (r : Report) (job : ℕ) → r.number ≡ job → AreFew rs → All (λ number. number < job) (numbers_of rs) → AreFew (rs ++ r ∷ [])
+pub few-more : (rs : List Report) (r : Report) (job : ℕ) → r.number ≡ job → AreFew rs → All (λ number. number < job) (numbers_of rs)
+    → AreFew (rs ++ r ∷ [])
 few-more rs r job is few later bound all =
-    let last : r.number < bound = last-of-all (λ number. number < bound) (numbers_of rs) r.number (subst (All (λ number. number < bound)) (numbers-more rs r) all) in
+    let last : r.number < bound = last-of-all (λ number. number < bound) (numbers_of rs) r.number
+    (subst (All (λ number. number < bound)) (numbers-more rs r) all) in
     let less : length rs ≤ job = few job later in
     let long = length-append rs (r ∷ []) in
     omega (arith, last, less, long, is)
 
 pub within-more : (n : ℕ) (rs : List Report) (r : Report) (job : ℕ) → r.number ≡ job → job < n → AreWithin n rs → AreWithin n (rs ++ r ∷ [])
 within-more n rs r job is below all =
-    subst (All (λ number. number < n)) (sym (numbers-more rs r)) (All-push (λ number. number < n) (numbers_of rs) r.number all (let b : r.number < n = omega (arith, is, below) in b))
+    subst (All (λ number. number < n)) (sym (numbers-more rs r))
+    (All-push (λ number. number < n) (numbers_of rs) r.number all (let b : r.number < n = omega (arith, is, below) in b))
 
 -- without reports
 pub few-none : (rs : List Report) → rs ≡ [] → AreFew rs

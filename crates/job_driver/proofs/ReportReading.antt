@@ -5,7 +5,8 @@ use Rattle.std.proofs.lemmas.List.{length_push}
 use Rattle.std.proofs.lemmas.List.Elements.{All-nil, All-cons}
 use Rattle.edge_traits.specs.Deeds.{ran, fetched, exchanged, put, timed}
 use Rattle.farm_machine.specs.declared.reports.Event.{Event}
-use Rattle.farm_machine.specs.declared.reports.Event.TheVariants.{Ran, Fetched, Exchanged, Put as PutAt, Took, Gave, GaveBad, Down, TookLocal, GaveLocal}
+use Rattle.farm_machine.specs.declared.reports.Event.TheVariants.{Ran, Fetched, Exchanged, Put as PutAt, Took, Gave, GaveBad, Down}
+use Rattle.farm_machine.specs.declared.reports.Event.TheVariants.{TookLocal, GaveLocal}
 use Rattle.farm_machine.specs.declared.reports.Places.{Places}
 use Rattle.farm_machine.specs.declared.reports.Report.{Report}
 use Rattle.farm_machine.specs.Acts.{Act, Did, Met, Entries, Reads, ReadsAll}
@@ -55,10 +56,16 @@ added-append es (Met x ∷ xs) ys = added-append es xs ys
 
 counts-more : (acts : List Act) (at : Places) (es : Entries) → Counts at es → Counts (advanced at acts) (added es acts)
 counts-more [] at es c = c
-counts-more (Did (ran x) ∷ acts) at es c = counts-more acts (record at { runs = at.runs + 1 }) (record es { runs = es.runs ++ x ∷ [] }) (record { runs = length_push es.runs x ∙ ap (λ n. n + 1) c.runs; fetches = c.fetches; exchanges = c.exchanges; puts = c.puts })
-counts-more (Did (fetched x) ∷ acts) at es c = counts-more acts (record at { fetches = at.fetches + 1 }) (record es { fetches = es.fetches ++ x ∷ [] }) (record { runs = c.runs; fetches = length_push es.fetches x ∙ ap (λ n. n + 1) c.fetches; exchanges = c.exchanges; puts = c.puts })
-counts-more (Did (exchanged x) ∷ acts) at es c = counts-more acts (record at { exchanges = at.exchanges + 1 }) (record es { exchanges = es.exchanges ++ x ∷ [] }) (record { runs = c.runs; fetches = c.fetches; exchanges = length_push es.exchanges x ∙ ap (λ n. n + 1) c.exchanges; puts = c.puts })
-counts-more (Did (put x) ∷ acts) at es c = counts-more acts (record at { puts = at.puts + 1 }) (record es { puts = es.puts ++ x ∷ [] }) (record { runs = c.runs; fetches = c.fetches; exchanges = c.exchanges; puts = length_push es.puts x ∙ ap (λ n. n + 1) c.puts })
+counts-more (Did (ran x) ∷ acts) at es c = counts-more acts (record at { runs = at.runs + 1 }) (record es { runs = es.runs ++ x ∷ [] })
+    (record { runs = length_push es.runs x ∙ ap (λ n. n + 1) c.runs; fetches = c.fetches; exchanges = c.exchanges; puts = c.puts })
+counts-more (Did (fetched x) ∷ acts) at es c = counts-more acts (record at { fetches = at.fetches + 1 })
+    (record es { fetches = es.fetches ++ x ∷ [] })
+    (record { runs = c.runs; fetches = length_push es.fetches x ∙ ap (λ n. n + 1) c.fetches; exchanges = c.exchanges; puts = c.puts })
+counts-more (Did (exchanged x) ∷ acts) at es c = counts-more acts (record at { exchanges = at.exchanges + 1 })
+    (record es { exchanges = es.exchanges ++ x ∷ [] })
+    (record { runs = c.runs; fetches = c.fetches; exchanges = length_push es.exchanges x ∙ ap (λ n. n + 1) c.exchanges; puts = c.puts })
+counts-more (Did (put x) ∷ acts) at es c = counts-more acts (record at { puts = at.puts + 1 }) (record es { puts = es.puts ++ x ∷ [] })
+    (record { runs = c.runs; fetches = c.fetches; exchanges = c.exchanges; puts = length_push es.puts x ∙ ap (λ n. n + 1) c.puts })
 counts-more (Did (timed moment) ∷ acts) at es c = counts-more acts at es c
 counts-more (Met x ∷ acts) at es c = counts-more acts at es c
 
@@ -76,7 +83,8 @@ reads-each w read entries (job ∷ done) at es (r ∷ rs) counts whole all repor
     let next : Entries = added es job.acts in
     let whole' : entries w ≡ added next (all_acts done) = whole ∙ added-append es job.acts (all_acts done) in
     let now : ReadsAll next (numbered at job.acts) (untimed job.acts) = reading at es job.acts counts in
-    let later : ReadsAll (added next (all_acts done)) (numbered at job.acts) (untimed job.acts) = all-longer next (added next (all_acts done)) (longer (all_acts done) next) (numbered at job.acts) (untimed job.acts) now in
+    let later : ReadsAll (added next (all_acts done)) (numbered at job.acts) (untimed job.acts) = all-longer next
+    (added next (all_acts done)) (longer (all_acts done) next) (numbered at job.acts) (untimed job.acts) now in
     let here : ReadsAll (entries r.worker) (numbered at job.acts) (untimed job.acts) =
     subst (λ (k : ℕ). ReadsAll (entries k) (numbered at job.acts) (untimed job.acts)) (sym own.worker)
     (subst (λ (fs : Entries). ReadsAll fs (numbered at job.acts) (untimed job.acts)) (sym whole') later) in
@@ -85,18 +93,21 @@ reads-each w read entries (job ∷ done) at es (r ∷ rs) counts whole all repor
       number = refl;
       worker = own.worker ∙ sym told.0.0 ∙ ap read.worker (sym own.number);
       acts = subst (λ (es' : List Event). ReadsAll (entries r.worker) es' (read.acts r.number)) (sym own.events)
-          (subst (λ (acts : List Act). ReadsAll (entries r.worker) (numbered at job.acts) acts) (sym (ap read.acts own.number ∙ told.0.1)) here);
+          (subst (λ (acts : List Act). ReadsAll (entries r.worker) (numbered at job.acts) acts) (sym (ap read.acts own.number ∙ told.0.1))
+          here);
       end = own.end ∙ sym told.1 ∙ ap read.ends (sym own.number);
     })
     (reads-each w read entries done (advanced at job.acts) next rs (counts-more job.acts at es counts) whole' all.1 reported.1)
 
 -- the events of a worker's reports number all that it did
-pub events-numbered : (w : ℕ) (done : List DoneJob) (at : Places) (rs : List Report) → AreReportsOf w at done rs → events_of rs ≡ numbered at (all_acts done)
+pub events-numbered : (w : ℕ) (done : List DoneJob) (at : Places) (rs : List Report) → AreReportsOf w at done rs
+    → events_of rs ≡ numbered at (all_acts done)
 events-numbered w [] at [] all = refl
 events-numbered w [] at (r ∷ rs) all = absurd all
 events-numbered w (job ∷ done) at [] all = absurd all
 events-numbered w (job ∷ done) at (r ∷ rs) all =
-    ap (λ (es : List Event). es ++ events_of rs) all.0.events ∙ ap (λ (es : List Event). numbered at job.acts ++ es) (events-numbered w done (advanced at job.acts) rs all.1)
+    ap (λ (es : List Event). es ++ events_of rs) all.0.events
+    ∙ ap (λ (es : List Event). numbered at job.acts ++ es) (events-numbered w done (advanced at job.acts) rs all.1)
     ∙ sym (numbered-append at job.acts (all_acts done))
 
 pub by-worker : (w : ℕ) (done : List DoneJob) (at : Places) (rs : List Report) → AreReportsOf w at done rs → All (λ r. r.worker ≡ w) rs

@@ -1,5 +1,6 @@
 -- Reports whose numbers rise are known by which they are.
-use Rattle.std.proofs.Common.{◌≡◌, ◌⊎◌, inl, inr, ℕ, zero, suc, ◌+◌, ◌<◌, ◌≤◌, Bool, true, false, cond, List, [], ◌∷◌, Some, None, length, get_or, nat_eq, refl, sym, ap, ◌∙◌, subst, arith, eq-eqb}
+use Rattle.std.proofs.Common.{◌≡◌, ◌⊎◌, inl, inr, ℕ, zero, suc, ◌+◌, ◌<◌, ◌≤◌, Bool, true, false, cond, List, [], ◌∷◌, Some, None, length}
+use Rattle.std.proofs.Common.{get_or, nat_eq, refl, sym, ap, ◌∙◌, subst, arith, eq-eqb}
 use Rattle.std.specs.Prelude.{All}
 use Rattle.std.specs.List.{range_with_len, cons_option}
 use Rattle.std.proofs.lemmas.Bool.{eqb-true}
@@ -85,10 +86,13 @@ HasEach (x ∷ xs) ys = Has x ys × HasEach xs ys
 
 has-above : (from : ℕ) (xs : List Report) (r : Report) → Rise from (numbers_of xs) → Has r xs → from ≤ r.number
 has-above from [] r rise has = absurd has
-has-above from (x ∷ xs) r rise (inl here) = let e = ap (λ (q : Report). q.number) here in let low : from ≤ x.number = rise.0 in omega (arith, e, low)
-has-above from (x ∷ xs) r rise (inr there) = let more = has-above (x.number + 1) xs r rise.1 there in let low : from ≤ x.number = rise.0 in omega (arith, more, low)
+has-above from (x ∷ xs) r rise (inl here) = let e = ap (λ (q : Report). q.number) here in let low : from ≤ x.number = rise.0 in omega
+    (arith, e, low)
+has-above from (x ∷ xs) r rise (inr there) = let more = has-above (x.number + 1) xs r rise.1 there in let low : from ≤ x.number = rise.0 in
+    omega (arith, more, low)
 
-drop-first : (xs ys : List Report) (y : Report) (from : ℕ) → y.number < from → Rise from (numbers_of xs) → HasEach xs (y ∷ ys) → HasEach xs ys
+drop-first : (xs ys : List Report) (y : Report) (from : ℕ) → y.number < from → Rise from (numbers_of xs) → HasEach xs (y ∷ ys)
+    → HasEach xs ys
 drop-first [] ys y from less rise all = tt
 drop-first (x ∷ xs) ys y from less rise all = (
   elim all.0 [
@@ -98,7 +102,8 @@ drop-first (x ∷ xs) ys y from less rise all = (
   drop-first xs ys y (x.number + 1) (let low : from ≤ x.number = rise.0 in omega (arith, low, less)) rise.1 all.1,
 )
 
-first-is : (x y : Report) (xs ys : List Report) → Rise (x.number + 1) (numbers_of xs) → Rise (y.number + 1) (numbers_of ys) → Has x (y ∷ ys) → Has y (x ∷ xs) → x ≡ y
+first-is : (x y : Report) (xs ys : List Report) → Rise (x.number + 1) (numbers_of xs) → Rise (y.number + 1) (numbers_of ys) → Has x (y ∷ ys)
+    → Has y (x ∷ xs) → x ≡ y
 first-is x y xs ys rise rise' (inl here) back = sym here
 first-is x y xs ys rise rise' (inr there) (inl here) = here
 first-is x y xs ys rise rise' (inr there) (inr back) =
@@ -106,7 +111,8 @@ first-is x y xs ys rise rise' (inr there) (inr back) =
     let down = has-above (x.number + 1) xs y rise back in
     absurd (omega (arith, up, down))
 
-pub same-reports : (from to : ℕ) (xs ys : List Report) → Rise from (numbers_of xs) → Rise to (numbers_of ys) → HasEach xs ys → HasEach ys xs → xs ≡ ys
+pub same-reports : (from to : ℕ) (xs ys : List Report) → Rise from (numbers_of xs) → Rise to (numbers_of ys) → HasEach xs ys → HasEach ys xs
+    → xs ≡ ys
 same-reports from to [] [] rise rise' all back = refl
 same-reports from to [] (y ∷ ys) rise rise' all back = absurd back.0
 same-reports from to (x ∷ xs) [] rise rise' all back = absurd all.0
@@ -115,16 +121,19 @@ same-reports from to (x ∷ xs) (y ∷ ys) rise rise' all back =
     let n = ap (λ (q : Report). q.number) e in
     let tail : HasEach xs ys = drop-first xs ys y (x.number + 1) (omega (arith, n)) rise.1 all.1 in
     let tail' : HasEach ys xs = drop-first ys xs x (y.number + 1) (omega (arith, n)) rise'.1 back.1 in
-    ap (λ (z : Report). z ∷ xs) e ∙ ap (λ (zs : List Report). y ∷ zs) (same-reports (x.number + 1) (y.number + 1) xs ys rise.1 rise'.1 tail tail')
+    ap (λ (z : Report). z ∷ xs) e ∙ ap (λ (zs : List Report). y ∷ zs)
+    (same-reports (x.number + 1) (y.number + 1) xs ys rise.1 rise'.1 tail tail')
 
 -- the reports of one worker
 pub rise-by : (w from : ℕ) (xs : List Report) → Rise from (numbers_of xs) → Rise from (numbers_of (reports_by w xs))
 rise-by w from [] rise = tt
 rise-by w from (x ∷ xs) rise = go (nat_eq x.worker w) (rise-by w (x.number + 1) xs rise.1)
   where
-    go : (b : Bool) → Rise (x.number + 1) (numbers_of (reports_by w xs)) → Rise from (numbers_of (cond b (x ∷ reports_by w xs) (reports_by w xs)))
+    go : (b : Bool) → Rise (x.number + 1) (numbers_of (reports_by w xs))
+        → Rise from (numbers_of (cond b (x ∷ reports_by w xs) (reports_by w xs)))
     go true more = (rise.0, more)
-    go false more = rise-lower (x.number + 1) from (numbers_of (reports_by w xs)) (let low : from ≤ x.number = rise.0 in omega (arith, low)) more
+    go false more = rise-lower (x.number + 1) from (numbers_of (reports_by w xs)) (let low : from ≤ x.number = rise.0 in omega (arith, low))
+        more
 
 pub has-at : (xs : List Report) (k : ℕ) (d : Report) → k < length xs → Has (get_or xs k d) xs
 has-at [] k d below = absurd (omega (arith, below))
@@ -149,7 +158,11 @@ has-by w r (x ∷ xs) by (inr there) = go (nat_eq x.worker w) (has-by w r xs by 
 -- the worker's own reports are among its reports
 pub own-by : (w : ℕ) (own xs : List Report) → All (λ r. r.worker ≡ w) own → HasEach own xs → HasEach own (reports_by w xs)
 own-by w [] xs by all = tt
-own-by w (r ∷ own) xs by all = (has-by w r xs (All-head (λ q. q.worker ≡ w) r own by) all.0, own-by w own xs (All-tail (λ q. q.worker ≡ w) r own by) all.1)
+own-by w (r ∷ own) xs by all = (
+  has-by w r xs (All-head (λ q. q.worker ≡ w) r own by) all.0,
+  own-by w own xs
+      (All-tail (λ q. q.worker ≡ w) r own by) all.1,
+)
 
 -- and its reports are its own, where each report is its worker's own
 pub by-own : (w : ℕ) (own xs : List Report) → All (λ r. r.worker ≡ w → Has r own) xs → HasEach (reports_by w xs) own

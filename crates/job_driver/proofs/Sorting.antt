@@ -1,5 +1,6 @@
 -- Numbers that rise are known by their sums.
-use Rattle.std.proofs.Common.{◌≡◌, inl, inr, ℕ, zero, suc, ◌+◌, ◌<◌, ◌≤◌, Bool, cond, List, [], ◌∷◌, length, get_or, map, nat_eq, refl, sym, ap, ◌∙◌, arith, ne_eqb, eq-eqb}
+use Rattle.std.proofs.Common.{◌≡◌, inl, inr, ℕ, zero, suc, ◌+◌, ◌<◌, ◌≤◌, Bool, cond, List, [], ◌∷◌, length, get_or, map, nat_eq, refl, sym}
+use Rattle.std.proofs.Common.{ap, ◌∙◌, arith, ne_eqb, eq-eqb}
 use Rattle.std.specs.List.{sum_by, range_with_len}
 use Rattle.std.specs.List.Sorted.{IsNonDecreasingBy}
 use Rattle.std.proofs.lemmas.Bool.{cases_lt}
@@ -26,7 +27,8 @@ above-none x from (y ∷ ys) less up =
     omega (arith, rest, other, s)
 
 self-one : (x : ℕ) (xs : List ℕ) → 1 ≤ sum_by (is_it x) (x ∷ xs)
-self-one x xs = let one : is_it x x ≡ 1 = ap (λ (b : Bool). cond b 1 0) (eq-eqb x x refl) in let s = sum_by-cons (is_it x) x xs in omega (arith, one, s)
+self-one x xs = let one : is_it x x ≡ 1 = ap (λ (b : Bool). cond b 1 0) (eq-eqb x x refl) in let s = sum_by-cons (is_it x) x xs in omega
+    (arith, one, s)
 
 not-less : (x y : ℕ) (xs ys : List ℕ) → Up y ys → SameSums (x ∷ xs) (y ∷ ys) → x < y → ⊥
 not-less x y xs ys up same less =
@@ -51,7 +53,8 @@ up-same a b [] (y ∷ ys) u v same = let s = same (λ k. 1) in let t = sum_by-co
 up-same a b (x ∷ xs) [] u v same = let s = same (λ k. 1) in let t = sum_by-cons (λ (k : ℕ). 1) x xs in absurd (omega (arith, s, t))
 up-same a b (x ∷ xs) (y ∷ ys) u v same =
     let e : x ≡ y = first-same x y xs ys u.1 v.1 same in
-    let tails : SameSums xs ys = λ f. let s = same f in let h : f x ≡ f y = ap f e in let t = sum_by-cons f x xs in let u = sum_by-cons f y ys in omega (arith, s, h, t, u) in
+    let tails : SameSums xs ys = λ f. let s = same f in let h : f x ≡ f y = ap f e in let t = sum_by-cons f x xs in let u = sum_by-cons f y
+    ys in omega (arith, s, h, t, u) in
     ap (λ (k : ℕ). k ∷ xs) e ∙ ap (λ (zs : List ℕ). y ∷ zs) (up-same x y xs ys u.1 v.1 tails)
 
 up-lower : (a b : ℕ) (xs : List ℕ) → b ≤ a → Up a xs → Up b xs
@@ -62,15 +65,20 @@ pub up-range : (a n : ℕ) → Up a (range_with_len a n)
 up-range a zero = tt
 up-range a (suc n) = (omega arith, up-lower (a + 1) a (range_with_len (a + 1) n) (omega arith) (up-range (a + 1) n))
 
-pub up-from : {X : Type 0} (n : X → ℕ) (xs : List X) (from : ℕ) → ((d : X) → 0 < length xs → from ≤ n (get_or xs 0 d)) → IsNonDecreasingBy n xs → Up from (map n xs)
+pub up-from : {X : Type 0} (n : X → ℕ) (xs : List X) (from : ℕ) → ((d : X) → 0 < length xs → from ≤ n (get_or xs 0 d))
+    → IsNonDecreasingBy n xs → Up from (map n xs)
 up-from n [] from low order = tt
-up-from n (x ∷ xs) from low order =
-    (low x (omega arith), up-from n xs (n x) (λ d some. order zero (suc zero) d (omega arith) (omega (arith, some))) (λ i j d le below. order (suc i) (suc j) d (omega (arith, le)) (omega (arith, below))))
+up-from n (x ∷ xs) from low order = (
+  low x (omega arith),
+  up-from n xs (n x) (λ d some. order zero (suc zero) d (omega arith) (omega (arith, some)))
+      (λ i j d le below. order (suc i) (suc j) d (omega (arith, le)) (omega (arith, below))),
+)
 
 -- sums over a range
 pub sum-same : (g h : ℕ → ℕ) (xs : List ℕ) → ((i : ℕ) → g i ≡ h i) → sum_by g xs ≡ sum_by h xs
 sum-same g h [] same = refl
-sum-same g h (x ∷ xs) same = let a = same x in let b = sum-same g h xs same in let s = sum_by-cons g x xs in let t = sum_by-cons h x xs in omega (arith, a, b, s, t)
+sum-same g h (x ∷ xs) same = let a = same x in let b = sum-same g h xs same in let s = sum_by-cons g x xs in let t = sum_by-cons h x xs in
+    omega (arith, a, b, s, t)
 
 pub sum-none : (xs : List ℕ) → sum_by (λ i. 0) xs ≡ 0
 sum-none [] = refl
@@ -84,24 +92,30 @@ sum-outside g c w a zero less = refl
 sum-outside g c w a (suc n) less =
     let no : at c w a ≡ 0 = ap (λ (b : Bool). cond b w 0) (ne_eqb c a (λ e. omega (arith, e, less))) in
     let rest = sum-outside g c w (a + 1) n (omega (arith, less)) in
-    let s : sum_by (λ i. at c w i + g i) (range_with_len a (suc n)) ≡ (at c w a + g a) + sum_by (λ i. at c w i + g i) (range_with_len (a + 1) n) = sum_by-cons (λ i. at c w i + g i) a (range_with_len (a + 1) n) in
+    let s : sum_by (λ i. at c w i + g i) (range_with_len a (suc n)) ≡ (at c w a + g a) + sum_by (λ i. at c w i + g i)
+    (range_with_len (a + 1) n) = sum_by-cons (λ i. at c w i + g i) a (range_with_len (a + 1) n) in
     let t : sum_by g (range_with_len a (suc n)) ≡ g a + sum_by g (range_with_len (a + 1) n) = sum_by-cons g a (range_with_len (a + 1) n) in
     omega (arith, no, rest, s, t)
 
-pub sum-inside : (g : ℕ → ℕ) (c w a n : ℕ) → a ≤ c → c < a + n → sum_by (λ i. at c w i + g i) (range_with_len a n) ≡ w + sum_by g (range_with_len a n)
+pub sum-inside : (g : ℕ → ℕ) (c w a n : ℕ) → a ≤ c → c < a + n
+    → sum_by (λ i. at c w i + g i) (range_with_len a n) ≡ w + sum_by g (range_with_len a n)
 sum-inside g c w a zero low high = absurd (omega (arith, low, high))
 sum-inside g c w a (suc n) low high = elim (cases_lt a c) [
   | inl less ↦
       let no : at c w a ≡ 0 = ap (λ (b : Bool). cond b w 0) (ne_eqb c a (λ e. omega (arith, e, less))) in
       let rest = sum-inside g c w (a + 1) n (omega (arith, less)) (omega (arith, high)) in
-      let s : sum_by (λ i. at c w i + g i) (range_with_len a (suc n)) ≡ (at c w a + g a) + sum_by (λ i. at c w i + g i) (range_with_len (a + 1) n) = sum_by-cons (λ i. at c w i + g i) a (range_with_len (a + 1) n) in
-      let t : sum_by g (range_with_len a (suc n)) ≡ g a + sum_by g (range_with_len (a + 1) n) = sum_by-cons g a (range_with_len (a + 1) n) in
+      let s : sum_by (λ i. at c w i + g i) (range_with_len a (suc n)) ≡ (at c w a + g a) + sum_by (λ i. at c w i + g i)
+      (range_with_len (a + 1) n) = sum_by-cons (λ i. at c w i + g i) a (range_with_len (a + 1) n) in
+      let t : sum_by g (range_with_len a (suc n)) ≡ g a + sum_by g (range_with_len (a + 1) n) = sum_by-cons g a (range_with_len (a + 1) n)
+      in
       omega (arith, no, rest, s, t)
   | inr other ↦
       let yes : at c w a ≡ w = ap (λ (b : Bool). cond b w 0) (eq-eqb c a (omega (arith, other, low))) in
       let rest = sum-outside g c w (a + 1) n (omega (arith, other)) in
-      let s : sum_by (λ i. at c w i + g i) (range_with_len a (suc n)) ≡ (at c w a + g a) + sum_by (λ i. at c w i + g i) (range_with_len (a + 1) n) = sum_by-cons (λ i. at c w i + g i) a (range_with_len (a + 1) n) in
-      let t : sum_by g (range_with_len a (suc n)) ≡ g a + sum_by g (range_with_len (a + 1) n) = sum_by-cons g a (range_with_len (a + 1) n) in
+      let s : sum_by (λ i. at c w i + g i) (range_with_len a (suc n)) ≡ (at c w a + g a) + sum_by (λ i. at c w i + g i)
+      (range_with_len (a + 1) n) = sum_by-cons (λ i. at c w i + g i) a (range_with_len (a + 1) n) in
+      let t : sum_by g (range_with_len a (suc n)) ≡ g a + sum_by g (range_with_len (a + 1) n) = sum_by-cons g a (range_with_len (a + 1) n)
+      in
       omega (arith, yes, rest, s, t)
 ]
 

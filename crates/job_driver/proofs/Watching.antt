@@ -13,7 +13,8 @@ use Rattle.farm_machine.specs.Jobs.{Job}
 use Rattle.watch_lines.specs.declared.line_end.LineEnd.{LineEnd}
 use Rattle.watch_lines.specs.declared.line_end.LineEnd.TheVariants.{Whole, SinkFault, Memory}
 use Rattle.watch_lines.specs.Printed.{WatchLines}
-use Rattle.job_driver.specs.Driven.{Devices, JobsRan}
+use Rattle.farm_machine.specs.Devices.{Devices}
+use Rattle.job_driver.specs.Driven.{JobsRan}
 use Rattle.job_driver.specs.Watching.{front, Lent, WatchedRan, WatchPrinted, AfterLines}
 
 -- what is written over a whole list is the list then

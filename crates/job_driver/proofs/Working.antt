@@ -1,5 +1,6 @@
 -- One job more of a worker.
-use Rattle.std.proofs.Common.{◌≡◌, inl, inr, ℕ, ◌+◌, ◌*◌, ◌<◌, ◌≤◌, Bool, cond, List, [], ◌∷◌, ◌++◌, Some, length, map, refl, sym, ap, ◌∙◌, subst, append_assoc, arith}
+use Rattle.std.proofs.Common.{◌≡◌, inl, inr, ℕ, ◌+◌, ◌*◌, ◌<◌, ◌≤◌, Bool, cond, List, [], ◌∷◌, ◌++◌, Some, length, map, refl, sym, ap, ◌∙◌}
+use Rattle.std.proofs.Common.{subst, append_assoc, arith}
 use Rattle.std.specs.Prelude.{All}
 use Rattle.std.proofs.lemmas.List.{append-nil}
 use Rattle.std.proofs.lemmas.List.Sums.{sum_by-append}
@@ -25,10 +26,12 @@ use Rattle.farm_machine.specs.Machine.{Wants}
 use Rattle.farm_machine.specs.Numbered.{advanced, no_places}
 use Rattle.farm_machine.specs.Own.{DoneJob, Each, Serves, DoesJobs}
 use Rattle.job_run.proofs.Lists.{advanced-append}
-use Rattle.job_driver.specs.Works.{all_acts, IsReportOf, AreReportsOf, is_station_failure, is_keeper_failure, is_put_failure, is_dial_failure, ends_so, RoseTogether, AreCaused, Works}
+use Rattle.job_driver.specs.Works.{all_acts, IsReportOf, AreReportsOf, is_station_failure, is_keeper_failure, is_put_failure}
+use Rattle.job_driver.specs.Works.{is_dial_failure, ends_so, RoseTogether, AreCaused, Works}
 
 -- what a worker did so far, and the places that come next
-pub record WorksTo {h : ℕ} (peers : Peers) (programs : Programs) (jobs : ℕ → Job) (period : ℕ) (l : Limits h) (worker : ℕ) (reports : List Report) (calls : List CallEntry) (old new : KitView) (places : Places) : Type 0 where
+pub record WorksTo {h : ℕ} (peers : Peers) (programs : Programs) (jobs : ℕ → Job) (period : ℕ) (l : Limits h) (worker : ℕ)
+    (reports : List Report) (calls : List CallEntry) (old new : KitView) (places : Places) : Type 0 where
   pub works : Works peers programs jobs period l worker reports calls old new
   pub places_are : places ≡ advanced no_places (all_acts works.done)
 
@@ -52,7 +55,8 @@ pub record AreCounted (places : Places) (reports : List Report) : Type 0 where
 -- lists with one element more
 pub acts-more : (done : List DoneJob) (job : DoneJob) → all_acts (done ++ job ∷ []) ≡ all_acts done ++ job.acts
 acts-more [] job = append-nil job.acts
-acts-more (d ∷ done) job = ap (λ (acts : List Act). d.acts ++ acts) (acts-more done job) ∙ sym (append_assoc d.acts (all_acts done) job.acts)
+acts-more (d ∷ done) job = ap (λ (acts : List Act). d.acts ++ acts) (acts-more done job)
+    ∙ sym (append_assoc d.acts (all_acts done) job.acts)
 
 pub each-more : (P : DoneJob → Type 0) (done : List DoneJob) (job : DoneJob) → Each P done → P job → Each P (done ++ job ∷ [])
 each-more P [] job all one = (one, tt)
@@ -63,25 +67,41 @@ pub reports-more : (w : ℕ) (done : List DoneJob) (at : Places) (rs : List Repo
 reports-more w [] at [] job r all one = (one, tt)
 reports-more w [] at (q ∷ rs) job r all one = absurd all
 reports-more w (d ∷ done) at [] job r all one = absurd all
-reports-more w (d ∷ done) at (q ∷ rs) job r all one =
-    (all.0, reports-more w done (advanced at d.acts) rs job r all.1 (subst (λ (p : Places). IsReportOf w p job r) (advanced-append at d.acts (all_acts done)) one))
+reports-more w (d ∷ done) at (q ∷ rs) job r all one = (
+  all.0,
+  reports-more w done (advanced at d.acts) rs job r all.1
+      (subst (λ (p : Places). IsReportOf w p job r) (advanced-append at d.acts (all_acts done)) one),
+)
 
 pub does-more : (wants : Wants) (w : ℕ) (done : List DoneJob) (es calls : List CallEntry) (job : DoneJob)
     → DoesJobs wants w done es → Serves wants w job.number [] (slots_of job.acts) calls
     → DoesJobs wants w (done ++ job ∷ []) (es ++ entry w Draw (Drawn (Some job.number)) ∷ calls)
-does-more wants w [] es calls job does serves =
-    (calls, [], ap (λ (xs : List CallEntry). xs ++ entry w Draw (Drawn (Some job.number)) ∷ calls) does ∙ ap (λ (xs : List CallEntry). entry w Draw (Drawn (Some job.number)) ∷ xs) (sym (append-nil calls)), serves, refl)
+does-more wants w [] es calls job does serves = (
+  calls,
+  [],
+  ap (λ (xs : List CallEntry). xs ++ entry w Draw (Drawn (Some job.number)) ∷ calls) does
+      ∙ ap (λ (xs : List CallEntry). entry w Draw (Drawn (Some job.number)) ∷ xs) (sym (append-nil calls)),
+  serves,
+  refl,
+)
 does-more wants w (d ∷ done) es calls job (first, more, is, serves, rest) s =
     let e : CallEntry = entry w Draw (Drawn (Some job.number)) in
-    let f : CallEntry = entry w Draw (Drawn (Some d.number)) in
-    (first, more ++ e ∷ calls, ap (λ (xs : List CallEntry). xs ++ e ∷ calls) is ∙ ap (λ (xs : List CallEntry). f ∷ xs) (append_assoc first more (e ∷ calls)), serves, does-more wants w done more calls job rest s)
+    let f : CallEntry = entry w Draw (Drawn (Some d.number)) in (
+      first,
+      more ++ e ∷ calls,
+      ap (λ (xs : List CallEntry). xs ++ e ∷ calls) is
+          ∙ ap (λ (xs : List CallEntry). f ∷ xs) (append_assoc first more (e ∷ calls)),
+      serves,
+      does-more wants w done more calls job rest s,
+    )
 
 -- counts with one report more
 one-more : (is : End → Bool) (rs : List Report) (r : Report) → ends_so is (rs ++ r ∷ []) ≡ ends_so is rs + cond (is r.end) 1 0
 one-more is rs r = let s = sum_by-append (λ (q : Report). cond (is q.end) 1 0) rs (r ∷ []) in grind (arith, s)
 
 rose-none : (n m a b c : ℕ) → m ≡ n + 0 → RoseBy n a b → b ≤ c → RoseBy m a c
-rose-none n m a b c is rose later = subst (λ (k : ℕ). RoseBy k a c) (let e : n ≡ m = omega (arith, is) in e) (RoseBy-later n a b c rose later)
+rose-none n m a b c is rose later = subst (λ (k : ℕ). RoseBy k a c) (let e : n ≡ m = omega (arith, is) in e)
+    (RoseBy-later n a b c rose later)
 
 rose-one : (n m a b c : ℕ) → m ≡ n + 1 → RoseBy n a b → Rose b c → RoseBy m a c
 rose-one n m a b c is rose more = subst (λ (k : ℕ). RoseBy k a c) (sym is) (RoseBy-then n 1 a b c rose more)
@@ -113,17 +133,21 @@ both-second n m a b c a' b' c' is rose later more = record {
   rose_too = RoseBy-then rose.second 1 a' b' c' rose.rose_too more;
 }
 
-module _ (n n' : ℕ) (a b c : KitView) (rose : RoseTogether n a.station.faults b.station.faults a.station.overruns b.station.overruns) (later : KitLater b c) where
+module _ (n n' : ℕ) (a b c : KitView) (rose : RoseTogether n a.station.faults b.station.faults a.station.overruns b.station.overruns)
+    (later : KitLater b c) where
   abbrev StationRose : Type 0
   StationRose = RoseTogether n' a.station.faults c.station.faults a.station.overruns c.station.overruns
 
   station-same : n' ≡ n + 0 → StationRose
-  station-same is = both-later n n' a.station.faults b.station.faults c.station.faults a.station.overruns b.station.overruns c.station.overruns is rose later.station later.station_overruns
+  station-same is = both-later n n' a.station.faults b.station.faults c.station.faults a.station.overruns b.station.overruns
+      c.station.overruns is rose later.station later.station_overruns
 
   pub station-more : (end : End) → n' ≡ n + cond (is_station_failure end) 1 0 → HasEndCause end b c → StationRose
   station-more (Failed Station) is cause = elim cause [
-    | inl r ↦ both-first n n' a.station.faults b.station.faults c.station.faults a.station.overruns b.station.overruns c.station.overruns is rose r later.station_overruns
-    | inr r ↦ both-second n n' a.station.faults b.station.faults c.station.faults a.station.overruns b.station.overruns c.station.overruns is rose later.station r
+    | inl r ↦ both-first n n' a.station.faults b.station.faults c.station.faults a.station.overruns b.station.overruns c.station.overruns is
+        rose r later.station_overruns
+    | inr r ↦ both-second n n' a.station.faults b.station.faults c.station.faults a.station.overruns b.station.overruns c.station.overruns
+        is rose later.station r
   ]
   station-more (Done status note err out by) is cause = station-same is
   station-more (Failed Put) is cause = station-same is
@@ -132,21 +156,25 @@ module _ (n n' : ℕ) (a b c : KitView) (rose : RoseTogether n a.station.faults 
   station-more (Failed NoHost) is cause = station-same is
   station-more (Failed Memory) is cause = station-same is
 
-module _ (n n' : ℕ) (a b c : KitView) (rose : RoseTogether n a.keeper.faults b.keeper.faults a.keeper.overruns b.keeper.overruns) (later : KitLater b c) where
+module _ (n n' : ℕ) (a b c : KitView) (rose : RoseTogether n a.keeper.faults b.keeper.faults a.keeper.overruns b.keeper.overruns)
+    (later : KitLater b c) where
   abbrev KeeperRose : Type 0
   KeeperRose = RoseTogether n' a.keeper.faults c.keeper.faults a.keeper.overruns c.keeper.overruns
 
   keeper-same : n' ≡ n + 0 → KeeperRose
-  keeper-same is = both-later n n' a.keeper.faults b.keeper.faults c.keeper.faults a.keeper.overruns b.keeper.overruns c.keeper.overruns is rose later.keeper later.keeper_overruns
+  keeper-same is = both-later n n' a.keeper.faults b.keeper.faults c.keeper.faults a.keeper.overruns b.keeper.overruns c.keeper.overruns is
+      rose later.keeper later.keeper_overruns
 
   keeper-first : n' ≡ n + 1 → Rose b.keeper.faults c.keeper.faults → KeeperRose
-  keeper-first is r = both-first n n' a.keeper.faults b.keeper.faults c.keeper.faults a.keeper.overruns b.keeper.overruns c.keeper.overruns is rose r later.keeper_overruns
+  keeper-first is r = both-first n n' a.keeper.faults b.keeper.faults c.keeper.faults a.keeper.overruns b.keeper.overruns c.keeper.overruns
+      is rose r later.keeper_overruns
 
   pub keeper-more : (end : End) → n' ≡ n + cond (is_keeper_failure end) 1 0 → HasEndCause end b c → KeeperRose
   keeper-more (Failed Put) is cause = keeper-first is cause
   keeper-more (Failed Fetch) is cause = elim cause [
     | inl r ↦ keeper-first is r
-    | inr r ↦ both-second n n' a.keeper.faults b.keeper.faults c.keeper.faults a.keeper.overruns b.keeper.overruns c.keeper.overruns is rose later.keeper r
+    | inr r ↦ both-second n n' a.keeper.faults b.keeper.faults c.keeper.faults a.keeper.overruns b.keeper.overruns c.keeper.overruns is rose
+        later.keeper r
   ]
   keeper-more (Done status note err out by) is cause = keeper-same is
   keeper-more (Failed Station) is cause = keeper-same is
@@ -185,11 +213,15 @@ module _ (n n' : ℕ) (a b c : KitView) (rose : RoseBy n a.keeper.faults b.keepe
   put-more (Failed NoHost) is cause = put-same is
   put-more (Failed Memory) is cause = put-same is
 
-pub caused-more : (rs : List Report) (r : Report) (a b c : KitView) → AreCaused rs a b → HasEndCause r.end b c → KitLater b c → AreCaused (rs ++ r ∷ []) a c
+pub caused-more : (rs : List Report) (r : Report) (a b c : KitView) → AreCaused rs a b → HasEndCause r.end b c → KitLater b c
+    → AreCaused (rs ++ r ∷ []) a c
 caused-more rs r a b c all cause later = record {
-  station = station-more (ends_so is_station_failure rs) (ends_so is_station_failure (rs ++ r ∷ [])) a b c all.station later r.end (one-more is_station_failure rs r) cause;
-  keeper = keeper-more (ends_so is_keeper_failure rs) (ends_so is_keeper_failure (rs ++ r ∷ [])) a b c all.keeper later r.end (one-more is_keeper_failure rs r) cause;
+  station = station-more (ends_so is_station_failure rs) (ends_so is_station_failure (rs ++ r ∷ [])) a b c all.station later r.end
+      (one-more is_station_failure rs r) cause;
+  keeper = keeper-more (ends_so is_keeper_failure rs) (ends_so is_keeper_failure (rs ++ r ∷ [])) a b c all.keeper later r.end
+      (one-more is_keeper_failure rs r) cause;
   puts = put-more (ends_so is_put_failure rs) (ends_so is_put_failure (rs ++ r ∷ [])) a b c all.puts later r.end
       (one-more is_put_failure rs r) cause;
-  dialer = dialer-more (ends_so is_dial_failure rs) (ends_so is_dial_failure (rs ++ r ∷ [])) a b c all.dialer later r.end (one-more is_dial_failure rs r) cause;
+  dialer = dialer-more (ends_so is_dial_failure rs) (ends_so is_dial_failure (rs ++ r ∷ [])) a b c all.dialer later r.end
+      (one-more is_dial_failure rs r) cause;
 }

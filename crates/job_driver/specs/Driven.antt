@@ -18,7 +18,7 @@ use Rattle.farm_machine.specs.declared.reports.Report.{Report}
 use Rattle.edge_traits.specs.declared.entries.Put.{Put}
 use Rattle.farm_machine.specs.Acts.{Act, Did, Entries, deeds_of}
 use Rattle.farm_machine.specs.Causes.{KitLater}
-pub use Rattle.farm_machine.specs.Devices.{Devices, devices}
+use Rattle.farm_machine.specs.Devices.{Devices}
 use Rattle.farm_machine.specs.Farm.{wanted, farm_of}
 use Rattle.farm_machine.specs.Honest.{AllRan}
 use Rattle.farm_machine.specs.Jobs.{Job, may_be_sent}
@@ -28,7 +28,6 @@ use Rattle.farm_machine.specs.Numbered.{numbered, no_places, untimed}
 use Rattle.farm_machine.specs.Reading.{AreRead}
 use Rattle.farm_machine.specs.Weave.{Reports, Agrees, weave}
 use Rattle.course_laws.specs.Laws.{PutsLast}
-pub use Rattle.course_laws.specs.Returns.{IsCalm, is_done_or_wanted}
 use Rattle.job_run.specs.Gives.{LeavesAlone}
 use Rattle.job_run.specs.Courses.{IsJobCourse}
 use Rattle.job_driver.specs.Works.{AreCaused, CountsTell}

@@ -4,4 +4,5 @@ pub mod Driven
 pub mod Means
 pub mod Marks
 pub mod Crews
+pub mod Runs
 pub mod Watching

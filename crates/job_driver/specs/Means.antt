@@ -13,7 +13,7 @@ use Rattle.farm_machine.specs.Acts.{Act, Did}
 use Rattle.farm_machine.specs.Course.{Course}
 use Rattle.farm_machine.specs.Honest.{Peers, Programs, AllRan, IsHonest}
 use Rattle.farm_machine.specs.Jobs.{Job}
-pub use Rattle.farm_machine.specs.TableCourse.{IsOfTable}
+use Rattle.farm_machine.specs.TableCourse.{IsOfTable}
 use Rattle.farm_machine.specs.Weave.{Reports}
 use Rattle.course_laws.specs.Answers.{AllGiven, IsAnswer, AnswersBy}
 use Rattle.course_laws.specs.Returns.{NoneBroke, IsCalm, is_done_or_wanted}

@@ -23,7 +23,8 @@ use Rattle.job_driver.specs.declared.crew.Worker.{Worker}
 use Rattle.job_driver.specs.declared.marker.Marker.{Marker}
 use Rattle.job_driver.specs.declared.beside.Marked.{Marked}
 use Rattle.job_driver.specs.declared.watch.Beside.{Beside}
-use Rattle.job_driver.specs.Driven.{Devices, JobsRan}
+use Rattle.farm_machine.specs.Devices.{Devices}
+use Rattle.job_driver.specs.Driven.{JobsRan}
 
 abbrev pub worker_of : {D S K C : Type 0} → Marked D S K C → Worker D S K C
 worker_of marked = marked.worker

@@ -3,15 +3,15 @@ ghost use Rattle.std.specs.Prelude.{◌≡◌, ◌≤◌, All, IfOk, OnErr, leng
 ghost use Rattle.edge_traits.specs.Keepers.{IsIdle};
 ghost use Rattle.farm_machine.specs.Jobs.{AreLimitsOf};
 ghost use Rattle.farm_cell.specs.Passes.{seen_of};
-ghost use Rattle.job_driver.specs.Crews.{HasRoom};
 ghost use Rattle.farm_machine.specs.Devices.{devices};
 ghost use Rattle.job_driver.specs.Driven.{JobsRan};
 ghost use Rattle.farm_machine.specs.Usable.{job_at, AreDoable, IsUsable};
 
-use crate::crew::{Desk, dismiss, gather, hire, work_all};
+use crate::crew::work_all;
+use crate::run::{JobPlan, close_run, open_run};
 use edge_traits::{Clock, Dialer, Keeper, Kit, Station};
-use farm_cell::{Cell, Pass};
-use farm_machine::{ReportList, limits_of};
+use farm_cell::Pass;
+use farm_machine::ReportList;
 use farm_types::{JobConfig, Jobs};
 use slot_table::Slots;
 use std::alloc::{AllocError, Global};
@@ -25,18 +25,6 @@ pub struct Built {
     pub reports: ReportList,
     pub last: Slots<16>,
     pub pass: Pass,
-}
-
-/// A desk for each worker.
-pub fn desks_for(alloc: Global, workers: usize, jobs: usize) -> Result<Vec<Desk>, AllocError>
-    ensures len { IfOk result (λ desks. length desks.items ≡ workers) }
-    ensures room { IfOk result (λ desks. All (λ desk. HasRoom jobs desk) desks.items) }
-{
-    let mut desks = Vec::with_capacity(alloc, workers)?;
-    'furnishing: while desks.len() < workers {
-        desks.push(Desk::new(alloc, jobs)?)?;
-    }
-    Ok(desks)
 }
 
 /// Does all jobs, by so many workers side by side, one for each of the first kits. Each draws jobs until there are none, and
@@ -73,25 +61,8 @@ where
     ensures jobs { IfOk result (λ built. built.last.limits.jobs ≡ length jobs.now) }
     ensures undone { OnErr result (kits.new.items ≡ kits.old.items) }
 {
-    let count = workers as usize;
-    let limits = limits_of(&config.hosts, jobs.len() as u32);
-    let mut reports = Vec::with_capacity(alloc, jobs.len())?;
-    let mut crew = Vec::with_capacity(alloc, count)?;
-    let mut desks = desks_for(alloc, count, jobs.len())?;
-    let (cell, mut passes) = Cell::new(rt, alloc, limits, workers)?;
-    let mut unused = kits.split_off(count)?;
-    hire(kits, &mut passes, &mut desks, &mut crew);
-    work_all(rt, alloc, jobs, config, &cell, &mut crew);
-    dismiss(crew, kits, &mut passes, &mut desks);
-    let Ok(()) = kits.append(&mut unused) else {
-        unreachable!()
-    };
-    let (last, pass) = cell.close(rt, passes);
-    gather(desks, &mut reports);
-    reports.sort_unstable_by_key(|report| report.number);
-    Ok(Built {
-        reports: ReportList::from_vec(reports),
-        last,
-        pass,
-    })
+    let plan = JobPlan { jobs, config };
+    let mut run = open_run(rt, alloc, plan, kits, workers)?;
+    work_all(rt, alloc, jobs, config, &run.cell, &mut run.crew);
+    Ok(close_run(rt, run, kits))
 }

@@ -8,6 +8,7 @@ mod driver;
 mod laws;
 mod marker;
 mod marks;
+mod run;
 mod watch;
 mod watched;
 mod worker;

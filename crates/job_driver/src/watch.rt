@@ -14,10 +14,10 @@ ghost use Rattle.job_driver.specs.Watching.{worker_of, marker_of, board_marked, 
 use crate::beside::{Marked, pair, unpair, work_marked};
 use crate::crew::Worker;
 use crate::marker::Marker;
+use crate::run::JobPlan;
 use edge_traits::{Clock, Dialer, Keeper, Sink, Station};
 use farm_cell::Cell;
 use farm_monitor::Watcher;
-use farm_types::{JobConfig, Jobs};
 use std::alloc::Global;
 use std::sync::Wait;
 use std::thread::{Threads, for_each_mut, join_mut};
@@ -114,8 +114,7 @@ pub fn work_and_watch<
 >(
     rt: &R,
     alloc: Global,
-    jobs: &Jobs,
-    config: &JobConfig,
+    plan: JobPlan<'_>,
     cell: &Cell<16, 34>,
     crew: &mut Vec<Marked<D, S, K, C>>,
     watch: &mut Watch<L>,
@@ -124,25 +123,26 @@ pub fn work_and_watch<
 where
     D::Link: Send,
     requires some_workers { 0 < length crew.old.items }
-    requires jobs { AreDoable jobs.now }
-    requires number { (limits_of cell.now).jobs ≡ length jobs.now }
-    requires hosts { AreLimitsOf (limits_of cell.now) config.now.hosts }
-    requires entries { length config.now.hosts.list ≤ 16 }
-    requires some { 1 ≤ config.now.tries }
-    requires tries { config.now.tries ≤ 16 }
-    requires ready { All (λ marked. IsReady (devices D.shows S.shows K.shows C.shows D.may_give S.ran) cell.now (length jobs.now) (worker_of marked)) crew.old.items }
+    requires jobs { AreDoable plan.jobs.now }
+    requires number { (limits_of cell.now).jobs ≡ length plan.jobs.now }
+    requires hosts { AreLimitsOf (limits_of cell.now) plan.config.now.hosts }
+    requires entries { length plan.config.now.hosts.list ≤ 16 }
+    requires some { 1 ≤ plan.config.now.tries }
+    requires tries { plan.config.now.tries ≤ 16 }
+    requires ready { All (λ marked. IsReady (devices D.shows S.shows K.shows C.shows D.may_give S.ran) cell.now (length plan.jobs.now) (worker_of marked)) crew.old.items }
     requires few { length watch.old.watchers.items < 2 ^ 32 }
     requires lines { watch.old.lines < 1000 }
     ensures len { (vec_len crew.new ≡ vec_len crew.old) × (length crew.new.items ≡ length crew.old.items) }
     ensures each { (number : ℕ) (d : _) → number < length crew.old.items →
-        HasWorked (devices D.shows S.shows K.shows C.shows D.may_give S.ran) cell.now (job_at jobs.now config.now) config.now.period
+        HasWorked (devices D.shows S.shows K.shows C.shows D.may_give S.ran) cell.now (job_at plan.entry.jobs.now plan.entry.config.now) plan.entry.config.now.period
         (worker_of (slice_index_or crew.old.items number d)) (worker_of (slice_index_or crew.new.items number d)) }
     ensures boards { (number : ℕ) (d : _) → number < length crew.old.items →
         board_marked (marker_of (slice_index_or crew.new.items number d)) ≡ board_marked (marker_of (slice_index_or crew.old.items number d)) }
     ensures watchers { map board_watched watch.new.watchers.items ≡ map board_watched watch.old.watchers.items }
     ensures paused { Grew (L.shows watch.old.clock).moments (L.shows watch.new.clock).moments [] }
-    ensures printed { WatchLines (length jobs.now) (length watch.old.watchers.items) 1 watch.old.lines 0 (E.shows err.old) (E.shows err.new) result }
+    ensures printed { WatchLines (length plan.entry.jobs.now) (length watch.old.watchers.items) 1 watch.old.lines 0 (E.shows err.old) (E.shows err.new) result }
 {
+    let JobPlan { jobs, config } = plan;
     call_beside(
         rt,
         crew,
@@ -164,8 +164,7 @@ pub fn work_beside<
 >(
     rt: &R,
     alloc: Global,
-    jobs: &Jobs,
-    config: &JobConfig,
+    plan: JobPlan<'_>,
     cell: &Cell<16, 34>,
     workers: &mut Vec<Worker<D, S, K, C>>,
     beside: &mut Beside<D, S, K, C>,
@@ -174,31 +173,30 @@ pub fn work_beside<
 where
     D::Link: Send,
     requires some_workers { 0 < length workers.old.items }
-    requires jobs { AreDoable jobs.now }
-    requires number { (limits_of cell.now).jobs ≡ length jobs.now }
-    requires hosts { AreLimitsOf (limits_of cell.now) config.now.hosts }
-    requires entries { length config.now.hosts.list ≤ 16 }
-    requires some { 1 ≤ config.now.tries }
-    requires tries { config.now.tries ≤ 16 }
-    requires ready { All (λ worker. IsReady (devices D.shows S.shows K.shows C.shows D.may_give S.ran) cell.now (length jobs.now) worker) workers.old.items }
+    requires jobs { AreDoable plan.jobs.now }
+    requires number { (limits_of cell.now).jobs ≡ length plan.jobs.now }
+    requires hosts { AreLimitsOf (limits_of cell.now) plan.config.now.hosts }
+    requires entries { length plan.config.now.hosts.list ≤ 16 }
+    requires some { 1 ≤ plan.config.now.tries }
+    requires tries { plan.config.now.tries ≤ 16 }
+    requires ready { All (λ worker. IsReady (devices D.shows S.shows K.shows C.shows D.may_give S.ran) cell.now (length plan.jobs.now) worker) workers.old.items }
     requires few { length workers.old.items ≤ 16 }
     requires fits { IsFor (length workers.old.items) beside.old }
     ensures len { (vec_len workers.new ≡ vec_len workers.old) × (length workers.new.items ≡ length workers.old.items) }
     ensures each { (number : ℕ) (d : _) → number < length workers.old.items →
-        HasWorked (devices D.shows S.shows K.shows C.shows D.may_give S.ran) cell.now (job_at jobs.now config.now) config.now.period
+        HasWorked (devices D.shows S.shows K.shows C.shows D.may_give S.ran) cell.now (job_at plan.entry.jobs.now plan.entry.config.now) plan.entry.config.now.period
         (slice_index_or workers.old.items number d) (slice_index_or workers.new.items number d) }
     ensures boards { map board_marked beside.new.markers.items ≡ map board_watched beside.new.watch.watchers.items }
     ensures watchers { length beside.new.watch.watchers.items ≡ length workers.old.items }
     ensures crew { beside.new.crew.items ≡ [] }
     ensures paused { Grew (C.shows beside.old.watch.clock).moments (C.shows beside.new.watch.clock).moments [] }
-    ensures printed { WatchLines (length jobs.now) (length workers.old.items) 1 beside.old.watch.lines 0 (E.shows err.old) (E.shows err.new) result }
+    ensures printed { WatchLines (length plan.entry.jobs.now) (length workers.old.items) 1 beside.old.watch.lines 0 (E.shows err.old) (E.shows err.new) result }
 {
     pair(workers, &mut beside.markers, &mut beside.crew);
     let end = work_and_watch(
         rt,
         alloc,
-        jobs,
-        config,
+        plan,
         cell,
         &mut beside.crew,
         &mut beside.watch,

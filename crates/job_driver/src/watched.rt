@@ -4,19 +4,18 @@ ghost use Rattle.edge_traits.specs.Keepers.{IsIdle};
 ghost use Rattle.farm_machine.specs.Jobs.{AreLimitsOf};
 ghost use Rattle.farm_cell.specs.Passes.{seen_of};
 ghost use Rattle.farm_monitor.specs.Boards.{board_watched};
-ghost use Rattle.job_driver.specs.Driven.{devices, JobsRan};
+ghost use Rattle.farm_machine.specs.Devices.{devices};
+ghost use Rattle.job_driver.specs.Driven.{JobsRan};
 ghost use Rattle.farm_machine.specs.Usable.{job_at, AreDoable, IsUsable};
 ghost use Rattle.job_driver.specs.Watching.{board_marked, IsFor, HasWatched, AfterLines, WatchedRan, WatchPrinted};
 
 use crate::beside::Marked;
 use crate::boards::{end_boards, make_boards, tell_all};
-use crate::crew::{dismiss, gather, hire};
-use crate::driver::{Built, desks_for};
+use crate::driver::Built;
 use crate::marker::Marker;
+use crate::run::{JobPlan, close_run, open_run};
 use crate::watch::{Beside, Watch, work_beside};
 use edge_traits::{Clock, Dialer, Keeper, Kit, Sink, Station};
-use farm_cell::Cell;
-use farm_machine::{ReportList, limits_of};
 use farm_monitor::Watcher;
 use farm_types::{JobConfig, Jobs};
 use std::alloc::{AllocError, Global};
@@ -44,8 +43,7 @@ fn build_beside<
 >(
     rt: &R,
     alloc: Global,
-    jobs: &Jobs,
-    config: &JobConfig,
+    plan: JobPlan<'_>,
     kits: &mut Vec<Kit<D, S, K, C>>,
     workers: u32,
     beside: &mut Beside<D, S, K, C>,
@@ -53,51 +51,29 @@ fn build_beside<
 ) -> Result<(Built, LineEnd), AllocError>
 where
     D::Link: Send,
-    requires jobs { AreDoable jobs.now }
-    requires config { IsUsable config.now }
+    requires jobs { AreDoable plan.jobs.now }
+    requires config { IsUsable plan.config.now }
     requires some { 1 ≤ workers }
     requires kits { workers ≤ length kits.old.items }
     requires most { length kits.old.items ≤ 16 }
     requires idle { All (λ kit. IsIdle (K.shows kit.keeper)) kits.old.items }
     requires fits { IsFor workers beside.old }
     ensures ran { IfOk result (λ made. JobsRan (devices D.shows S.shows K.shows C.shows D.may_give S.ran)
-        made.0.last.limits (job_at jobs.now config.now) config.now.period workers
+        made.0.last.limits (job_at plan.entry.jobs.now plan.entry.config.now) plan.entry.config.now.period workers
         made.0.reports (seen_of made.0.pass) made.0.last.state kits.old.items kits.new.items) }
-    ensures limits { IfOk result (λ made. AreLimitsOf made.0.last.limits config.now.hosts) }
-    ensures jobs { IfOk result (λ made. made.0.last.limits.jobs ≡ length jobs.now) }
+    ensures limits { IfOk result (λ made. AreLimitsOf made.0.last.limits plan.entry.config.now.hosts) }
+    ensures jobs { IfOk result (λ made. made.0.last.limits.jobs ≡ length plan.entry.jobs.now) }
     ensures undone { OnErr result (kits.new.items ≡ kits.old.items) }
     ensures same { OnErr result ((beside.new ≡ beside.old) × (err.new ≡ err.old)) }
     ensures len { length kits.new.items ≡ length kits.old.items }
     ensures kept { vec_capacity kits.old ≤ vec_capacity kits.new }
     ensures boards { map board_marked beside.new.markers.items ≡ map board_watched beside.new.watch.watchers.items }
     ensures crew { beside.new.crew.items ≡ [] }
-    ensures watched { IfOk result (λ made. HasWatched C.shows E.shows (length jobs.now) workers beside.old beside.new err.old err.new made.1) }
+    ensures watched { IfOk result (λ made. HasWatched C.shows E.shows (length plan.entry.jobs.now) workers beside.old beside.new err.old err.new made.1) }
 {
-    let count = workers as usize;
-    let limits = limits_of(&config.hosts, jobs.len() as u32);
-    let mut reports = Vec::with_capacity(alloc, jobs.len())?;
-    let mut crew = Vec::with_capacity(alloc, count)?;
-    let mut desks = desks_for(alloc, count, jobs.len())?;
-    let (cell, mut passes) = Cell::new(rt, alloc, limits, workers)?;
-    let mut unused = kits.split_off(count)?;
-    hire(kits, &mut passes, &mut desks, &mut crew);
-    let end = work_beside(rt, alloc, jobs, config, &cell, &mut crew, beside, err);
-    dismiss(crew, kits, &mut passes, &mut desks);
-    let Ok(()) = kits.append(&mut unused) else {
-        unreachable!()
-    };
-    let (last, pass) = cell.close(rt, passes);
-    gather(desks, &mut reports);
-    reports.sort_unstable_by_key(|report| report.number);
-    let reports = ReportList::from_vec(reports);
-    Ok((
-        Built {
-            reports,
-            last,
-            pass,
-        },
-        end,
-    ))
+    let mut run = open_run(rt, alloc, plan, kits, workers)?;
+    let end = work_beside(rt, alloc, plan, &run.cell, &mut run.crew, beside, err);
+    Ok((close_run(rt, run, kits), end))
 }
 
 // The last line, where all others were printed. How the printing ended, and whether that line says that all jobs have ended.
@@ -205,7 +181,8 @@ where
             lines,
         },
     };
-    let done = build_beside(rt, alloc, jobs, config, kits, workers, &mut beside, err);
+    let plan = JobPlan { jobs, config };
+    let done = build_beside(rt, alloc, plan, kits, workers, &mut beside, err);
     let Beside {
         mut markers,
         crew,

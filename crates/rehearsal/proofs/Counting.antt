@@ -10,7 +10,7 @@ use Rattle.farm_machine.specs.declared.reports.End.{End}
 use Rattle.farm_machine.specs.declared.reports.End.TheVariants.{Done, Failed}
 use Rattle.farm_machine.specs.declared.reports.Report.{Report}
 use Rattle.farm_machine.specs.declared.reports.Why5.TheVariants.{Station, Put as NotPut, Broke, NoHost, Memory, Fetch}
-use Rattle.job_driver.specs.Driven.{is_done_or_wanted}
+use Rattle.course_laws.specs.Returns.{is_done_or_wanted}
 use Rattle.report_text.specs.Pieces.{is_done_well}
 use Rattle.sample_compiler.specs.Samples.{SampleOf}
 use Rattle.workload.specs.Loads.{job_words, files_of}

@@ -20,7 +20,8 @@ use Rattle.farm_machine.specs.Honest.{AllRan, IsHonest}
 use Rattle.farm_machine.specs.Jobs.{Job, job_of}
 use Rattle.course_laws.specs.Laws.{PutLaw}
 use Rattle.course_laws.specs.Answers.{IsAnswered}
-use Rattle.job_driver.specs.Driven.{JobsRan, IsCalm, is_done_or_wanted}
+use Rattle.course_laws.specs.Returns.{IsCalm, is_done_or_wanted}
+use Rattle.job_driver.specs.Driven.{JobsRan}
 use Rattle.farm_machine.specs.Usable.{job_at}
 use Rattle.job_driver.specs.Means.{RunMeans}
 use Rattle.job_driver.proofs.Meaning.{means}

@@ -16,7 +16,8 @@ use Rattle.farm_machine.specs.Honest.{IsHonest}
 use Rattle.farm_machine.specs.Jobs.{AreLimitsOf}
 use Rattle.job_driver.specs.declared.driver.Built.{Built}
 use Rattle.farm_machine.specs.Devices.{Devices, devices}
-use Rattle.job_driver.specs.Driven.{JobsRan, is_done_or_wanted}
+use Rattle.course_laws.specs.Returns.{is_done_or_wanted}
+use Rattle.job_driver.specs.Driven.{JobsRan}
 use Rattle.farm_machine.specs.Usable.{job_at}
 use Rattle.loop_link.specs.Dialers.{dialer_state, dialer_shows, held_of, DialerGives}
 use Rattle.report_text.specs.Pieces.{is_done_well}

@@ -1,34 +1,27 @@
-use Rattle.std.proofs.Common.{◌∷◌, [], ◌∙◌, subst, List, ℕ, arith}
-use Rattle.host_list.specs.HostLists.{HostListOf, HostFaultStands}
-use Rattle.stream_print.specs.Ends.{complaint, Ends}
-use Rattle.stream_print.specs.Prints.{sinks_view}
-use Rattle.farm_answers.specs.Texts.{bad_hosts_status, host_fault_text, no_memory_text}
-use Rattle.farm_program.specs.Commands.{on_hosts, bad_period, bad_hosts}
-use Rattle.farm_program.proofs.Building.{usable_hosts, status_as}
-use Rattle.farm_program.proofs.Commanding.{printed_alone, builds_as}
+use Rattle.std.proofs.Common.{ℕ, [], subst, arith}
+use Rattle.farm_machine.specs.Devices.{devices}
+use Rattle.farm_words.specs.Options.{given, worker_count}
+use Rattle.farm_program.specs.Worlds.{world}
+use Rattle.farm_program.specs.Builds.{Builds}
+use Rattle.farm_program.proofs.Configuring.{configured, unconfigured}
 use Rattle.farm_program.proofs.by_hosts.build_by.Goals as goal
 
-pub returns-in_default : goal.returns-in_default
-returns-in_default g c = bad_period c.in_default.ensures (record { untouched = printed_alone c.idle.ensures.none; ends = status_as c.idle.ensures.status c.refuse_period.ensures })
-
-pub build_list-requires-clause-config : goal.build_list-requires-clause-config
-build_list-requires-clause-config g c κs within = record {
-  hosts = usable_hosts c.in-Ok.hosts c.in-Ok.ensures.within;
-  some = let e = c.try_count.ensures in let w = c.requires.within.some_tries in omega (arith, e, w);
-  tries = let e = c.try_count.ensures in let w = c.requires.within.most_tries in omega (arith, e, w);
-}
-
 pub build_list-requires-clause-workers : goal.build_list-requires-clause-workers
-build_list-requires-clause-workers g c κs within = let e = c.worker_count-most.ensures in let w = c.requires.within.some_workers in omega (arith, e, w)
+build_list-requires-clause-workers g c κs within =
+    let e = c.worker_count.ensures in let w = c.requires.within.some_workers in omega (arith, e, w)
 
 pub returns-in-Ok : goal.returns-in-Ok
 returns-in-Ok g c =
-    let listed = subst (λ (t : List ℕ). HostListOf t c.in-Ok.hosts) (c.as_bytes.ensures.value ∙ c.host_text.ensures) c.in-Ok.ensures.list in
-    on_hosts c.in-Some.ensures listed (builds_as c.is_fallback_on.ensures c.try_count.ensures c.worker_count-most.ensures c.build_list.ensures)
+    let d = devices g.D.Dialer.shows g.S.Station.shows g.K.Keeper.shows g.C.Clock.shows g.D.Dialer.may_give g.S.Station.ran in
+    let ran = c.build_list in
+    let old = world g.R.Source.shows g.O.Sink.shows g.E.Sink.shows c.args.input.now c.args.kits.now.items c.args.out.now c.args.err.now []
+    in
+    let new = world g.R.Source.shows g.O.Sink.shows g.E.Sink.shows ran.new.input ran.new.kits.items ran.new.out ran.new.err
+    ran.result.built in
+    let options = given c.args.settings.options in
+    configured {options = options} (λ config. Builds d config (worker_count options) old new ran.result.status) c.in-Ok.ensures.made
+    (subst (λ (most : ℕ). Builds d c.in-Ok.config most old new ran.result.status) c.worker_count.ensures ran.ensures)
 
-pub returns-in-Err-Fault : goal.returns-in-Err-Fault
-returns-in-Err-Fault g c =
-    let stands : HostFaultStands c.as_bytes.result.now c.in-Err-Fault.at c.in-Err-Fault.fault = rw c.in-Err-Fault.field-0-is at c.in-Err-Fault.ensures.fault in
-    let ends : Ends no_memory_text (complaint (host_fault_text c.in-Err-Fault.at c.in-Err-Fault.fault) ∷ []) bad_hosts_status (sinks_view g.O.Sink.shows g.E.Sink.shows c.args.out.now c.args.err.now) (sinks_view g.O.Sink.shows g.E.Sink.shows c.refuse_host_list.new.out c.refuse_host_list.new.err) c.refuse_host_list.result = rw c.in-Err-Fault.field-0-is at c.refuse_host_list.ensures in
-    bad_hosts c.in-Some.period c.in-Some.ensures (subst (λ (t : List ℕ). HostFaultStands t c.in-Err-Fault.at c.in-Err-Fault.fault) (c.as_bytes.ensures.value ∙ c.host_text.ensures) stands)
-    (record { untouched = printed_alone c.idle-in-Err-Fault.ensures.none; ends = status_as c.idle-in-Err-Fault.ensures.status ends })
+pub returns-in-Err : goal.returns-in-Err
+returns-in-Err g c = unconfigured (given c.args.settings.options) _ _ c.in-Err.error c.in-Err.ensures.fault c.refuse_config.ensures.none
+    c.refuse_config.ensures.status

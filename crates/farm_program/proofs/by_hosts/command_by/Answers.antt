@@ -1,24 +1,26 @@
-use Rattle.std.proofs.Common.{◌∷◌, [], ◌∙◌, subst, List, ℕ}
-use Rattle.host_list.specs.HostLists.{HostListOf, HostFaultStands}
-use Rattle.stream_print.specs.Ends.{complaint, Ends}
+use Rattle.std.proofs.Common.{[], map, string_bytes, true, None, Global}
+use Rattle.farm_machine.specs.Devices.{devices}
+use Rattle.farm_words.specs.Options.{Given}
 use Rattle.stream_print.specs.Prints.{sinks_view}
-use Rattle.farm_answers.specs.Texts.{bad_hosts_status, host_fault_text, no_memory_text}
-use Rattle.farm_program.specs.Commands.{on_hosts, bad_period, bad_hosts}
-use Rattle.farm_program.proofs.Building.{status_as}
-use Rattle.farm_program.proofs.Commanding.{printed_alone, runs_as}
+use Rattle.farm_program.specs.Builds.{RunsCommand}
+use Rattle.farm_program.proofs.Configuring.{configured, unconfigured}
 use Rattle.farm_program.proofs.by_hosts.command_by.Goals as goal
 
-pub returns-in_default : goal.returns-in_default
-returns-in_default g c = λ source. bad_period c.in_default.ensures (record { untouched = printed_alone c.idle.ensures.none; ends = status_as c.idle.ensures.status c.refuse_period.ensures })
+abbrev no_options : Given
+no_options = record { hosts = None; workers = None; tries = None; lines = None; fallback = true; retry = true }
 
 pub returns-in-Ok : goal.returns-in-Ok
 returns-in-Ok g c = λ source.
-    let listed = subst (λ (t : List ℕ). HostListOf t c.in-Ok.hosts) (c.as_bytes.ensures.value ∙ c.host_text.ensures) c.in-Ok.ensures.list in
-    on_hosts c.in-Some.ensures listed (runs_as c.is_fallback_on.ensures (c.run_command.ensures source))
+    let d = devices g.D.Dialer.shows g.S.Station.shows g.K.Keeper.shows g.C.Clock.shows g.D.Dialer.may_give g.S.Station.ran in
+    let views = sinks_view g.O.Sink.shows g.E.Sink.shows in
+    let ran = c.run_command in
+    configured {options = no_options}
+    (λ config. RunsCommand d config (map (string_bytes {Z = Global}) c.args.words.now)
+    (record { source = source; kits = c.args.kits.now.items; sinks = views c.args.out.now c.args.err.now; built = [] })
+    (record { source = source; kits = ran.new.kits.items; sinks = views ran.new.out ran.new.err; built = ran.result.built })
+    ran.result.status)
+    c.in-Ok.ensures.made (ran.ensures source)
 
-pub returns-in-Err-Fault : goal.returns-in-Err-Fault
-returns-in-Err-Fault g c = λ source.
-    let stands : HostFaultStands c.as_bytes.result.now c.in-Err-Fault.at c.in-Err-Fault.fault = rw c.in-Err-Fault.field-0-is at c.in-Err-Fault.ensures.fault in
-    let ends : Ends no_memory_text (complaint (host_fault_text c.in-Err-Fault.at c.in-Err-Fault.fault) ∷ []) bad_hosts_status (sinks_view g.O.Sink.shows g.E.Sink.shows c.args.out.now c.args.err.now) (sinks_view g.O.Sink.shows g.E.Sink.shows c.refuse_host_list.new.out c.refuse_host_list.new.err) c.refuse_host_list.result = rw c.in-Err-Fault.field-0-is at c.refuse_host_list.ensures in
-    bad_hosts c.in-Some.period c.in-Some.ensures (subst (λ (t : List ℕ). HostFaultStands t c.in-Err-Fault.at c.in-Err-Fault.fault) (c.as_bytes.ensures.value ∙ c.host_text.ensures) stands)
-    (record { untouched = printed_alone c.idle-in-Err-Fault.ensures.none; ends = status_as c.idle-in-Err-Fault.ensures.status ends })
+pub returns-in-Err : goal.returns-in-Err
+returns-in-Err g c = λ source. unconfigured no_options _ _ c.in-Err.error c.in-Err.ensures.fault c.refuse_config.ensures.none
+    c.refuse_config.ensures.status

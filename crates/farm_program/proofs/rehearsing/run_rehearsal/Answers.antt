@@ -14,5 +14,7 @@ returns g c =
       only = grind (arith, common_steps);
       count = count;
       rehearsal = subst (λ (n : ℕ). IsRehearsal n built count) c.from-jobs.ensures c.in-Ok-rehearse.ensures;
-      prints = subst (λ (n : ℕ). PrintsCount n count (sinks_view g.O.Sink.shows g.E.Sink.shows c.args.out.now c.args.err.now) (sinks_view g.O.Sink.shows g.E.Sink.shows c.tell_count-status.new.out c.tell_count-status.new.err) c.tell_count-status.result) c.from-jobs.ensures c.tell_count-status.ensures;
+      prints = subst (λ (n : ℕ). PrintsCount n count (sinks_view g.O.Sink.shows g.E.Sink.shows c.args.out.now c.args.err.now)
+          (sinks_view g.O.Sink.shows g.E.Sink.shows c.tell_count-status.new.out c.tell_count-status.new.err) c.tell_count-status.result)
+          c.from-jobs.ensures c.tell_count-status.ensures;
     })

@@ -6,5 +6,6 @@ use Rattle.farm_program.proofs.rehearsing.tell_count.Goals as goal
 
 pub returns-in-Some : goal.returns-in-Some
 returns-in-Some g c =
-    subst (λ (count : Option Count). PrintsCount c.args.jobs count (sinks_view g.O.Sink.shows g.E.Sink.shows c.args.out.now c.args.err.now) (sinks_view g.O.Sink.shows g.E.Sink.shows c.answer_rehearsal.new.out c.answer_rehearsal.new.err) c.answer_rehearsal.result)
+    subst (λ (count : Option Count). PrintsCount c.args.jobs count (sinks_view g.O.Sink.shows g.E.Sink.shows c.args.out.now c.args.err.now)
+    (sinks_view g.O.Sink.shows g.E.Sink.shows c.answer_rehearsal.new.out c.answer_rehearsal.new.err) c.answer_rehearsal.result)
     (sym c.in-Some.is) c.answer_rehearsal.ensures

@@ -19,6 +19,9 @@ returns-in-Ok-run_jobs g c = λ source.
       done = again.0;
       report = alone.0;
       alone = ap (λ r. r.reports) again.1 ∙ alone.1;
-      prints = subst (λ rs. Ends no_memory_text (command_pieces c.args.config.now.hosts.list alone.0.end) (number rs) (sinks_view g.O.Sink.shows g.E.Sink.shows c.args.out.now c.args.err.now) (sinks_view g.O.Sink.shows g.E.Sink.shows c.finish_command-status.new.out c.finish_command-status.new.err) c.finish_command-status.result)
+      prints = subst (λ rs. Ends no_memory_text (command_pieces c.args.config.now.hosts.list alone.0.end) (number rs)
+          (sinks_view g.O.Sink.shows g.E.Sink.shows c.args.out.now c.args.err.now)
+          (sinks_view g.O.Sink.shows g.E.Sink.shows c.finish_command-status.new.out c.finish_command-status.new.err)
+          c.finish_command-status.result)
           (ap (λ r. r.reports) one ∙ alone.1) (c.finish_command-status.ensures alone.0 (ap (λ r. r.reports) one ∙ alone.1));
     })

@@ -10,7 +10,8 @@ loop-desk-preserved c =
     let back = ap reverse is ∙ reverse-append c.pop.new.self.items (c.in-Some.desk ∷ []) in
     let room = gathered-room reports_on c.loop-desk.desks.items c.pop.new.self.items c.in-Some.desk is in
     record {
-      reports = gathered-more reports_on _ c.loop-desk.reports.items _ [] c.loop-desk.desks.items c.pop.new.self.items c.in-Some.desk is back c.loop-desk.invariant.reports c.in-Ok.ensures.items;
+      reports = gathered-more reports_on _ c.loop-desk.reports.items _ [] c.loop-desk.desks.items c.pop.new.self.items c.in-Some.desk is
+          back c.loop-desk.invariant.reports c.in-Ok.ensures.items;
       room =
           let len = c.in-Ok.ensures.len in
           let i = c.loop-desk.invariant.room in

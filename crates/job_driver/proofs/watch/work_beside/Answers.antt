@@ -10,13 +10,13 @@ pub work_and_watch-end-requires-clause-ready : goal.work_and_watch-end-requires-
 work_and_watch-end-requires-clause-ready g c κs within =
     let d = devices g.D.Dialer.shows g.S.Station.shows g.K.Keeper.shows g.C.Clock.shows g.D.Dialer.may_give g.S.Station.ran in
     all-of-map worker_of
-    (λ worker. IsReady d c.args.cell.now (length c.args.jobs.now) worker) c.pair.new.crew.items c.args.workers.now.items
+    (λ worker. IsReady d c.args.cell.now (length c.args.plan.jobs.now) worker) c.pair.new.crew.items c.args.workers.now.items
     c.pair.ensures.workers.1 c.requires.ready
 
 pub returns-clause-each : goal.returns-clause-each
 returns-clause-each g c number d below =
     let dev = devices g.D.Dialer.shows g.S.Station.shows g.K.Keeper.shows g.C.Clock.shows g.D.Dialer.may_give g.S.Station.ran in
-    both-of-map worker_of (HasWorked dev c.args.cell.now (job_at c.args.jobs.now c.args.config.now) c.args.config.now.period)
+    both-of-map worker_of (HasWorked dev c.args.cell.now (job_at c.args.plan.jobs.now c.args.plan.config.now) c.args.plan.config.now.period)
     c.pair.new.crew.items c.work_and_watch-end.new.crew.items c.args.workers.now.items c.unpair.new.workers.items
     c.pair.ensures.workers.1 c.unpair.ensures.workers c.work_and_watch-end.ensures.len.1 number d below
     (λ x less. c.work_and_watch-end.ensures.each number x less)

@@ -1,7 +1,7 @@
 use Rattle.std.proofs.Common.{◌-◌, ◌≤◌, length, vec_len}
 use Rattle.std.specs.Prelude.{All}
 use Rattle.job_driver.specs.Crews.{HasRoom}
-use Rattle.job_driver.proofs.driver.desks_for.Given as goal
+use Rattle.job_driver.proofs.run.desks_for.Given as goal
 
 abbrev pub invariant-furnishing : goal.invariant-furnishing
 invariant-furnishing l = record {

@@ -1,0 +1,49 @@
+use Rattle.std.proofs.Common.{◌≡◌, ℕ, List, [], length, map, sym, ap, ◌∙◌, subst, arith}
+use Rattle.std.specs.Prelude.{All}
+use Rattle.std.proofs.lemmas.List.{length-map}
+use Rattle.std.proofs.lemmas.List.Elements.{All-take}
+use Rattle.slot_table.specs.declared.limits.Limits.{Limits}
+use Rattle.edge_traits.specs.Keepers.{IsIdle}
+use Rattle.farm_machine.specs.Devices.{devices}
+use Rattle.farm_machine.specs.Jobs.{AreLimitsOf}
+use Rattle.farm_cell.specs.declared.cell.Pass.{Pass}
+use Rattle.farm_cell.specs.Ends.{AreAllOf}
+use Rattle.farm_cell.specs.Passes.{seen_of, mine_of}
+use Rattle.job_driver.specs.declared.crew.Desk.{Desk}
+use Rattle.job_driver.specs.Crews.{desk_of, HasRoom}
+use Rattle.job_driver.specs.Runs.{AreFresh}
+use Rattle.job_driver.proofs.Building.{ready-all}
+use Rattle.job_driver.proofs.run.open_run.Goals as goal
+
+pub returns-clause-opened : goal.returns-clause-opened
+returns-clause-opened g c =
+    let h = c.hire.ensures in
+    let new = c.in_ok-cell.ensures in
+    let d = devices g.D.Dialer.shows g.S.Station.shows g.K.Keeper.shows g.C.Clock.shows g.D.Dialer.may_give g.S.Station.ran in
+    let many : length c.hire.new.workers.items ≡ c.args.workers =
+    sym (length-map c.hire.new.workers.items desk_of) ∙ ap length h.desks ∙ c.in_ok-desks.ensures.len in
+    let fresh : AreFresh d c.in_ok-cell.cell (length c.args.plan.jobs.now) c.hire.new.workers.items = record {
+      passes = subst (AreAllOf c.in_ok-cell.cell) (sym h.passes.1) new.passes;
+      blank = subst (λ (ps : List Pass). All (λ p. (seen_of p ≡ []) × (mine_of p ≡ [])) ps) (sym h.passes.1) new.blank;
+      desks = subst (λ (ds : List Desk). All (λ desk. HasRoom (length c.args.plan.jobs.now) desk) ds) (sym h.desks)
+          (subst (λ (n : ℕ). All (λ desk. HasRoom n desk) c.in_ok-desks.desks.items) c.len-jobs.ensures c.in_ok-desks.ensures.room);
+      idle = subst (All (λ kit. IsIdle (g.K.Keeper.shows kit.keeper))) (sym (h.kits.1 ∙ c.in_ok-unused.ensures.items))
+          (All-take (λ kit. IsIdle (g.K.Keeper.shows kit.keeper)) c.args.workers c.args.kits.now.items c.requires.idle);
+    } in
+    let number : c.in_ok-cell.cell.limits.jobs ≡ length c.args.plan.jobs.now = ap (λ (l : Limits 16). l.jobs) new.limits
+    ∙ c.limits_of-limits.ensures.jobs ∙ c.len-jobs.ensures in
+    record {
+      many = many;
+      fresh = fresh;
+      ready = ready-all c.hire.new.workers.items fresh;
+      hosts = subst (λ (l : Limits 16). AreLimitsOf l c.args.plan.config.now.hosts) (sym new.limits) c.limits_of-limits.ensures.hosts;
+      number = number;
+      room = record {
+        passes = h.passes.0;
+        desks = h.empty;
+        reports = c.in_ok-reports.ensures.items;
+        for_passes = h.room.1;
+        for_desks = h.room.2;
+        for_reports = let a = c.len-jobs.ensures in let b = c.in_ok-reports.ensures.capacity in omega (arith, a, b);
+      };
+    }

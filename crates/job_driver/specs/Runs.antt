@@ -1,0 +1,59 @@
+-- What a run of jobs has beside the jobs: before its workers began, and when they are done.
+use Rattle.std.specs.Prelude.{◌≡◌, ℕ, ◌<◌, ◌≤◌, List, [], length, map, slice_index_or, vec_capacity, All}
+use Rattle.farm_types.specs.declared.jobs.JobConfig.{JobConfig}
+use Rattle.edge_traits.specs.declared.kit.Kit.{Kit}
+use Rattle.edge_traits.specs.Keepers.{IsIdle}
+use Rattle.farm_machine.specs.Devices.{Devices}
+use Rattle.farm_machine.specs.Jobs.{AreLimitsOf}
+use Rattle.farm_machine.specs.Usable.{job_at}
+use Rattle.farm_cell.specs.declared.cell.Cell.{Cell}
+use Rattle.farm_cell.specs.Ends.{AreAllOf}
+use Rattle.farm_cell.specs.Passes.{limits_of, mine_of, seen_of}
+use Rattle.job_driver.specs.declared.crew.Worker.{Worker}
+use Rattle.job_driver.specs.declared.run.Run.{Run}
+use Rattle.job_driver.specs.Crews.{kit_of, pass_of, desk_of, HasRoom, IsReady, HasWorked}
+
+-- workers that have done nothing yet, one for each pass of the cell
+pub record AreFresh {D S K C : Type 0} (d : Devices (Kit D S K C)) (c : Cell 16 34) (jobs : ℕ) (crew : List (Worker D S K C)) : Type 0 where
+  pub passes : AreAllOf c (map pass_of crew)
+  pub blank : All (λ p. (seen_of p ≡ []) × (mine_of p ≡ [])) (map pass_of crew)
+  pub desks : All (λ desk. HasRoom jobs desk) (map desk_of crew)
+  pub idle : All (λ kit. IsIdle (d.shows kit).keeper) (map kit_of crew)
+
+-- room to take the workers of a run apart, and for the reports of so many jobs
+pub record HasRoomToClose {D S K C : Type 0} (jobs : ℕ) (run : Run D S K C) : Type 0 where
+  pub passes : run.passes.items ≡ []
+  pub desks : run.desks.items ≡ []
+  pub reports : run.reports.items ≡ []
+  pub for_passes : length run.crew.items ≤ vec_capacity run.passes
+  pub for_desks : length run.crew.items ≤ vec_capacity run.desks
+  pub for_reports : jobs ≤ vec_capacity run.reports
+
+-- so many workers, ready to do these jobs
+pub record IsOpen {D S K C : Type 0} (d : Devices (Kit D S K C)) (jobs : List (List (List ℕ))) (config : JobConfig) (workers : ℕ)
+    (run : Run D S K C) : Type 0 where
+  pub many : length run.crew.items ≡ workers
+  pub fresh : AreFresh d run.cell (length jobs) run.crew.items
+  pub ready : All (λ worker. IsReady d run.cell (length jobs) worker) run.crew.items
+  pub hosts : AreLimitsOf (limits_of run.cell) config.hosts
+  pub number : (limits_of run.cell).jobs ≡ length jobs
+  pub room : HasRoomToClose (length jobs) run
+
+-- the workers, each from where it stood before, did these jobs until there were none
+pub record AreDone {D S K C : Type 0} (d : Devices (Kit D S K C)) (jobs : List (List (List ℕ))) (config : JobConfig)
+    (before : List (Worker D S K C)) (run : Run D S K C) : Type 0 where
+  pub some : 0 < length before
+  pub fresh : AreFresh d run.cell (length jobs) before
+  pub hosts : AreLimitsOf (limits_of run.cell) config.hosts
+  pub number : (limits_of run.cell).jobs ≡ length jobs
+  pub long : length run.crew.items ≡ length before
+  pub each : (k : ℕ) (other : Worker D S K C) → k < length before → HasWorked d run.cell (job_at jobs config) config.period
+      (slice_index_or before k other) (slice_index_or run.crew.items k other)
+  pub room : HasRoomToClose (length jobs) run
+
+-- they did some jobs
+pub record HasWorkedOff {D S K C : Type 0} (d : Devices (Kit D S K C)) (run : Run D S K C) : Type 0 where
+  pub jobs : List (List (List ℕ))
+  pub config : JobConfig
+  pub before : List (Worker D S K C)
+  pub done : AreDone d jobs config before run

@@ -1,0 +1,126 @@
+//! What a run of jobs has beside the jobs.
+ghost use Rattle.std.specs.Prelude.{◌≡◌, ◌+◌, ◌≤◌, ◌++◌, [], All, IfOk, OnErr, length, map, vec_capacity};
+ghost use Rattle.edge_traits.specs.Keepers.{IsIdle};
+ghost use Rattle.farm_cell.specs.Passes.{limits_of as limits_in, seen_of};
+ghost use Rattle.farm_machine.specs.Devices.{devices};
+ghost use Rattle.farm_machine.specs.Usable.{job_at, AreDoable, IsUsable};
+ghost use Rattle.job_driver.specs.Crews.{HasRoom, kit_of};
+ghost use Rattle.job_driver.specs.Driven.{JobsRan};
+ghost use Rattle.job_driver.specs.Runs.{AreDone, HasWorkedOff, IsOpen};
+
+use crate::crew::{Desk, Worker, dismiss, gather, hire};
+use crate::driver::Built;
+use edge_traits::{Clock, Dialer, Keeper, Kit, Station};
+use farm_cell::{Cell, Pass};
+use farm_machine::{Report, ReportList, limits_of};
+use farm_types::{JobConfig, Jobs};
+use std::alloc::{AllocError, Global};
+use std::sync::Wait;
+
+/// The jobs of a list, and how they are run.
+#[derive(Clone, Copy)]
+pub struct JobPlan<'a> {
+    pub jobs: &'a Jobs,
+    pub config: &'a JobConfig,
+}
+
+/// What a run of jobs has beside the jobs: the slots, workers that share them, the kits that no worker uses, and room to take the
+/// workers apart again and for their reports.
+pub struct Run<D, S, K, C> {
+    pub cell: Cell<16, 34>,
+    pub crew: Vec<Worker<D, S, K, C>>,
+    pub unused: Vec<Kit<D, S, K, C>>,
+    pub passes: Vec<Pass>,
+    pub desks: Vec<Desk>,
+    pub reports: Vec<Report>,
+}
+
+// A desk for each worker.
+fn desks_for(alloc: Global, workers: usize, jobs: usize) -> Result<Vec<Desk>, AllocError>
+    ensures len { IfOk result (λ desks. length desks.items ≡ workers) }
+    ensures room { IfOk result (λ desks. All (λ desk. HasRoom jobs desk) desks.items) }
+{
+    let mut desks = Vec::with_capacity(alloc, workers)?;
+    'furnishing: while desks.len() < workers {
+        desks.push(Desk::new(alloc, jobs)?)?;
+    }
+    Ok(desks)
+}
+
+/// Takes all memory for the reports and events of these jobs, and makes so many workers, one for each of the first kits. An error says
+/// that memory was wanting.
+pub fn open_run<R: Wait, D: Dialer + Drop, S: Station + Drop, K: Keeper + Drop, C: Clock + Drop>(
+    rt: &R,
+    alloc: Global,
+    plan: JobPlan<'_>,
+    kits: &mut Vec<Kit<D, S, K, C>>,
+    workers: u32,
+) -> Result<Run<D, S, K, C>, AllocError>
+    requires jobs { AreDoable plan.jobs.now }
+    requires config { IsUsable plan.config.now }
+    requires some { 1 ≤ workers }
+    requires kits { workers ≤ length kits.old.items }
+    requires most { length kits.old.items ≤ 16 }
+    requires idle { All (λ kit. IsIdle (K.shows kit.keeper)) kits.old.items }
+    ensures opened { IfOk result (λ run. IsOpen (devices D.shows S.shows K.shows C.shows D.may_give S.ran)
+        plan.entry.jobs.now plan.entry.config.now workers run) }
+    ensures kits { IfOk result (λ run. (kits.new.items ≡ []) × (map kit_of run.crew.items ++ run.unused.items ≡ kits.old.items)) }
+    ensures undone { OnErr result (kits.new.items ≡ kits.old.items) }
+    ensures kept { vec_capacity kits.old ≤ vec_capacity kits.new }
+{
+    let count = workers as usize;
+    let jobs = plan.jobs.len();
+    let limits = limits_of(&plan.config.hosts, jobs as u32);
+    let reports = Vec::with_capacity(alloc, jobs)?;
+    let mut crew = Vec::with_capacity(alloc, count)?;
+    let mut desks = desks_for(alloc, count, jobs)?;
+    let (cell, mut passes) = Cell::new(rt, alloc, limits, workers)?;
+    let unused = kits.split_off(count)?;
+    hire(kits, &mut passes, &mut desks, &mut crew);
+    Ok(Run {
+        cell,
+        crew,
+        unused,
+        passes,
+        desks,
+        reports,
+    })
+}
+
+/// Puts the kits back in their places and the reports in the order of the jobs, once the workers have done all jobs.
+pub fn close_run<R: Wait, D: Dialer + Drop, S: Station + Drop, K: Keeper + Drop, C: Clock + Drop>(
+    rt: &R,
+    run: Run<D, S, K, C>,
+    kits: &mut Vec<Kit<D, S, K, C>>,
+) -> Built
+    requires done { HasWorkedOff (devices D.shows S.shows K.shows C.shows D.may_give S.ran) run }
+    requires empty { kits.old.items ≡ [] }
+    requires room { length run.crew.items + length run.unused.items ≤ vec_capacity kits.old }
+    ensures ran { (jobs : _) (config : _) (before : _)
+        → AreDone (devices D.shows S.shows K.shows C.shows D.may_give S.ran) jobs config before run
+        → JobsRan (devices D.shows S.shows K.shows C.shows D.may_give S.ran) result.last.limits (job_at jobs config) config.period
+        (length before) result.reports (seen_of result.pass) result.last.state (map kit_of before ++ run.unused.items) kits.new.items }
+    ensures limits { result.last.limits ≡ limits_in run.cell }
+    ensures kept { vec_capacity kits.old ≤ vec_capacity kits.new }
+{
+    let Run {
+        cell,
+        crew,
+        mut unused,
+        mut passes,
+        mut desks,
+        mut reports,
+    } = run;
+    dismiss(crew, kits, &mut passes, &mut desks);
+    let Ok(()) = kits.append(&mut unused) else {
+        unreachable!()
+    };
+    let (last, pass) = cell.close(rt, passes);
+    gather(desks, &mut reports);
+    reports.sort_unstable_by_key(|report| report.number);
+    Built {
+        reports: ReportList::from_vec(reports),
+        last,
+        pass,
+    }
+}
