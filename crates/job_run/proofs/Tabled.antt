@@ -1,20 +1,20 @@
 -- The walk of a job's acts is a course of the table, within its bounds, and hides no fault of an exchange.
-use Rattle.std.proofs.Common.{◌≡◌, ◌≢◌, ◌⊎◌, inl, inr, ℕ, ◌+◌, ◌≤◌, Bool, true, false, ◌&&◌, cond, nat_eq, nat_lt, length}
-use Rattle.std.proofs.Common.{List, [], ◌∷◌, ◌++◌, None, refl, sym, ap, ◌∙◌, subst, eq-eqb, ne_eqb}
+use Rattle.std.proofs.Common.{◌≡◌, ◌≢◌, ◌⊎◌, inl, inr, ℕ, ◌+◌, Bool, true, false, ◌&&◌, cond, nat_eq, nat_lt, length}
+use Rattle.std.proofs.Common.{List, [], ◌∷◌, ◌++◌, refl, sym, ap, subst}
 use Rattle.farm_types.specs.declared.ran.Ran.{Ran}
 use Rattle.farm_types.specs.declared.ran.Outcome.{Outcome}
 use Rattle.edge_traits.specs.declared.cause.Cause.{Cause}
 use Rattle.edge_traits.specs.declared.entries.Exchange.{Exchange}
-use Rattle.edge_traits.specs.Deeds.{Deed, ran, fetched, exchanged, put, timed}
+use Rattle.edge_traits.specs.Deeds.{ran, fetched, exchanged, put, timed}
 use Rattle.farm_machine.specs.declared.reports.By.{By}
-use Rattle.farm_machine.specs.declared.reports.By.TheVariants.{Cpp, Remote, Here, InPlace}
+use Rattle.farm_machine.specs.declared.reports.By.TheVariants.{Cpp, Remote}
 use Rattle.farm_machine.specs.declared.reports.Why5.TheVariants.{Station, Broke, Memory}
 use Rattle.farm_machine.specs.declared.reports.End.{End}
 use Rattle.farm_machine.specs.declared.reports.End.TheVariants.{Done, Failed}
 use Rattle.farm_machine.specs.Acts.{Takes, Gives, GivesBad, FindsDown, TakesLocal, GivesLocal, Act, Did, Met}
 use Rattle.farm_machine.specs.Course.{At, Start, LentInPlace, RanInPlace, Send, Lent, RanThere, Sent, Locally, LentHere, RanHere, Finish}
 use Rattle.farm_machine.specs.Course.{Over}
-use Rattle.farm_machine.specs.Course.{outcome_of, after_preprocessor, or_here, after_broken, after_whole, no_host, Tried, tried_too}
+use Rattle.farm_machine.specs.Course.{after_preprocessor, or_here, after_broken, after_whole, no_host, Tried, tried_too}
 use Rattle.farm_machine.specs.Course.{Next, Ends, Reach, From, Course}
 use Rattle.farm_machine.specs.Jobs.{Job, CanRequest, output_name}
 use Rattle.course_laws.proofs.InTable.{in-table, from-table}
