@@ -25,7 +25,7 @@ use Rattle.course_laws.proofs.Given.{given-front, ran-front, given-untimed, ran-
 use Rattle.course_laws.proofs.Unbroken.{unbroken-law}
 use Rattle.farm_laws.proofs.Draws.{next-all}
 use Rattle.farm_laws.proofs.Up.{up-law}
-use Rattle.job_run.proofs.Tabled.{is-of-table, is-walked}
+use Rattle.job_run.proofs.Tabled.{is-walked}
 use Rattle.farm_machine.specs.Devices.{Devices}
 use Rattle.job_driver.specs.Driven.{reports_by, KitDid, JobsRan}
 use Rattle.job_driver.specs.Means.{HasAnswers, RunMeans, RunMeansLaw}
@@ -143,7 +143,7 @@ module _ {K : Type 0} (d : Devices K) (l : Limits 16) (jobs : ℕ → Job) (peri
   pub meaning : RunMeans d l jobs workers reports ran.read last old new
   meaning = record {
     courses = course;
-    of_table = λ j below. is-of-table (jobs j) (acts j) (end j) (ran.courses j below);
+    of_table = λ j below. (ran.courses j below).of_table;
     all_drawn = ap (λ (s : SlotState 16). s.next) ran.last_is ∙ next-all l history ran.agrees.legal ran.agrees.drawn;
     none_held = λ host below.
         ap (λ (s : SlotState 16). slice_index s.held host) ran.last_is ∙ agree.held host below ∙ ap (count_at (Some host)) ran.back;

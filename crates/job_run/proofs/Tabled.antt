@@ -1,29 +1,25 @@
 -- The walk of a job's acts is a course of the table, within its bounds, and hides no fault of an exchange.
-use Rattle.std.proofs.Common.{◌≡◌, ◌≢◌, ◌⊎◌, inl, inr, ℕ, ◌+◌, ◌≤◌, Bool, true, false, ◌&&◌, cond, nat_eq, nat_lt, length}
-use Rattle.std.proofs.Common.{List, [], ◌∷◌, ◌++◌, None, refl, sym, ap, ◌∙◌, subst, eq-eqb, ne_eqb}
-use Rattle.std.proofs.lemmas.List.{append-nil}
+use Rattle.std.proofs.Common.{◌≡◌, ◌≢◌, ◌⊎◌, inl, inr, ℕ, ◌+◌, Bool, true, false, ◌&&◌, cond, nat_eq, nat_lt, length}
+use Rattle.std.proofs.Common.{List, [], ◌∷◌, ◌++◌, refl, sym, ap, subst}
 use Rattle.farm_types.specs.declared.ran.Ran.{Ran}
 use Rattle.farm_types.specs.declared.ran.Outcome.{Outcome}
 use Rattle.edge_traits.specs.declared.cause.Cause.{Cause}
 use Rattle.edge_traits.specs.declared.entries.Exchange.{Exchange}
-use Rattle.edge_traits.specs.Deeds.{Deed, ran, fetched, exchanged, put, timed}
+use Rattle.edge_traits.specs.Deeds.{ran, fetched, exchanged, put, timed}
 use Rattle.farm_machine.specs.declared.reports.By.{By}
-use Rattle.farm_machine.specs.declared.reports.By.TheVariants.{Cpp, Remote, Here, InPlace}
+use Rattle.farm_machine.specs.declared.reports.By.TheVariants.{Cpp, Remote}
 use Rattle.farm_machine.specs.declared.reports.Why5.TheVariants.{Station, Broke, Memory}
 use Rattle.farm_machine.specs.declared.reports.End.{End}
 use Rattle.farm_machine.specs.declared.reports.End.TheVariants.{Done, Failed}
-use Rattle.farm_machine.specs.Acts.{Takes, Gives, GivesBad, FindsDown, TakesLocal, GivesLocal, Act, Did, Met, Loan, loan_of, slots_of}
+use Rattle.farm_machine.specs.Acts.{Takes, Gives, GivesBad, FindsDown, TakesLocal, GivesLocal, Act, Did, Met}
 use Rattle.farm_machine.specs.Course.{At, Start, LentInPlace, RanInPlace, Send, Lent, RanThere, Sent, Locally, LentHere, RanHere, Finish}
 use Rattle.farm_machine.specs.Course.{Over}
-use Rattle.farm_machine.specs.Course.{outcome_of, after_preprocessor, or_here, after_broken, after_whole, no_host, Tried, tried_too}
+use Rattle.farm_machine.specs.Course.{after_preprocessor, or_here, after_broken, after_whole, no_host, Tried, tried_too}
 use Rattle.farm_machine.specs.Course.{Next, Ends, Reach, From, Course}
 use Rattle.farm_machine.specs.Jobs.{Job, CanRequest, output_name}
-use Rattle.farm_machine.specs.Table.{Finished, IsCut, IsCutInExchange, gives_back}
-use Rattle.farm_machine.specs.TableCourse.{IsOfTable}
-use Rattle.course_laws.proofs.Courses.{has_out, next-did, next-met}
 use Rattle.course_laws.proofs.InTable.{in-table, from-table}
 use Rattle.course_laws.proofs.Tables.{table}
-use Rattle.job_run.specs.Courses.{AreCompiles, AreBounded, IsCutUnhurt, IsJobCourse}
+use Rattle.job_run.specs.Courses.{AreCompiles, AreBounded, IsFront, IsJobCourse}
 use Rattle.job_run.specs.Gives.{IsUnhurt}
 use Rattle.job_run.specs.Strict.{IsStrict}
 use Rattle.job_run.proofs.Asking.{StrictFrom, StrictCourse, is-course}
@@ -228,29 +224,23 @@ goes-broken j host cause source note tried can ends = go (nat_lt (length tried +
 -- A job that wants memory behind an exchange and its give could have gone on, or the exchange was unhurt.
 behind-give : (j : Job) (host k : ℕ) (source note : List ℕ) (tried : List Tried) (x : Exchange) (c : At) → CanRequest j source
     → Next j (Sent host source note tried x) (Met (Gives k)) c → IsStrict (Met (Gives k)) (Sent host source note tried x) c
-    → Ends j c (Failed Memory) → IsUnhurt x ⊎ ((has_out c ≡ None) × Goes j c)
+    → Ends j c (Failed Memory) → IsUnhurt x ⊎ Goes j c
 behind-give j host k source note tried x c can next strict ends =
-    let none = (next-met j (Sent host source note tried x) c (Gives k) next).1 in
     elim next.1 [
-      | inl whole ↦ inr (
-        none,
-        subst (Goes j) (sym whole.2) (goes-whole j host source note whole.0 (subst (λ (b : At). Ends j b (Failed Memory)) whole.2 ends)),
-      )
+      | inl whole ↦ inr
+          (subst (Goes j) (sym whole.2) (goes-whole j host source note whole.0 (subst (λ (b : At). Ends j b (Failed Memory)) whole.2 ends)))
       | inr other ↦ elim other [
-        | inl broken ↦ inr (
-          none,
-          subst (Goes j) (sym broken.3)
-              (goes-broken j host broken.0 source note tried can (subst (λ (b : At). Ends j b (Failed Memory)) broken.3 ends)),
-        )
+        | inl broken ↦ inr
+            (subst (Goes j) (sym broken.3)
+            (goes-broken j host broken.0 source note tried can (subst (λ (b : At). Ends j b (Failed Memory)) broken.3 ends)))
         | inr over ↦ inl (subst (λ (b : At). IsStrict (Met (Gives k)) (Sent host source note tried x) b) over strict)
       ]
     ]
 
--- these acts lead to a place with no slot out from which a job can go on
+-- these acts lead to a place from which a job can go on
 record LeadsOn (j : Job) (at : At) (acts : List Act) : Type 0 where
   to : At
   reach : Reach j at acts to
-  none : has_out to ≡ None
   goes : Goes j to
 
 -- an exchange and its give that acts end with is unhurt
@@ -278,7 +268,7 @@ last-pair j (Lent host source note tried) x k can (b, next, strict, (c, give, st
     elim (behind-give j host k source note tried x c can (subst (λ (s : At). Next j s (Met (Gives k)) c) is give)
     (subst (λ (s : At). IsStrict (Met (Gives k)) s c) is strict_too) ends) [
       | inl unhurt ↦ inl unhurt
-      | inr on ↦ inr (record { to = c; reach = (b, next, (c, give, refl)); none = on.0; goes = on.1 })
+      | inr on ↦ inr (record { to = c; reach = (b, next, (c, give, refl)); goes = on })
     ]
 last-pair j at x k can (b, next, strict, more) = absurd next
 
@@ -305,7 +295,7 @@ hides-none j (a ∷ b ∷ []) at behind from = last-two j at a b behind from
 hides-none j (a ∷ b ∷ c ∷ acts) at behind (d, next, strict, more) =
     elim (hides-none j (b ∷ c ∷ acts) d (behind-next j at d a next behind) more) [
       | inl unhurt ↦ inl unhurt
-      | inr on ↦ inr (record { to = on.to; reach = (d, next, on.reach); none = on.none; goes = on.goes })
+      | inr on ↦ inr (record { to = on.to; reach = (d, next, on.reach); goes = on.goes })
     ]
 
 -- the first act of a job is no exchange
@@ -322,7 +312,7 @@ more-first : (j : Job) (a : Act) (acts : List Act) (c : At) → Next j Start a c
 more-first j a acts c next more =
     elim more [
       | inl unhurt ↦ inl (behind-first a acts j c next unhurt)
-      | inr on ↦ inr (record { to = on.to; reach = (c, next, on.reach); none = on.none; goes = on.goes })
+      | inr on ↦ inr (record { to = on.to; reach = (c, next, on.reach); goes = on.goes })
     ]
 
 -- a command in place has no exchange
@@ -331,7 +321,7 @@ in-place-none j [] ends = absurd ends
 in-place-none j (Did (ran x) ∷ acts) (c, next, strict, more) =
     elim (hides-none j acts c (to-behind j (RanInPlace x.ran) c next.1 tt) more) [
       | inl unhurt ↦ inl (one acts unhurt)
-      | inr on ↦ inr (record { to = on.to; reach = (c, next, on.reach); none = on.none; goes = on.goes })
+      | inr on ↦ inr (record { to = on.to; reach = (c, next, on.reach); goes = on.goes })
     ]
   where
     one : (xs : List Act) → EndUnhurt xs → EndUnhurt (Did (ran x) ∷ xs)
@@ -341,7 +331,7 @@ in-place-none j (Did (ran x) ∷ acts) (c, next, strict, more) =
 in-place-none j (Met GivesLocal ∷ acts) (c, next, strict, more) =
     elim (hides-none j acts c (elim next [ inl e ↦ to-behind j _ c e tt | inr e ↦ to-behind j _ c e tt ]) more) [
       | inl unhurt ↦ inl (one acts unhurt)
-      | inr on ↦ inr (record { to = on.to; reach = (c, next, on.reach); none = on.none; goes = on.goes })
+      | inr on ↦ inr (record { to = on.to; reach = (c, next, on.reach); goes = on.goes })
     ]
   where
     one : (xs : List Act) → EndUnhurt xs → EndUnhurt (Met GivesLocal ∷ xs)
@@ -366,61 +356,28 @@ reach-join : (j : Job) (xs ys : List Act) (at b : At) (end : End) → Reach j at
 reach-join j [] ys at b end is from = subst (λ (c : At). From j c ys end) (sym is) from
 reach-join j (x ∷ xs) ys at b end (c, next, more) from = (c, next, reach-join j xs ys c b end more from)
 
-reach-out : (j : Job) (xs : List Act) (at b : At) → Reach j at xs b → loan_of (has_out at) (slots_of xs) ≡ has_out b
-reach-out j [] at b is = ap has_out is
-reach-out j (Did d ∷ xs) at b (c, next, more) =
-    ap (λ (loan : Loan). loan_of loan (slots_of xs)) (sym (next-did j at c d next)) ∙ reach-out j xs c b more
-reach-out j (Met x ∷ xs) at b (c, next, more) =
-    ap (λ (loan : Loan). loan_of loan (slots_of xs)) (sym (next-met j at c x next).1) ∙ reach-out j xs c b more
-
-leads-cut : (j : Job) (acts : List Act) → LeadsOn j Start acts → IsCut j acts
-leads-cut j acts on =
+leads-front : (j : Job) (acts : List Act) → LeadsOn j Start acts → IsFront j acts
+leads-front j acts on =
     let goes = on.goes in
     record {
-      front = acts;
       next = goes.next;
       rest = goes.rest;
       end = goes.end;
       finished = (table j (acts ++ goes.next ∷ goes.rest) goes.end goes.whole).0
           (reach-join j acts (goes.next ∷ goes.rest) Start on.to goes.end on.reach goes.from);
-      is = sym (append-nil acts) ∙ ap (λ (loan : Loan). acts ++ gives_back loan) (sym (reach-out j acts Start on.to on.reach ∙ on.none));
     }
-
-cut-unhurt : (j : Job) (acts : List Act) → StrictCourse j acts (Failed Memory) → IsCutInExchange j acts → IsCut j acts ⊎ IsCutUnhurt j acts
-cut-unhurt j acts strict cut =
-    elim (hides j acts strict) [
-      | inl unhurt ↦ inr (record { cut = cut; unhurt = end-unhurt cut.front cut.begun cut.host (subst EndUnhurt cut.is unhurt) })
-      | inr on ↦ inl (leads-cut j acts on)
-    ]
 
 pub job-course : (j : Job) (acts : List Act) (end : End) → StrictCourse j acts end → IsJobCourse j acts end
 job-course j acts end strict = record {
-  of_table = elim (in-table j acts end (is-course j acts Start end strict)) [
-    | inl finished ↦ inl finished
-    | inr wanted ↦ inr (
-      wanted.0,
-      elim wanted.1 [
-        | inl cut ↦ inl cut
-        | inr cut ↦ cut-unhurt j acts (subst (StrictCourse j acts) wanted.0 strict) cut
-      ],
-    )
+  of_table = in-table j acts end (is-course j acts Start end strict);
+  hides_none = λ is. elim (hides j acts (subst (StrictCourse j acts) is strict)) [
+    | inl unhurt ↦ inl (λ front x host parts. end-unhurt front x host (subst EndUnhurt parts unhurt))
+    | inr on ↦ inr (leads-front j acts on)
   ];
   bounded = bounded j acts end strict;
 }
 
 -- ---- back to the walk
 
-pub is-of-table : (j : Job) (acts : List Act) (end : End) → IsJobCourse j acts end → IsOfTable j acts end
-is-of-table j acts end course = elim course.of_table [
-  | inl finished ↦ inl finished
-  | inr wanted ↦ inr (
-    wanted.0,
-    elim wanted.1 [
-      | inl cut ↦ inl cut
-      | inr cut ↦ inr cut.cut
-    ],
-  )
-]
-
 pub is-walked : (j : Job) (acts : List Act) (end : End) → IsJobCourse j acts end → Course j acts end
-is-walked j acts end course = from-table j acts end (is-of-table j acts end course)
+is-walked j acts end course = from-table j acts end course.of_table

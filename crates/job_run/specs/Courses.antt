@@ -1,14 +1,16 @@
 -- The course of a job as its contract tells it: by the table, with the bounds of runs and fetches and the rule on want of memory.
-use Rattle.std.specs.Prelude.{◌≡◌, ◌⊎◌, ◌≤◌, List, [], ◌∷◌, length}
-use Rattle.edge_traits.specs.Deeds.{ran, fetched}
+use Rattle.std.specs.Prelude.{◌≡◌, ◌⊎◌, ℕ, ◌≤◌, List, [], ◌∷◌, ◌++◌, length}
+use Rattle.edge_traits.specs.declared.entries.Exchange.{Exchange}
+use Rattle.edge_traits.specs.Deeds.{ran, fetched, exchanged}
 use Rattle.edge_traits.specs.Stations.{IsWithin}
 use Rattle.child_runner.specs.Runs.{preprocessor_bounds, compile_bounds, in_place_bounds}
 use Rattle.farm_machine.specs.declared.reports.End.{End}
 use Rattle.farm_machine.specs.declared.reports.End.TheVariants.{Failed}
 use Rattle.farm_machine.specs.declared.reports.Why5.TheVariants.{Memory}
-use Rattle.farm_machine.specs.Acts.{TakesLocal, Act, Did, Met}
+use Rattle.farm_machine.specs.Acts.{Gives, TakesLocal, Act, Did, Met}
 use Rattle.farm_machine.specs.Jobs.{Job}
-use Rattle.farm_machine.specs.Table.{Finished, IsCut, IsCutInExchange}
+use Rattle.farm_machine.specs.Table.{Finished}
+use Rattle.farm_machine.specs.TableCourse.{IsOfTable}
 use Rattle.job_run.specs.Gives.{IsUnhurt}
 
 -- These acts make no run but compiles within their bounds, and fetch no more than 41,943,040 bytes at once.
@@ -25,12 +27,20 @@ AreBounded (Did (ran x) ∷ acts) = IsWithin preprocessor_bounds x.ran × AreCom
 AreBounded (Met TakesLocal ∷ Did (ran x) ∷ acts) = IsWithin in_place_bounds x.ran × AreCompiles acts
 AreBounded acts = AreCompiles acts
 
--- Memory was wanting in place of a host's answer, and nothing had gone wrong with the exchange.
-pub record IsCutUnhurt (j : Job) (acts : List Act) : Type 0 where
-  pub cut : IsCutInExchange j acts
-  pub unhurt : IsUnhurt cut.begun
+-- these acts are the front of a whole course, and not all of it
+pub record IsFront (j : Job) (acts : List Act) : Type 0 where
+  pub next : Act
+  pub rest : List Act
+  pub end : End
+  pub finished : Finished j (acts ++ next ∷ rest) end
 
--- A whole course of the table; or where memory was wanting the cut front of one, which hides no fault of an exchange.
+-- Nothing went wrong with an exchange that these acts end with, but for the give behind it.
+abbrev pub EndsUnhurt : List Act → Type 0
+EndsUnhurt acts = (front : List Act) (x : Exchange) (host : ℕ) → acts ≡ front ++ Did (exchanged x) ∷ Met (Gives host) ∷ [] → IsUnhurt x
+
+-- A course of the table, or the cut front of one where memory was wanting. Want of memory hides no fault of an exchange: with the last one
+-- nothing went wrong, or the job could have gone on behind it. Each run and each fetch is within its bounds.
 pub record IsJobCourse (j : Job) (acts : List Act) (end : End) : Type 0 where
-  pub of_table : Finished j acts end ⊎ ((end ≡ Failed Memory) × (IsCut j acts ⊎ IsCutUnhurt j acts))
+  pub of_table : IsOfTable j acts end
+  pub hides_none : end ≡ Failed Memory → EndsUnhurt acts ⊎ IsFront j acts
   pub bounded : AreBounded acts
