@@ -11,7 +11,7 @@ use crate::command::{
 };
 use crate::counting::raise;
 use crate::notices::{tell_overrun, tell_unserved};
-use crate::run_folder::RunFolder;
+use crate::run_folder::{RunFolder, SharedRemoval};
 use crate::running::{object_left, run_command};
 use edge_traits::{Bounds, Station, StationFault, has_output};
 use farm_types::{Bytes, Ran, Word};
@@ -38,6 +38,8 @@ struct Service {
     policy: WordPolicy,
     /// The folder of this process, from which its programs may be named.
     here: String,
+    /// Where the removal of a run's folder is left, if it isn't the station's own.
+    removal: Option<SharedRemoval>,
 }
 
 /// Runs programs as children of this process, and waits for their ends.
@@ -79,8 +81,14 @@ impl<R: Processes + rt::Files<File = File>> ChildStation<R> {
     }
 
     /// A station that runs what others send, by this policy. `here` is the folder of this process: a program that is named by a path from there
-    /// is found, though its run is in another.
-    pub fn serving(rt: R, folder: String, here: String, policy: WordPolicy) -> ChildStation<R>
+    /// is found, though its run is in another. The removal of a run's folder may be left to a door.
+    pub fn serving(
+        rt: R,
+        folder: String,
+        here: String,
+        policy: WordPolicy,
+        removal: Option<SharedRemoval>,
+    ) -> ChildStation<R>
         ensures view { station_view result ≡ counted_station 0 0 }
         ensures folder { folder_of result ≡ string_bytes folder }
         ensures policy { policy_of result ≡ Some policy }
@@ -88,7 +96,11 @@ impl<R: Processes + rt::Files<File = File>> ChildStation<R> {
         ChildStation {
             rt,
             folder,
-            service: Some(Service { policy, here }),
+            service: Some(Service {
+                policy,
+                here,
+                removal,
+            }),
             faults: 0,
             overruns: 0,
         }
@@ -199,10 +211,7 @@ fn run_child<R: Processes + rt::Files<File = File> + RandomSource + Eprint>(
     ensures no_object { IfOk result (λ ran. has_output words.now ≡ false → ran.object ≡ []) }
 {
     match service {
-        Some(service) => {
-            let here = service.here.as_str();
-            run_for_others(rt, folder, here, alloc, words, input, bounds)
-        }
+        Some(service) => { run_for_others(rt, folder, service, alloc, words, input, bounds) }
         None => {
             if needs_folder(words) {
                 return run_with_files(rt, folder, alloc, words, input, bounds);
@@ -217,7 +226,7 @@ fn run_child<R: Processes + rt::Files<File = File> + RandomSource + Eprint>(
 fn run_for_others<R: Processes + rt::Files<File = File> + RandomSource + Eprint>(
     rt: &R,
     folder: &str,
-    here: &str,
+    service: &Service,
     alloc: Global,
     words: &[Word],
     input: &[u8],
@@ -228,10 +237,10 @@ fn run_for_others<R: Processes + rt::Files<File = File> + RandomSource + Eprint>
     ensures given { OnOk result (All CanBeGiven words.now) }
     ensures no_object { IfOk result (λ ran. has_output words.now ≡ false → ran.object ≡ []) }
 {
-    let folder = RunFolder::create(rt, alloc, folder)?;
+    let folder = RunFolder::create(rt, alloc, folder, &service.removal)?;
     let _source = input_file(&folder, words, input)?;
     let path = output_path(&folder, words)?;
-    let command = command_in(alloc, words, folder.path(), here)?;
+    let command = command_in(alloc, words, folder.path(), service.here.as_str())?;
     let ended = run_command(rt, alloc, folder.path(), command, bounds)?;
     let object = object_left(rt, alloc, words, &path, ended.status, bounds.object)?;
     Ok(Ran {
@@ -257,7 +266,8 @@ fn run_with_files<R: Processes + rt::Files<File = File> + RandomSource + Eprint>
     ensures given { OnOk result (All CanBeGiven words.now) }
     ensures no_object { IfOk result (λ ran. has_output words.now ≡ false → ran.object ≡ []) }
 {
-    let folder = RunFolder::create(rt, alloc, folder)?;
+    let removal = None;
+    let folder = RunFolder::create(rt, alloc, folder, &removal)?;
     let source = input_file(&folder, words, input)?;
     let path = output_path(&folder, words)?;
     let command = command_of(alloc, words, path_of(&source), path_of(&path))?;

@@ -10,6 +10,7 @@ use crate::counting::raise;
 use crate::door_link::DoorLink;
 use crate::notices::{tell_closed, tell_door_end, tell_unshared};
 use crate::pending::Pending;
+use crate::run_folder::{SharedRemoval, carry_out};
 use crate::waiting_room::WaitingRoom;
 use access_list::AccessList;
 use edge_traits::{Door, EdgeFault};
@@ -17,7 +18,7 @@ use std::alloc::Global;
 use std::io::{self, Eprint, Error, ErrorKind, Read, Write};
 use std::net::{Ipv4Addr, Net, OpenListener, OpenStream, SocketAddr, SocketAddrV4, TcpListener};
 use std::os::fd::AsRawFd;
-use std::rt::Clock;
+use std::rt::{Clock, Files};
 use std::sync::{Arc, Mutex, Wait};
 use std::time::Duration;
 
@@ -36,6 +37,7 @@ pub struct TcpDoor<R, L, S> {
     listener: Option<L>,
     room: Option<SharedRoom<L, S>>,
     refusal: Option<Error>,
+    removal: Option<SharedRemoval>,
     faults: u64,
 }
 
@@ -62,6 +64,7 @@ impl<R: Eprint + Net> TcpDoor<R, R::Listener, R::Stream> {
             listener,
             room,
             refusal,
+            removal: None,
             faults: 0,
         }
     }
@@ -78,6 +81,7 @@ impl<R: Eprint, L: OpenListener, S> TcpDoor<R, L, S> {
             listener: None,
             room: None,
             refusal: None,
+            removal: None,
             faults: 0,
         }
     }
@@ -98,8 +102,18 @@ impl<R: Eprint, L: OpenListener, S> TcpDoor<R, L, S> {
             listener: another(&self.rt, &self.listener),
             room,
             refusal: None,
+            removal: None,
             faults: 0,
         }
+    }
+
+    /// The same door, which carries this removal out when it leaves a connection, before the peer is told that nothing more comes.
+    pub fn removing(mut self, removal: SharedRemoval) -> TcpDoor<R, L, S>
+        ensures view { door_view result ≡ door_view self }
+        ensures listener { is_listening result ≡ is_listening self }
+    {
+        self.removal = Some(removal);
+        self
     }
 
     /// Whether there is a listener.
@@ -125,7 +139,7 @@ impl<R: Eprint, L: OpenListener, S> TcpDoor<R, L, S> {
     }
 }
 
-impl<R: Eprint + Clock + Wait + Copy, L: OpenListener<Stream = S> + AsRawFd, S> Door
+impl<R: Eprint + Clock + Wait + Copy + Files, L: OpenListener<Stream = S> + AsRawFd, S> Door
     for TcpDoor<R, L, S>
 where
     S: Read + Write + OpenStream + AsRawFd + Drop,
@@ -166,6 +180,7 @@ where
         ensures listener { is_listening self.new ≡ is_listening self.old }
         ensures faults { (door_view self.new).faults ≡ (door_view self.old).faults }
     {
+        carry_out(&self.rt, &self.removal);
         link.end(&self.rt);
     }
 }

@@ -34,5 +34,6 @@ pub use door_link::DoorLink;
 pub use environment::{command_words, current_folder, own_folder, variable};
 pub use kits::{SystemKit, system_kits, watch_kits};
 pub use notices::Notices;
+pub use run_folder::{PendingRemoval, SharedRemoval};
 pub use stream::{StdSink, StdSource};
 pub use tcp::{TcpDialer, TcpLink};

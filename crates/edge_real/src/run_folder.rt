@@ -12,6 +12,75 @@ use std::io::{Eprint, ErrorKind};
 use std::os::unix::fs::OpenOptionsExt;
 use std::random::RandomSource;
 use std::rt;
+use std::sync::Arc;
+use std::sync::atomic::{AtomicU64, Ordering};
+
+/// The removal of a run's folder that is put off: the station that made the folder leaves it here, and the door carries it out once the
+/// reply was sent, since the system may write to the disk for it. There is one at a time, and the same thread leaves it and carries it out.
+#[derive(Drop)]
+pub struct PendingRemoval {
+    alloc: Global,
+    /// The folder in which that of the run is.
+    folder: String,
+    /// The halves of the random word of its name; both are 0 where there is none.
+    first: AtomicU64,
+    second: AtomicU64,
+}
+
+impl PendingRemoval {
+    /// None yet, of a folder in this one.
+    pub fn new(alloc: Global, folder: String) -> PendingRemoval {
+        PendingRemoval {
+            alloc,
+            folder,
+            first: AtomicU64::new(0),
+            second: AtomicU64::new(0),
+        }
+    }
+
+    /// Leaves the folder of this word. There is none before.
+    fn leave(&self, word: &[u8; WORD_LENGTH]) {
+        let (first, second) = halves_of(word);
+        self.first.store(first, Ordering::SeqCst);
+        self.second.store(second, Ordering::SeqCst);
+    }
+
+    /// Removes the folder that was left, where there is one. Where memory is wanting for its name, it is still left.
+    pub fn carry_out<R: rt::Files + Eprint>(&self, rt: &R) {
+        let word = word_of(
+            self.first.swap(0, Ordering::SeqCst),
+            self.second.swap(0, Ordering::SeqCst),
+        );
+        if word == [0; WORD_LENGTH] {
+            return;
+        }
+        match folder_name(self.alloc, self.folder.as_str(), &word) {
+            Ok(path) => remove_folder(rt, self.alloc, path.as_str()),
+            Err(_) => self.leave(&word),
+        }
+    }
+}
+
+/// A removal that a station and its door share.
+pub type SharedRemoval = Arc<PendingRemoval, Global>;
+
+/// Carries a removal out, where there is one.
+pub fn carry_out<R: rt::Files + Eprint>(rt: &R, removal: &Option<SharedRemoval>) {
+    if let Some(removal) = removal {
+        removal.carry_out(rt);
+    }
+}
+
+/// The halves of a word as numbers.
+fn halves_of(word: &[u8; WORD_LENGTH]) -> (u64, u64) {
+    let number = u128::from_be_bytes(*word);
+    ((number >> 64) as u64, (number % (1 << 64)) as u64)
+}
+
+/// The word of these halves.
+fn word_of(first: u64, second: u64) -> [u8; WORD_LENGTH] {
+    (u128::from(first) << 64 | u128::from(second)).to_be_bytes()
+}
 
 /// A folder that this value made, which goes away with it, and with all that is in it then.
 ///
@@ -21,17 +90,32 @@ pub struct RunFolder<'a, R: rt::Files + Eprint> {
     rt: &'a R,
     alloc: Global,
     path: String,
+    word: [u8; WORD_LENGTH],
+    removal: &'a Option<SharedRemoval>,
 }
 
 impl<'a, R: rt::Files + RandomSource + Eprint> RunFolder<'a, R> {
-    /// A new empty folder in this one.
-    pub fn create(rt: &'a R, alloc: Global, folder: &str) -> Result<RunFolder<'a, R>, StationFault>
+    /// A new empty folder in this one. Its removal is left to another where there is one for that, who removes now what was left before.
+    pub fn create(
+        rt: &'a R,
+        alloc: Global,
+        folder: &str,
+        removal: &'a Option<SharedRemoval>,
+    ) -> Result<RunFolder<'a, R>, StationFault>
         ensures name { IfOk result (λ made. IsNamedIn folder.now (place_of made)) }
         ensures fault { IfErr result NamesNoStream }
     {
-        let path = random_name(rt, alloc, folder)?;
+        carry_out(rt, removal);
+        let word = random_word(rt, folder)?;
+        let path = folder_name(alloc, folder, &word)?;
         match rt.create_dir_with_mode(path.as_str(), FOLDER_OF_OWNER) {
-            Ok(()) => Ok(RunFolder { rt, alloc, path }),
+            Ok(()) => Ok(RunFolder {
+                rt,
+                alloc,
+                path,
+                word,
+                removal,
+            }),
             Err(error) => {
                 tell_unmade(rt, path.as_str(), &error);
                 Err(StationFault::Failed)
@@ -52,19 +136,7 @@ impl<R: rt::Files + Eprint> RunFolder<'_, R> {
     pub fn name_of(&self, name: &str) -> Result<String, AllocError>
         ensures { IfOk result (λ path. string_bytes path ≡ file_in (place_of self.now) name.now) }
     {
-        let mut path = String::from_str(self.alloc, self.path.as_str())?;
-        path.push_str("/")?;
-        path.push_str(name)?;
-        Ok(path)
-    }
-
-    /// Removes the files of the words, where they are. That is all that most programs leave, and it needs no descriptor.
-    fn remove_known(&self) {
-        for name in FILES_OF_WORDS {
-            if let Ok(path) = self.name_of(name) {
-                let _ = self.rt.remove_file(path.as_str());
-            }
-        }
+        file_in(self.alloc, self.path.as_str(), name)
     }
 
     /// A new empty file at this path that its owner alone may read, opened for reading and writing.
@@ -78,17 +150,29 @@ impl<R: rt::Files + Eprint> RunFolder<'_, R> {
 
 impl<R: rt::Files + Eprint> Drop for RunFolder<'_, R> {
     fn drop(self) {
-        self.remove_known();
-        if self.rt.remove_dir(self.path.as_str()).is_err() {
-            remove_whole(self.rt, self.alloc, self.path.as_str());
-        }
         let RunFolder {
-            rt: _,
-            alloc: _,
+            rt,
+            alloc,
             path,
+            word,
+            removal,
         } = self;
+        match removal {
+            Some(removal) => removal.leave(&word),
+            None => remove_folder(rt, alloc, path.as_str()),
+        }
         drop(path);
     }
+}
+
+/// Where a file of this name is in this folder.
+fn file_in(alloc: Global, folder: &str, name: &str) -> Result<String, AllocError>
+    ensures { IfOk result (λ path. string_bytes path ≡ file_in folder.now name.now) }
+{
+    let mut path = String::from_str(alloc, folder)?;
+    path.push_str("/")?;
+    path.push_str(name)?;
+    Ok(path)
 }
 
 /// A new empty file in this folder, opened for reading and writing, that has lost its name there: nothing of it is left when it is closed.
@@ -119,6 +203,18 @@ fn open_new<R: rt::Files + Eprint>(rt: &R, path: &str) -> Result<R::File, Statio
             tell_unmade(rt, path, &error);
             Err(StationFault::Failed)
         }
+    }
+}
+
+/// Removes the folder of a run. The files of the words are removed first: that is all that most programs leave, and it needs no descriptor.
+fn remove_folder<R: rt::Files + Eprint>(rt: &R, alloc: Global, path: &str) {
+    for name in FILES_OF_WORDS {
+        if let Ok(file) = file_in(alloc, path, name) {
+            let _ = rt.remove_file(file.as_str());
+        }
+    }
+    if rt.remove_dir(path).is_err() {
+        remove_whole(rt, alloc, path);
     }
 }
 

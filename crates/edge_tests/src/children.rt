@@ -127,7 +127,7 @@ fn what_a_child_left_is_removed(rt: HostRuntime) -> Result<(), Fail> {
 fn serving(rt: HostRuntime, policy: WordPolicy) -> Result<ChildStation<HostRuntime>, AllocError> {
     let folder = String::from_str(rt.alloc(), ".")?;
     let here = String::from_str(rt.alloc(), "/")?;
-    Ok(ChildStation::serving(rt, folder, here, policy))
+    Ok(ChildStation::serving(rt, folder, here, policy, None))
 }
 
 #[test]

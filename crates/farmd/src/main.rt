@@ -13,12 +13,14 @@ use daemon_program::{DoorPlace, door_place, farmd};
 use daemon_words::{Command, Options, parse_words, rules_of, settings_of, trusts_options};
 use daemon_worker::DoorKit;
 use edge_real::{
-    ChildStation, StdSink, TcpDoor, WordPolicy, command_words, current_folder, own_folder,
+    ChildStation, PendingRemoval, SharedRemoval, StdSink, TcpDoor, WordPolicy, command_words,
+    current_folder, own_folder,
 };
 use log::warn;
 use std::alloc::AllocError;
 use std::net::{TcpListener, TcpStream};
 use std::process::ExitCode;
+use std::sync::Arc;
 
 /// The doors and stations of the system.
 type SystemDoor = DoorKit<ListeningDoor, ChildStation<HostRuntime>>;
@@ -76,7 +78,8 @@ fn lets_all_in(options: &Option<Options>) -> bool {
 /// The first number of the addresses by which a machine reaches itself.
 const LOOPBACK: u32 = 127;
 
-// A door and a station for it, which runs what others send. The folders of its runs are in the system's folder for such files.
+// A door and a station for it, which runs what others send. The folders of its runs are in the system's folder for such files, and the door removes
+// them.
 fn kit_of(
     rt: &HostRuntime,
     door: ListeningDoor,
@@ -84,9 +87,14 @@ fn kit_of(
 ) -> Result<SystemDoor, AllocError>
     ensures { IfOk result (λ kit. station_policy kit.station ≡ Some policy) }
 {
+    let folder = own_folder(rt)?;
+    let here = current_folder(rt)?;
+    let removal = PendingRemoval::new(rt.alloc(), own_folder(rt)?);
+    let removal: SharedRemoval = Arc::new(rt.alloc(), removal)?;
+    let door = door.removing(Arc::try_clone(&removal)?);
     Ok(DoorKit {
         door,
-        station: ChildStation::serving(*rt, own_folder(rt)?, current_folder(rt)?, policy),
+        station: ChildStation::serving(*rt, folder, here, policy, Some(removal)),
     })
 }
 
