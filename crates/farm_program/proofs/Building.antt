@@ -1,12 +1,11 @@
 -- From the parts of a build to the whole.
-use Rattle.std.proofs.Common.{◌≡◌, ◌<◌, ◌≤◌, ℕ, List, [], ◌∷◌, ◌++◌, zero, suc, length, get_or, refl, sym, ap, ◌∙◌, subst, inl, arith}
+use Rattle.std.proofs.Common.{◌≡◌, ◌<◌, ◌≤◌, ℕ, List, [], ◌∷◌, ◌++◌, zero, suc, length, get_or, refl, sym, ap, ◌∙◌, subst, arith}
 use Rattle.std.specs.Prelude.{All}
 use Rattle.std.proofs.lemmas.List.Elements.{All-weaker}
 use Rattle.farm_types.specs.declared.hosts.Host.{Host}
 use Rattle.farm_types.specs.declared.hosts.Hosts.{Hosts}
 use Rattle.farm_types.specs.declared.jobs.JobConfig.{JobConfig}
 use Rattle.host_list.specs.HostLists.{IsHost, AreHosts}
-use Rattle.edge_traits.specs.Causes.{Still}
 use Rattle.edge_traits.specs.Sources.{SourceView}
 use Rattle.farm_machine.specs.declared.reports.Report.{Report}
 use Rattle.input_read.specs.Reads.{HasReadSome}
@@ -14,8 +13,7 @@ use Rattle.job_driver.specs.declared.driver.Built.{Built}
 use Rattle.farm_machine.specs.Devices.{Devices}
 use Rattle.job_driver.specs.Driven.{JobsRan}
 use Rattle.farm_machine.specs.Usable.{job_at, AreDoable, AreUsable}
-use Rattle.job_list.specs.declared.fault.JobFault.TheVariants.{TooLong}
-use Rattle.job_list.specs.Jobs.{JobsOf, JobFaultStands}
+use Rattle.job_list.specs.Jobs.{JobsOf}
 use Rattle.job_list.specs.Prints.{AreJobWords}
 use Rattle.stream_print.specs.declared.pieces.Piece.{Piece}
 use Rattle.stream_print.specs.declared.pieces.SinkKind.TheVariants.{Out as OutSink, Err as ErrSink}
@@ -24,8 +22,8 @@ use Rattle.farm_machine.specs.declared.reports.End.{End}
 use Rattle.report_text.specs.Pieces.{command_pieces, err_messages, failure_text, out_messages, pieces}
 use Rattle.report_text.specs.Numbers.{number}
 use Rattle.stream_print.specs.Prints.{SinksView}
-use Rattle.stream_print.specs.Ends.{complaint, Ends, WantOf}
-use Rattle.farm_answers.specs.Texts.{bad_jobs_status, cannot_read_status, cannot_read_text, job_fault_text, no_memory_text}
+use Rattle.stream_print.specs.Ends.{Ends, WantOf}
+use Rattle.farm_answers.specs.Texts.{no_memory_text}
 use Rattle.farm_program.specs.Builds.{JobsDone, input_limit, Builds, built, none_ran, wanted, JobsEnd, jobs_ran, jobs_wanted}
 use Rattle.farm_program.specs.Inputs.{HasJobs}
 

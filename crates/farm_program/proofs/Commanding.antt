@@ -1,5 +1,5 @@
 -- From the parts of a command to the whole.
-use Rattle.std.proofs.Common.{◌≡◌, ℕ, Bool, List, [], subst, sym, refl}
+use Rattle.std.proofs.Common.{◌≡◌, ℕ, List, [], subst, sym, refl}
 use Rattle.farm_types.specs.declared.hosts.Hosts.{Hosts}
 use Rattle.edge_traits.specs.Sources.{SourceView}
 use Rattle.stream_print.specs.Prints.{SinksView}

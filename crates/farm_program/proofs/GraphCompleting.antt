@@ -1,5 +1,5 @@
 -- Where source and sinks do nothing wrong, all levels of a graph are run, or memory was wanting.
-use Rattle.std.proofs.Common.{◌≡◌, ◌⊎◌, ◌≤◌, ℕ, IsTrue, List, [], ◌++◌, ◌∙◌, length, sym, ap, subst, inl, inr, arith, Ok, Err}
+use Rattle.std.proofs.Common.{◌≡◌, ◌⊎◌, ◌≤◌, ℕ, IsTrue, List, [], ◌++◌, length, sym, ap, subst, inl, inr, arith, Ok, Err}
 use Rattle.std.proofs.lemmas.List.{length-append}
 use Rattle.farm_types.specs.declared.jobs.JobConfig.{JobConfig}
 use Rattle.stream_print.specs.Ends.{memory_status}

@@ -1,9 +1,8 @@
 -- From the parts of a graph's build to the whole.
-use Rattle.std.proofs.Common.{◌≡◌, ◌<◌, ◌≤◌, ℕ, List, [], ◌∷◌, length, refl, sym, ap, ◌∙◌, subst, inl, arith}
-use Rattle.std.specs.Prelude.{All, Bool}
+use Rattle.std.proofs.Common.{◌≡◌, ◌<◌, ◌≤◌, ℕ, List, [], length, sym, subst, arith}
+use Rattle.std.specs.Prelude.{All}
 use Rattle.std.proofs.lemmas.List.Elements.{All-weaker}
 use Rattle.farm_types.specs.declared.hosts.Host.{Host}
-use Rattle.farm_types.specs.declared.hosts.Hosts.{Hosts}
 use Rattle.farm_types.specs.declared.jobs.JobConfig.{JobConfig}
 use Rattle.edge_traits.specs.Sources.{SourceView}
 use Rattle.input_read.specs.Reads.{AllRead, HasReadSome}
@@ -16,7 +15,6 @@ use Rattle.job_graph.specs.Graphs.{IsGraph, GraphOf}
 use Rattle.stream_print.specs.Prints.{SinksView}
 use Rattle.stream_print.specs.Ends.{Ends, WantOf}
 use Rattle.farm_answers.specs.Texts.{no_memory_text}
-use Rattle.farm_program.specs.Worlds.{World}
 use Rattle.farm_program.specs.Builds.{input_limit, faulty, wanted, whole_text}
 use Rattle.farm_program.specs.Outcomes.{outcomes_in, graph_pieces, graph_number}
 use Rattle.farm_program.specs.declared.outcomes.State.{State}

@@ -1,5 +1,5 @@
 -- From what was read of an input, or from its refusal, to what a command does.
-use Rattle.std.proofs.Common.{◌≡◌, ℕ, List, [], ◌∷◌, refl, sym, ap, ◌∙◌, inl, arith, length}
+use Rattle.std.proofs.Common.{◌≡◌, ℕ, List, [], refl, sym, ap, ◌∙◌, inl, arith, length}
 use Rattle.edge_traits.specs.Sources.{SourceView}
 use Rattle.input_read.specs.Reads.{HasReadSome}
 use Rattle.job_list.specs.declared.fault.JobFault.{JobFault}

@@ -1,5 +1,5 @@
 -- Where source and sinks do nothing wrong, the jobs of a watched build are run and all its lines printed, or memory was wanting.
-use Rattle.std.proofs.Common.{◌≡◌, ◌⊎◌, ℕ, IsTrue, List, ◌++◌, length, sym, subst, inl, inr}
+use Rattle.std.proofs.Common.{◌≡◌, ◌⊎◌, ℕ, IsTrue, List, sym, subst, inl, inr}
 use Rattle.farm_types.specs.declared.jobs.JobConfig.{JobConfig}
 use Rattle.stream_print.specs.Ends.{memory_status}
 use Rattle.farm_machine.specs.Devices.{Devices}

@@ -1,5 +1,5 @@
 -- From the parts of a watched build to the whole.
-use Rattle.std.proofs.Common.{◌≡◌, ℕ, Bool, List, [], ◌∷◌, subst}
+use Rattle.std.proofs.Common.{◌≡◌, ℕ, Bool, List, [], subst}
 use Rattle.farm_types.specs.declared.jobs.JobConfig.{JobConfig}
 use Rattle.edge_traits.specs.Sinks.{SinkView}
 use Rattle.edge_traits.specs.Sources.{SourceView}

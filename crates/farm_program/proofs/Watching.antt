@@ -1,6 +1,6 @@
 -- From the lines of a watched build to what its sinks got.
-use Rattle.std.proofs.Common.{◌≡◌, ◌<◌, ◌≤◌, ◌+◌, ◌-◌, ◌&&◌, ◌==◌, ℕ, zero, suc, Bool, true, false, not, nat_le, if◌then◌else◌, List, [], ◌∷◌, ◌++◌, length, take, refl}
-use Rattle.std.proofs.Common.{sym, ap, ◌∙◌, subst, inl, inr, arith}
+use Rattle.std.proofs.Common.{◌≡◌, ◌+◌, ◌-◌, ◌&&◌, ◌==◌, ℕ, zero, suc, Bool, true, false, not, nat_le, if◌then◌else◌}
+use Rattle.std.proofs.Common.{List, [], ◌∷◌, ◌++◌, length, take, refl, sym, ap, ◌∙◌, subst, inl, inr, arith}
 use Rattle.std.proofs.lemmas.Bool.{and_from, and_parts, cases_Bool, le-leb, or_right}
 use Rattle.std.proofs.lemmas.List.{append-nil, length-append}
 use Rattle.std.proofs.lemmas.Grind.{common_steps}
@@ -25,7 +25,7 @@ use Rattle.watch_lines.specs.declared.count.Count.{Count}
 use Rattle.watch_lines.specs.declared.line_end.LineEnd.{LineEnd}
 use Rattle.watch_lines.specs.declared.line_end.LineEnd.TheVariants.{Whole, SinkFault, Memory}
 use Rattle.watch_lines.specs.Lines.{watch_line, lines_text, last_text, counts_rise, are_all, none_says_all, lines_end}
-use Rattle.watch_lines.specs.Printed.{all_within, LinePrinted, LinesPrinted, LinesCut, WatchLines}
+use Rattle.watch_lines.specs.Printed.{all_within, LinePrinted, LinesPrinted, LinesCut}
 use Rattle.job_driver.specs.Watching.{WatchPrinted}
 use Rattle.farm_answers.specs.Texts.{no_memory_text}
 use Rattle.farm_program.specs.WatchBuilds.{AreCounts, line_pieces, watch_pieces, AfterLines}

@@ -1,4 +1,4 @@
-use Rattle.std.proofs.Common.{◌≡◌, [], ◌∷◌, length, arith}
+use Rattle.std.proofs.Common.{◌≡◌, length, arith}
 use Rattle.std.proofs.lemmas.Grind.{common_steps}
 use Rattle.farm_program.specs.WatchBuilds.{watched_workers}
 use Rattle.farm_program.proofs.WatchTexts.{workers_as, printed_as}
