@@ -12,4 +12,5 @@ returns-clause-replied g c =
     let sent = c.in_default-send_all.ensures in
     let rest = c.in-Err-send_all.ensures in
     replied_behind c.in-Err-send_all.served (reply_text c.args.outcome.now) head object c.args.outcome.now.status
-    (g.L.Link.shows c.args.link.now) (g.L.Link.shows c.send_all.new.link) (g.L.Link.shows c.send_all-2.new.link) whole sent.all sent.running sent.done rest.part rest.stops
+    (g.L.Link.shows c.args.link.now) (g.L.Link.shows c.send_all.new.link) (g.L.Link.shows c.send_all-2.new.link)
+    whole sent.all sent.running sent.done rest.part rest.stops
