@@ -88,9 +88,11 @@ dist:
 # transfer of an object of 32 MiB; the resident size of farm and farmd; and how long a worker takes between two children.
 bench:
 	bench/run
-	bench/builds
+	FIGURES=docs/figures bench/builds 100 7
 	bench/make
-	bench/servers
+	FIGURES=docs/figures bench/servers 64 7
+	bench/plot
+	bench/scale
 	bench/transfer
 	bench/memory
 	bench/gaps
