@@ -13,6 +13,13 @@ use Rattle.job_driver.specs.declared.crew.Worker.{Worker}
 use Rattle.job_driver.specs.declared.run.Run.{Run}
 use Rattle.job_driver.specs.Crews.{kit_of, pass_of, desk_of, HasRoom, IsReady, HasWorked}
 
+-- Kits for so many workers, at least one: no more than 16 of them, and in none a put is pending.
+pub record HasKits {K : Type 0} (d : Devices K) (workers : ℕ) (kits : List K) : Type 0 where
+  pub some : 1 ≤ workers
+  pub enough : workers ≤ length kits
+  pub most : length kits ≤ 16
+  pub idle : All (λ kit. IsIdle (d.shows kit).keeper) kits
+
 -- workers that have done nothing yet, one for each pass of the cell
 pub record AreFresh {D S K C : Type 0} (d : Devices (Kit D S K C)) (c : Cell 16 34) (jobs : ℕ) (crew : List (Worker D S K C)) : Type 0 where
   pub passes : AreAllOf c (map pass_of crew)

@@ -127,15 +127,13 @@ pub fn hire<D: Drop, S: Drop, K: Drop, C: Drop>(
     desks: &mut Vec<Desk>,
     workers: &mut Vec<Worker<D, S, K, C>>,
 )
-    requires passes { length passes.old.items ≡ length kits.old.items }
-    requires desks { length desks.old.items ≡ length kits.old.items }
+    requires long { (length passes.old.items ≡ length kits.old.items) × (length desks.old.items ≡ length kits.old.items) }
     requires none { workers.old.items ≡ [] }
     requires room { length kits.old.items ≤ vec_capacity workers.old }
     ensures kits { (kits.new.items ≡ []) × (map kit_of workers.new.items ≡ kits.old.items) }
     ensures passes { (passes.new.items ≡ []) × (map pass_of workers.new.items ≡ passes.old.items) }
-    ensures desks { map desk_of workers.new.items ≡ desks.old.items }
+    ensures desks { (desks.new.items ≡ []) × (map desk_of workers.new.items ≡ desks.old.items) }
     ensures room { (length workers.new.items ≤ vec_capacity kits.new) × (length workers.new.items ≤ vec_capacity passes.new) × (length workers.new.items ≤ vec_capacity desks.new) }
-    ensures empty { desks.new.items ≡ [] }
     ensures kept { vec_capacity kits.new ≡ vec_capacity kits.old }
 {
     while let Some(kit) = kits.pop() {
