@@ -36,8 +36,10 @@ returns-clause-opened g c =
       many = many;
       fresh = fresh;
       ready = ready-all c.hire.new.workers.items fresh;
-      hosts = subst (λ (l : Limits 16). AreLimitsOf l c.args.plan.config.now.hosts) (sym new.limits) c.limits_of-limits.ensures.hosts;
-      number = number;
+      slots = record {
+        hosts = subst (λ (l : Limits 16). AreLimitsOf l c.args.plan.config.now.hosts) (sym new.limits) c.limits_of-limits.ensures.hosts;
+        number = number;
+      };
       room = record {
         passes = h.passes.0;
         desks = h.desks.0;
