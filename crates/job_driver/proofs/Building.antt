@@ -17,8 +17,7 @@ use Rattle.farm_machine.specs.Jobs.{Job}
 use Rattle.farm_cell.specs.declared.cell.Cell.{Cell}
 use Rattle.farm_cell.specs.declared.cell.Pass.{Pass}
 use Rattle.farm_cell.specs.Ends.{IsNumbered, AreAllOf, HasEachMine, AreByCallersBelow}
-use Rattle.farm_cell.specs.Passes.{limits_of, callers_of, seen_of, mine_of}
-use Rattle.job_driver.specs.declared.crew.Desk.{Desk}
+use Rattle.farm_cell.specs.Passes.{limits_of, callers_of, mine_of}
 use Rattle.job_driver.specs.declared.crew.Worker.{Worker}
 use Rattle.job_driver.specs.declared.run.Run.{Run}
 use Rattle.job_driver.specs.Crews.{kit_of, pass_of, desk_of, reports_on, HasRoom, IsReady, HasWorked}

@@ -1,4 +1,4 @@
-use Rattle.std.proofs.Common.{◌≡◌, List, [], ◌++◌, length, map, reverse, sym, ap, ◌∙◌, subst, arith, rules}
+use Rattle.std.proofs.Common.{List, ◌++◌, length, map, reverse, sym, ap, ◌∙◌, subst, arith, rules}
 use Rattle.std.specs.List.{flat_map}
 use Rattle.std.proofs.lemmas.List.Sorted.{IsNonDecreasingBy-from_sort_by_key}
 use Rattle.slot_table.specs.declared.limits.Limits.{Limits}
