@@ -17,8 +17,7 @@ use Rattle.farm_machine.specs.Jobs.{Job}
 use Rattle.farm_cell.specs.declared.cell.Cell.{Cell}
 use Rattle.farm_cell.specs.declared.cell.Pass.{Pass}
 use Rattle.farm_cell.specs.Ends.{IsNumbered, AreAllOf, HasEachMine, AreByCallersBelow}
-use Rattle.farm_cell.specs.Passes.{limits_of, callers_of, seen_of, mine_of}
-use Rattle.job_driver.specs.declared.crew.Desk.{Desk}
+use Rattle.farm_cell.specs.Passes.{limits_of, callers_of, mine_of}
 use Rattle.job_driver.specs.declared.crew.Worker.{Worker}
 use Rattle.job_driver.specs.declared.run.Run.{Run}
 use Rattle.job_driver.specs.Crews.{kit_of, pass_of, desk_of, reports_on, HasRoom, IsReady, HasWorked}
@@ -92,8 +91,7 @@ pub done-of : {D S K C : Type 0} {d : Devices (Kit D S K C)} {words : List (List
 done-of {run = run} some opened cell unused passes desks reports long each = record {
   some = let m = opened.many in omega (arith, m, some);
   fresh = rw cell opened.fresh;
-  hosts = rw cell opened.hosts;
-  number = rw cell opened.number;
+  slots = rw cell opened.slots;
   long = long;
   each = rw cell each;
   room = record {
@@ -173,8 +171,8 @@ module _ {D S K C : Type 0} {d : Devices (Kit D S K C)} {words : List (List (Lis
           (λ i desk below. ap reports_on (sym (get-map desk_of ws i first desk (let e = done.long in omega (arith, below, e)))))
 
       all-by : length (flat_map reports_on (reverse (map desk_of ws))) ≡ (limits_of run.cell).jobs
-      all-by = total d (limits_of run.cell) words config (length vs) R H V N done.some run.cell.valid done.hosts legal others worked stays
-          (flat_map reports_on (reverse (map desk_of ws))) joins
+      all-by = total d (limits_of run.cell) words config (length vs) R H V N done.some run.cell.valid done.slots.hosts legal others worked
+          stays (flat_map reports_on (reverse (map desk_of ws))) joins
 
       ran-by : (all sorted : List Report) (last : SlotState 16) (rest new : List (Kit D S K C))
           → all ≡ flat_map reports_on (reverse (map desk_of ws)) → IsPermutation all sorted
@@ -184,8 +182,8 @@ module _ {D S K C : Type 0} {d : Devices (Kit D S K C)} {words : List (List (Lis
           let lists : length (map kit_of ws) ≡ length (map kit_of vs) = length-map ws kit_of ∙ done.long ∙ sym (length-map vs kit_of) in
           let many : length (map kit_of vs) ≡ length vs = length-map vs kit_of in
           let long = done.long in
-          ran-all d (limits_of run.cell) words config (length vs) R H V N done.some run.cell.valid done.hosts legal others worked stays all
-          sorted (subst (Joins (length vs) R) (sym gathered) joins) moved order last (map kit_of vs ++ rest) new last_is
+          ran-all d (limits_of run.cell) words config (length vs) R H V N done.some run.cell.valid done.slots.hosts legal others worked stays
+          all sorted (subst (Joins (length vs) R) (sym gathered) joins) moved order last (map kit_of vs ++ rest) new last_is
           (λ i other below. (
             get-left (map kit_of vs) rest i other (omega (arith, below, many)) ∙ get-map kit_of vs i first other below,
             ap (λ (zs : List (Kit D S K C)). get_or zs i other) new_is

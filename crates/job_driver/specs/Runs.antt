@@ -4,14 +4,22 @@ use Rattle.farm_types.specs.declared.jobs.JobConfig.{JobConfig}
 use Rattle.edge_traits.specs.declared.kit.Kit.{Kit}
 use Rattle.edge_traits.specs.Keepers.{IsIdle}
 use Rattle.farm_machine.specs.Devices.{Devices}
-use Rattle.farm_machine.specs.Jobs.{AreLimitsOf}
 use Rattle.farm_machine.specs.Usable.{job_at}
 use Rattle.farm_cell.specs.declared.cell.Cell.{Cell}
 use Rattle.farm_cell.specs.Ends.{AreAllOf}
 use Rattle.farm_cell.specs.Passes.{limits_of, mine_of, seen_of}
 use Rattle.job_driver.specs.declared.crew.Worker.{Worker}
+use Rattle.job_driver.specs.declared.driver.Built.{Built}
 use Rattle.job_driver.specs.declared.run.Run.{Run}
-use Rattle.job_driver.specs.Crews.{kit_of, pass_of, desk_of, HasRoom, IsReady, HasWorked}
+use Rattle.job_driver.specs.Driven.{JobsRan}
+use Rattle.job_driver.specs.Crews.{kit_of, pass_of, desk_of, AreSlotsFor, HasRoom, IsReady, HasWorked}
+
+-- Kits for so many workers, at least one: no more than 16 of them, and in none a put is pending.
+pub record HasKits {K : Type 0} (d : Devices K) (workers : ℕ) (kits : List K) : Type 0 where
+  pub some : 1 ≤ workers
+  pub enough : workers ≤ length kits
+  pub most : length kits ≤ 16
+  pub idle : All (λ kit. IsIdle (d.shows kit).keeper) kits
 
 -- workers that have done nothing yet, one for each pass of the cell
 pub record AreFresh {D S K C : Type 0} (d : Devices (Kit D S K C)) (c : Cell 16 34) (jobs : ℕ) (crew : List (Worker D S K C)) : Type 0 where
@@ -35,8 +43,7 @@ pub record IsOpen {D S K C : Type 0} (d : Devices (Kit D S K C)) (jobs : List (L
   pub many : length run.crew.items ≡ workers
   pub fresh : AreFresh d run.cell (length jobs) run.crew.items
   pub ready : All (λ worker. IsReady d run.cell (length jobs) worker) run.crew.items
-  pub hosts : AreLimitsOf (limits_of run.cell) config.hosts
-  pub number : (limits_of run.cell).jobs ≡ length jobs
+  pub slots : AreSlotsFor jobs config (limits_of run.cell)
   pub room : HasRoomToClose (length jobs) run
 
 -- the workers, each from where it stood before, did these jobs until there were none
@@ -44,8 +51,7 @@ pub record AreDone {D S K C : Type 0} (d : Devices (Kit D S K C)) (jobs : List (
     (before : List (Worker D S K C)) (run : Run D S K C) : Type 0 where
   pub some : 0 < length before
   pub fresh : AreFresh d run.cell (length jobs) before
-  pub hosts : AreLimitsOf (limits_of run.cell) config.hosts
-  pub number : (limits_of run.cell).jobs ≡ length jobs
+  pub slots : AreSlotsFor jobs config (limits_of run.cell)
   pub long : length run.crew.items ≡ length before
   pub each : (k : ℕ) (other : Worker D S K C) → k < length before → HasWorked d run.cell (job_at jobs config) config.period
       (slice_index_or before k other) (slice_index_or run.crew.items k other)
@@ -57,3 +63,10 @@ pub record HasWorkedOff {D S K C : Type 0} (d : Devices (Kit D S K C)) (run : Ru
   pub config : JobConfig
   pub before : List (Worker D S K C)
   pub done : AreDone d jobs config before run
+
+-- All jobs were done by so many workers, over slots of the configuration's hosts.
+pub record HasBuilt {K : Type 0} (d : Devices K) (jobs : List (List (List ℕ))) (config : JobConfig) (workers : ℕ) (built : Built)
+    (old new : List K) : Type 0 where
+  pub ran : JobsRan d built.last.limits (job_at jobs config) config.period workers built.reports (seen_of built.pass) built.last.state old
+      new
+  pub slots : AreSlotsFor jobs config built.last.limits

@@ -1,5 +1,6 @@
 -- A build that is watched.
-use Rattle.std.specs.Prelude.{◌≡◌, ◌≢◌, ◌⊎◌, ℕ, ◌-◌, ◌<◌, ◌≤◌, Bool, true, List, [], ◌∷◌, length, map, take, slice_index_or, vec_capacity}
+use Rattle.std.specs.Prelude.{◌≡◌, ◌≢◌, ◌⊎◌, ℕ, ◌-◌, ◌^◌, ◌<◌, ◌≤◌, Bool, true, List, [], ◌∷◌, length, map, take, slice_index_or}
+use Rattle.std.specs.Prelude.{vec_capacity}
 use denote.Ref.{MutBor}
 use denote.Param.Members.{Shared}
 use Rattle.std.specs.Fork.{ChangesEach}
@@ -23,6 +24,7 @@ use Rattle.job_driver.specs.declared.crew.Worker.{Worker}
 use Rattle.job_driver.specs.declared.marker.Marker.{Marker}
 use Rattle.job_driver.specs.declared.beside.Marked.{Marked}
 use Rattle.job_driver.specs.declared.watch.Beside.{Beside}
+use Rattle.job_driver.specs.declared.watch.Watch.{Watch}
 use Rattle.farm_machine.specs.Devices.{Devices}
 use Rattle.job_driver.specs.Driven.{JobsRan}
 
@@ -59,6 +61,23 @@ pub record IsFor {D S K C : Type 0} (workers : ℕ) (beside : Beside D S K C) : 
   pub crew : beside.crew.items ≡ []
   pub room : workers ≤ vec_capacity beside.crew
   pub lines : beside.watch.lines < 1000
+
+-- the boards are back in their places, and still of the same watchers
+pub record AreBack {D S K C : Type 0} (beside : Beside D S K C) : Type 0 where
+  pub boards : map board_marked beside.markers.items ≡ map board_watched beside.watch.watchers.items
+  pub crew : beside.crew.items ≡ []
+
+-- so few watchers and lines that they can be counted
+pub record CanPrint {C : Type 0} (watch : Watch C) : Type 0 where
+  pub few : length watch.watchers.items < 2 ^ 32
+  pub lines : watch.lines < 1000
+
+-- The lines of so many jobs were printed as far as the sink took them. The same boards are watched, and the clock made pauses alone.
+pub record HasPrinted {C E : Type 0} (clock : C → ClockView) (sink : E → SinkView) (jobs : ℕ) (old new : Watch C) (before after : E)
+    (end : LineEnd) : Type 0 where
+  pub watchers : map board_watched new.watchers.items ≡ map board_watched old.watchers.items
+  pub paused : Grew (clock old.clock).moments (clock new.clock).moments []
+  pub printed : WatchLines jobs (length old.watchers.items) 1 old.lines 0 (sink before) (sink after) end
 
 -- all kits but the last
 abbrev pub front : {K : Type 0} → List K → List K

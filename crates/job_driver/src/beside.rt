@@ -1,18 +1,17 @@
 //! Workers, and a watcher beside them.
-ghost use Rattle.std.specs.Prelude.{◌≡◌, ℕ, ◌+◌, ◌^◌, ◌<◌, ◌≤◌, [], All, length, map, slice_index_or, vec_len, vec_capacity};
-ghost use Rattle.farm_machine.specs.Jobs.{AreLimitsOf};
+ghost use Rattle.std.specs.Prelude.{◌≡◌, ◌≤◌, [], length, map, vec_capacity};
 ghost use Rattle.farm_cell.specs.Passes.{limits_of};
-ghost use Rattle.job_driver.specs.Crews.{IsReady, HasWorked};
+ghost use Rattle.job_driver.specs.Crews.{AreSlotsFor, IsReady, HasWorked};
 ghost use Rattle.farm_machine.specs.Devices.{devices};
-ghost use Rattle.farm_machine.specs.Usable.{job_at, AreDoable};
+ghost use Rattle.farm_machine.specs.Usable.{job_at};
 ghost use Rattle.job_driver.specs.Watching.{worker_of, marker_of, board_marked};
 
 use crate::crew::Worker;
 use crate::marker::Marker;
+use crate::run::JobPlan;
 use crate::worker::work;
 use edge_traits::{Clock, Dialer, Keeper, Station};
 use farm_cell::{Cell, Held};
-use farm_types::{JobConfig, Jobs};
 use std::alloc::Global;
 use std::sync::Wait;
 
@@ -26,32 +25,24 @@ pub struct Marked<D, S, K, C> {
 pub fn work_marked<R: Wait, D: Dialer, S: Station, K: Keeper, C: Clock>(
     rt: &R,
     alloc: Global,
-    jobs: &Jobs,
-    config: &JobConfig,
+    plan: JobPlan<'_>,
     cell: &Cell<16, 34>,
     marked: &mut Marked<D, S, K, C>,
 )
-    requires jobs { AreDoable jobs.now }
-    requires number { (limits_of cell.now).jobs ≡ length jobs.now }
-    requires hosts { AreLimitsOf (limits_of cell.now) config.now.hosts }
-    requires entries { length config.now.hosts.list ≤ 16 }
-    requires some { 1 ≤ config.now.tries }
-    requires tries { config.now.tries ≤ 16 }
-    requires ready { IsReady (devices D.shows S.shows K.shows C.shows D.may_give S.ran) cell.now (length jobs.now) marked.old.worker }
+    requires slots { AreSlotsFor plan.jobs.now plan.config.now (limits_of cell.now) }
+    requires ready { IsReady (devices D.shows S.shows K.shows C.shows D.may_give S.ran) cell.now (length plan.jobs.now) marked.old.worker }
     ensures worked { HasWorked (devices D.shows S.shows K.shows C.shows D.may_give S.ran) cell.now
-        (job_at jobs.now config.now) config.now.period marked.old.worker marked.new.worker }
+        (job_at plan.entry.jobs.now plan.entry.config.now) plan.entry.config.now.period marked.old.worker marked.new.worker }
     ensures board { board_marked marked.new.marker ≡ board_marked marked.old.marker }
 {
     let mut held = Held::new(rt, cell, &mut marked.worker.pass);
     work(
         rt,
         alloc,
-        jobs,
-        config,
+        plan,
         &mut held,
         &mut marked.worker.kit,
-        &mut marked.worker.desk.rooms,
-        &mut marked.worker.desk.reports,
+        &mut marked.worker.desk,
         &mut marked.marker,
     );
 }

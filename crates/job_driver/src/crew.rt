@@ -1,18 +1,17 @@
 //! Workers side by side, over the slots that they share.
-ghost use Rattle.std.specs.Prelude.{◌≡◌, ℕ, ◌+◌, ◌<◌, ◌≤◌, [], ◌++◌, All, IfOk, length, map, reverse, slice_index_or, vec_len, vec_capacity};
+ghost use Rattle.std.specs.Prelude.{◌≡◌, ℕ, ◌+◌, ◌<◌, ◌≤◌, [], ◌++◌, IfOk, length, map, reverse, slice_index_or, vec_len, vec_capacity};
 ghost use Rattle.std.specs.List.{flat_map};
-ghost use Rattle.farm_machine.specs.Jobs.{AreLimitsOf};
 ghost use Rattle.farm_cell.specs.Passes.{limits_of};
-ghost use Rattle.job_driver.specs.Crews.{kit_of, pass_of, desk_of, reports_on, HasRoom, IsReady, HasWorked};
+ghost use Rattle.job_driver.specs.Crews.{kit_of, pass_of, desk_of, reports_on, AreReady, AreSlotsFor, HasRoom, IsReady, HasWorked};
 ghost use Rattle.farm_machine.specs.Devices.{devices};
-ghost use Rattle.farm_machine.specs.Usable.{job_at, AreDoable};
+ghost use Rattle.farm_machine.specs.Usable.{job_at};
 
 use crate::marks::Unwatched;
+use crate::run::JobPlan;
 use crate::worker::work;
 use edge_traits::{Clock, Dialer, Keeper, Kit, Station};
 use farm_cell::{Cell, Held, Pass};
 use farm_machine::Report;
-use farm_types::{JobConfig, Jobs};
 use job_run::EventRoom;
 use std::alloc::{AllocError, Global};
 use std::sync::Wait;
@@ -52,31 +51,23 @@ pub struct Worker<D, S, K, C> {
 fn work_over<R: Wait, D: Dialer, S: Station, K: Keeper, C: Clock>(
     rt: &R,
     alloc: Global,
-    jobs: &Jobs,
-    config: &JobConfig,
+    plan: JobPlan<'_>,
     cell: &Cell<16, 34>,
     worker: &mut Worker<D, S, K, C>,
 )
-    requires jobs { AreDoable jobs.now }
-    requires number { (limits_of cell.now).jobs ≡ length jobs.now }
-    requires hosts { AreLimitsOf (limits_of cell.now) config.now.hosts }
-    requires entries { length config.now.hosts.list ≤ 16 }
-    requires some { 1 ≤ config.now.tries }
-    requires tries { config.now.tries ≤ 16 }
-    requires ready { IsReady (devices D.shows S.shows K.shows C.shows D.may_give S.ran) cell.now (length jobs.now) worker.old }
+    requires slots { AreSlotsFor plan.jobs.now plan.config.now (limits_of cell.now) }
+    requires ready { IsReady (devices D.shows S.shows K.shows C.shows D.may_give S.ran) cell.now (length plan.jobs.now) worker.old }
     ensures { HasWorked (devices D.shows S.shows K.shows C.shows D.may_give S.ran) cell.now
-        (job_at jobs.now config.now) config.now.period worker.old worker.new }
+        (job_at plan.entry.jobs.now plan.entry.config.now) plan.entry.config.now.period worker.old worker.new }
 {
     let mut held = Held::new(rt, cell, &mut worker.pass);
     work(
         rt,
         alloc,
-        jobs,
-        config,
+        plan,
         &mut held,
         &mut worker.kit,
-        &mut worker.desk.rooms,
-        &mut worker.desk.reports,
+        &mut worker.desk,
         &mut Unwatched,
     );
 }
@@ -91,24 +82,17 @@ pub fn work_all<
 >(
     rt: &R,
     alloc: Global,
-    jobs: &Jobs,
-    config: &JobConfig,
+    plan: JobPlan<'_>,
     cell: &Cell<16, 34>,
     workers: &mut Vec<Worker<D, S, K, C>>,
 )
 where
     D::Link: Send,
-    requires some_workers { 0 < length workers.old.items }
-    requires jobs { AreDoable jobs.now }
-    requires number { (limits_of cell.now).jobs ≡ length jobs.now }
-    requires hosts { AreLimitsOf (limits_of cell.now) config.now.hosts }
-    requires entries { length config.now.hosts.list ≤ 16 }
-    requires some { 1 ≤ config.now.tries }
-    requires tries { config.now.tries ≤ 16 }
-    requires ready { All (λ worker. IsReady (devices D.shows S.shows K.shows C.shows D.may_give S.ran) cell.now (length jobs.now) worker) workers.old.items }
+    requires slots { AreSlotsFor plan.jobs.now plan.config.now (limits_of cell.now) }
+    requires ready { AreReady (devices D.shows S.shows K.shows C.shows D.may_give S.ran) cell.now (length plan.jobs.now) workers.old.items }
     ensures len { (vec_len workers.new ≡ vec_len workers.old) × (length workers.new.items ≡ length workers.old.items) }
     ensures each { (number : ℕ) (d : _) → number < length workers.old.items →
-        HasWorked (devices D.shows S.shows K.shows C.shows D.may_give S.ran) cell.now (job_at jobs.now config.now) config.now.period
+        HasWorked (devices D.shows S.shows K.shows C.shows D.may_give S.ran) cell.now (job_at plan.entry.jobs.now plan.entry.config.now) plan.entry.config.now.period
         (slice_index_or workers.old.items number d) (slice_index_or workers.new.items number d) }
 {
     let threads = workers.len();
@@ -116,7 +100,7 @@ where
         rt,
         workers.as_mut_slice(),
         threads,
-        &|_, worker| { work_over(rt, alloc, jobs, config, cell, worker) },
+        &|_, worker| { work_over(rt, alloc, plan, cell, worker) },
     );
 }
 
@@ -127,15 +111,13 @@ pub fn hire<D: Drop, S: Drop, K: Drop, C: Drop>(
     desks: &mut Vec<Desk>,
     workers: &mut Vec<Worker<D, S, K, C>>,
 )
-    requires passes { length passes.old.items ≡ length kits.old.items }
-    requires desks { length desks.old.items ≡ length kits.old.items }
+    requires long { (length passes.old.items ≡ length kits.old.items) × (length desks.old.items ≡ length kits.old.items) }
     requires none { workers.old.items ≡ [] }
     requires room { length kits.old.items ≤ vec_capacity workers.old }
     ensures kits { (kits.new.items ≡ []) × (map kit_of workers.new.items ≡ kits.old.items) }
     ensures passes { (passes.new.items ≡ []) × (map pass_of workers.new.items ≡ passes.old.items) }
-    ensures desks { map desk_of workers.new.items ≡ desks.old.items }
+    ensures desks { (desks.new.items ≡ []) × (map desk_of workers.new.items ≡ desks.old.items) }
     ensures room { (length workers.new.items ≤ vec_capacity kits.new) × (length workers.new.items ≤ vec_capacity passes.new) × (length workers.new.items ≤ vec_capacity desks.new) }
-    ensures empty { desks.new.items ≡ [] }
     ensures kept { vec_capacity kits.new ≡ vec_capacity kits.old }
 {
     while let Some(kit) = kits.pop() {

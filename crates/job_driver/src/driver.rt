@@ -63,6 +63,6 @@ where
 {
     let plan = JobPlan { jobs, config };
     let mut run = open_run(rt, alloc, plan, kits, workers)?;
-    work_all(rt, alloc, jobs, config, &run.cell, &mut run.crew);
+    work_all(rt, alloc, plan, &run.cell, &mut run.crew);
     Ok(close_run(rt, run, kits))
 }

@@ -1,12 +1,11 @@
 //! What a run of jobs has beside the jobs.
 ghost use Rattle.std.specs.Prelude.{◌≡◌, ◌+◌, ◌≤◌, ◌++◌, [], All, IfOk, OnErr, length, map, vec_capacity};
-ghost use Rattle.edge_traits.specs.Keepers.{IsIdle};
 ghost use Rattle.farm_cell.specs.Passes.{limits_of as limits_in, seen_of};
 ghost use Rattle.farm_machine.specs.Devices.{devices};
 ghost use Rattle.farm_machine.specs.Usable.{job_at, AreDoable, IsUsable};
 ghost use Rattle.job_driver.specs.Crews.{HasRoom, kit_of};
 ghost use Rattle.job_driver.specs.Driven.{JobsRan};
-ghost use Rattle.job_driver.specs.Runs.{AreDone, HasWorkedOff, IsOpen};
+ghost use Rattle.job_driver.specs.Runs.{AreDone, HasKits, HasWorkedOff, IsOpen};
 
 use crate::crew::{Desk, Worker, dismiss, gather, hire};
 use crate::driver::Built;
@@ -17,11 +16,13 @@ use farm_types::{JobConfig, Jobs};
 use std::alloc::{AllocError, Global};
 use std::sync::Wait;
 
-/// The jobs of a list, and how they are run.
+/// The jobs of a list, which can be done, and a usable configuration of how they are run.
 #[derive(Clone, Copy)]
 pub struct JobPlan<'a> {
     pub jobs: &'a Jobs,
     pub config: &'a JobConfig,
+    ghost doable: { AreDoable jobs.now },
+    ghost usable: { IsUsable config.now },
 }
 
 /// What a run of jobs has beside the jobs: the slots, workers that share them, the kits that no worker uses, and room to take the
@@ -56,12 +57,7 @@ pub fn open_run<R: Wait, D: Dialer + Drop, S: Station + Drop, K: Keeper + Drop, 
     kits: &mut Vec<Kit<D, S, K, C>>,
     workers: u32,
 ) -> Result<Run<D, S, K, C>, AllocError>
-    requires jobs { AreDoable plan.jobs.now }
-    requires config { IsUsable plan.config.now }
-    requires some { 1 ≤ workers }
-    requires kits { workers ≤ length kits.old.items }
-    requires most { length kits.old.items ≤ 16 }
-    requires idle { All (λ kit. IsIdle (K.shows kit.keeper)) kits.old.items }
+    requires kits { HasKits (devices D.shows S.shows K.shows C.shows D.may_give S.ran) workers kits.old.items }
     ensures opened { IfOk result (λ run. IsOpen (devices D.shows S.shows K.shows C.shows D.may_give S.ran)
         plan.entry.jobs.now plan.entry.config.now workers run) }
     ensures kits { IfOk result (λ run. (kits.new.items ≡ []) × (map kit_of run.crew.items ++ run.unused.items ≡ kits.old.items)) }

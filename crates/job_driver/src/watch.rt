@@ -1,15 +1,14 @@
 //! The watcher's part of a build, beside its workers.
-ghost use Rattle.std.specs.Prelude.{◌≡◌, ℕ, ◌^◌, ◌<◌, ◌≤◌, [], All, length, map, slice_index_or, vec_len};
+ghost use Rattle.std.specs.Prelude.{◌≡◌, ℕ, ◌<◌, ◌≤◌, [], All, length, map, slice_index_or, vec_len};
 ghost use Rattle.std.specs.Fork.{AcceptsEach, ChangesEach};
 ghost use Rattle.edge_traits.specs.Told.{Grew};
-ghost use Rattle.farm_machine.specs.Jobs.{AreLimitsOf};
 ghost use Rattle.farm_cell.specs.Passes.{limits_of};
 ghost use Rattle.farm_monitor.specs.Boards.{board_watched};
 ghost use Rattle.watch_lines.specs.Printed.{WatchLines};
-ghost use Rattle.job_driver.specs.Crews.{IsReady, HasWorked};
+ghost use Rattle.job_driver.specs.Crews.{AreReady, AreSlotsFor, IsReady, HasWorked};
 ghost use Rattle.farm_machine.specs.Devices.{devices};
-ghost use Rattle.farm_machine.specs.Usable.{job_at, AreDoable};
-ghost use Rattle.job_driver.specs.Watching.{worker_of, marker_of, board_marked, CalledEach, IsFor};
+ghost use Rattle.farm_machine.specs.Usable.{job_at};
+ghost use Rattle.job_driver.specs.Watching.{worker_of, marker_of, board_marked, AreBack, CalledEach, CanPrint, HasPrinted, HasWatched, IsFor};
 
 use crate::beside::{Marked, pair, unpair, work_marked};
 use crate::crew::Worker;
@@ -40,8 +39,7 @@ pub struct Beside<D, S, K, C> {
 impl<C: Clock> Watch<C> {
     /// Prints the lines of so many jobs.
     fn print<E: Sink>(&mut self, jobs: u32, err: &mut E) -> LineEnd
-        requires few { length self.old.watchers.items < 2 ^ 32 }
-        requires most { self.old.lines < 1000 }
+        requires can { CanPrint self.old }
         ensures watchers { map board_watched self.new.watchers.items ≡ map board_watched self.old.watchers.items }
         ensures paused { Grew (C.shows self.old.clock).moments (C.shows self.new.clock).moments [] }
         ensures printed { WatchLines jobs (length self.old.watchers.items) 1 self.old.lines 0 (E.shows err.old) (E.shows err.new) result }
@@ -82,8 +80,7 @@ fn call_beside<R: Threads + Sync, T: Send, F: Fn(usize, &mut T) + Sync, C: Clock
 ) -> LineEnd
     requires some { 0 < length crew.old.items }
     requires accepts { AcceptsEach F.Fn f.now crew.old.items }
-    requires few { length watch.old.watchers.items < 2 ^ 32 }
-    requires lines { watch.old.lines < 1000 }
+    requires can { CanPrint watch.old }
     ensures len { (vec_len crew.new ≡ vec_len crew.old) × (length crew.new.items ≡ length crew.old.items) }
     ensures each { ChangesEach F.Fn f.now crew.old.items crew.new.items }
     ensures watchers { map board_watched watch.new.watchers.items ≡ map board_watched watch.old.watchers.items }
@@ -123,32 +120,23 @@ pub fn work_and_watch<
 where
     D::Link: Send,
     requires some_workers { 0 < length crew.old.items }
-    requires jobs { AreDoable plan.jobs.now }
-    requires number { (limits_of cell.now).jobs ≡ length plan.jobs.now }
-    requires hosts { AreLimitsOf (limits_of cell.now) plan.config.now.hosts }
-    requires entries { length plan.config.now.hosts.list ≤ 16 }
-    requires some { 1 ≤ plan.config.now.tries }
-    requires tries { plan.config.now.tries ≤ 16 }
+    requires slots { AreSlotsFor plan.jobs.now plan.config.now (limits_of cell.now) }
     requires ready { All (λ marked. IsReady (devices D.shows S.shows K.shows C.shows D.may_give S.ran) cell.now (length plan.jobs.now) (worker_of marked)) crew.old.items }
-    requires few { length watch.old.watchers.items < 2 ^ 32 }
-    requires lines { watch.old.lines < 1000 }
+    requires can { CanPrint watch.old }
     ensures len { (vec_len crew.new ≡ vec_len crew.old) × (length crew.new.items ≡ length crew.old.items) }
     ensures each { (number : ℕ) (d : _) → number < length crew.old.items →
         HasWorked (devices D.shows S.shows K.shows C.shows D.may_give S.ran) cell.now (job_at plan.entry.jobs.now plan.entry.config.now) plan.entry.config.now.period
         (worker_of (slice_index_or crew.old.items number d)) (worker_of (slice_index_or crew.new.items number d)) }
     ensures boards { (number : ℕ) (d : _) → number < length crew.old.items →
         board_marked (marker_of (slice_index_or crew.new.items number d)) ≡ board_marked (marker_of (slice_index_or crew.old.items number d)) }
-    ensures watchers { map board_watched watch.new.watchers.items ≡ map board_watched watch.old.watchers.items }
-    ensures paused { Grew (L.shows watch.old.clock).moments (L.shows watch.new.clock).moments [] }
-    ensures printed { WatchLines (length plan.entry.jobs.now) (length watch.old.watchers.items) 1 watch.old.lines 0 (E.shows err.old) (E.shows err.new) result }
+    ensures printed { HasPrinted L.shows E.shows (length plan.entry.jobs.now) watch.old watch.new err.old err.new result }
 {
-    let JobPlan { jobs, config } = plan;
     call_beside(
         rt,
         crew,
-        &|_, marked| { work_marked(rt, alloc, jobs, config, cell, marked) },
+        &|_, marked| { work_marked(rt, alloc, plan, cell, marked) },
         watch,
-        jobs.len() as u32,
+        plan.jobs.len() as u32,
         err,
     )
 }
@@ -172,25 +160,16 @@ pub fn work_beside<
 ) -> LineEnd
 where
     D::Link: Send,
-    requires some_workers { 0 < length workers.old.items }
-    requires jobs { AreDoable plan.jobs.now }
-    requires number { (limits_of cell.now).jobs ≡ length plan.jobs.now }
-    requires hosts { AreLimitsOf (limits_of cell.now) plan.config.now.hosts }
-    requires entries { length plan.config.now.hosts.list ≤ 16 }
-    requires some { 1 ≤ plan.config.now.tries }
-    requires tries { plan.config.now.tries ≤ 16 }
-    requires ready { All (λ worker. IsReady (devices D.shows S.shows K.shows C.shows D.may_give S.ran) cell.now (length plan.jobs.now) worker) workers.old.items }
+    requires slots { AreSlotsFor plan.jobs.now plan.config.now (limits_of cell.now) }
+    requires ready { AreReady (devices D.shows S.shows K.shows C.shows D.may_give S.ran) cell.now (length plan.jobs.now) workers.old.items }
     requires few { length workers.old.items ≤ 16 }
     requires fits { IsFor (length workers.old.items) beside.old }
     ensures len { (vec_len workers.new ≡ vec_len workers.old) × (length workers.new.items ≡ length workers.old.items) }
     ensures each { (number : ℕ) (d : _) → number < length workers.old.items →
         HasWorked (devices D.shows S.shows K.shows C.shows D.may_give S.ran) cell.now (job_at plan.entry.jobs.now plan.entry.config.now) plan.entry.config.now.period
         (slice_index_or workers.old.items number d) (slice_index_or workers.new.items number d) }
-    ensures boards { map board_marked beside.new.markers.items ≡ map board_watched beside.new.watch.watchers.items }
-    ensures watchers { length beside.new.watch.watchers.items ≡ length workers.old.items }
-    ensures crew { beside.new.crew.items ≡ [] }
-    ensures paused { Grew (C.shows beside.old.watch.clock).moments (C.shows beside.new.watch.clock).moments [] }
-    ensures printed { WatchLines (length plan.entry.jobs.now) (length workers.old.items) 1 beside.old.watch.lines 0 (E.shows err.old) (E.shows err.new) result }
+    ensures back { AreBack beside.new }
+    ensures watched { HasWatched C.shows E.shows (length plan.entry.jobs.now) (length workers.old.items) beside.old beside.new err.old err.new result }
 {
     pair(workers, &mut beside.markers, &mut beside.crew);
     let end = work_and_watch(

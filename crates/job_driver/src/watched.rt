@@ -5,9 +5,9 @@ ghost use Rattle.farm_machine.specs.Jobs.{AreLimitsOf};
 ghost use Rattle.farm_cell.specs.Passes.{seen_of};
 ghost use Rattle.farm_monitor.specs.Boards.{board_watched};
 ghost use Rattle.farm_machine.specs.Devices.{devices};
-ghost use Rattle.job_driver.specs.Driven.{JobsRan};
+ghost use Rattle.job_driver.specs.Runs.{HasBuilt, HasKits};
 ghost use Rattle.farm_machine.specs.Usable.{job_at, AreDoable, IsUsable};
-ghost use Rattle.job_driver.specs.Watching.{board_marked, IsFor, HasWatched, AfterLines, WatchedRan, WatchPrinted};
+ghost use Rattle.job_driver.specs.Watching.{board_marked, AreBack, IsFor, HasWatched, AfterLines, WatchedRan, WatchPrinted};
 
 use crate::beside::Marked;
 use crate::boards::{end_boards, make_boards, tell_all};
@@ -51,24 +51,14 @@ fn build_beside<
 ) -> Result<(Built, LineEnd), AllocError>
 where
     D::Link: Send,
-    requires jobs { AreDoable plan.jobs.now }
-    requires config { IsUsable plan.config.now }
-    requires some { 1 ≤ workers }
-    requires kits { workers ≤ length kits.old.items }
-    requires most { length kits.old.items ≤ 16 }
-    requires idle { All (λ kit. IsIdle (K.shows kit.keeper)) kits.old.items }
+    requires kits { HasKits (devices D.shows S.shows K.shows C.shows D.may_give S.ran) workers kits.old.items }
     requires fits { IsFor workers beside.old }
-    ensures ran { IfOk result (λ made. JobsRan (devices D.shows S.shows K.shows C.shows D.may_give S.ran)
-        made.0.last.limits (job_at plan.entry.jobs.now plan.entry.config.now) plan.entry.config.now.period workers
-        made.0.reports (seen_of made.0.pass) made.0.last.state kits.old.items kits.new.items) }
-    ensures limits { IfOk result (λ made. AreLimitsOf made.0.last.limits plan.entry.config.now.hosts) }
-    ensures jobs { IfOk result (λ made. made.0.last.limits.jobs ≡ length plan.entry.jobs.now) }
-    ensures undone { OnErr result (kits.new.items ≡ kits.old.items) }
-    ensures same { OnErr result ((beside.new ≡ beside.old) × (err.new ≡ err.old)) }
+    ensures built { IfOk result (λ made. HasBuilt (devices D.shows S.shows K.shows C.shows D.may_give S.ran)
+        plan.entry.jobs.now plan.entry.config.now workers made.0 kits.old.items kits.new.items) }
+    ensures undone { OnErr result ((kits.new.items ≡ kits.old.items) × (beside.new ≡ beside.old) × (err.new ≡ err.old)) }
     ensures len { length kits.new.items ≡ length kits.old.items }
     ensures kept { vec_capacity kits.old ≤ vec_capacity kits.new }
-    ensures boards { map board_marked beside.new.markers.items ≡ map board_watched beside.new.watch.watchers.items }
-    ensures crew { beside.new.crew.items ≡ [] }
+    ensures back { AreBack beside.new }
     ensures watched { IfOk result (λ made. HasWatched C.shows E.shows (length plan.entry.jobs.now) workers beside.old beside.new err.old err.new made.1) }
 {
     let mut run = open_run(rt, alloc, plan, kits, workers)?;

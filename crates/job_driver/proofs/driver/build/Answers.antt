@@ -1,4 +1,4 @@
-use Rattle.std.proofs.Common.{refl}
+use Rattle.std.proofs.Common.{refl, arith}
 use Rattle.job_driver.proofs.Building.{done-of, ran-as}
 use Rattle.job_driver.proofs.driver.build.Goals as goal
 
@@ -9,6 +9,13 @@ close_run-requires-clause-done g c = record {
   before = c.in_ok-run.run'.crew.items;
   done = done-of c.requires.some c.in_ok-run.ensures.opened refl refl refl refl refl c.work_all.ensures.len.1 c.work_all.ensures.each;
 }
+
+pub work_all-requires-clause-ready : goal.work_all-requires-clause-ready
+work_all-requires-clause-ready g c κs within =
+    let opened = c.in_ok-run.ensures.opened in record {
+      some = let m = opened.many in let s = c.requires.some in omega (arith, m, s);
+      each = opened.ready;
+    }
 
 pub returns-clause-ran : goal.returns-clause-ran
 returns-clause-ran g c = ran-as c.in_ok-run.ensures.opened.many c.in_ok-run.ensures.kits.1

@@ -1,4 +1,4 @@
-use Rattle.std.proofs.Common.{◌≡◌, List, [], ◌++◌, length, map, reverse, sym, ap, ◌∙◌, subst, arith, rules}
+use Rattle.std.proofs.Common.{List, ◌++◌, length, map, reverse, sym, ap, ◌∙◌, subst, arith, rules}
 use Rattle.std.specs.List.{flat_map}
 use Rattle.std.proofs.lemmas.List.Sorted.{IsNonDecreasingBy-from_sort_by_key}
 use Rattle.slot_table.specs.declared.limits.Limits.{Limits}
@@ -27,7 +27,7 @@ gather-requires-clause-room g c =
     ap (λ (ds : List Desk). length (flat_map reports_on ds)) c.dismiss.ensures.desks
     ∙ flat-length reports_on (map desk_of c.args.run.crew.items)
     ∙ all-reported done c.dismiss.new.passes.items c.dismiss.ensures.passes (seen_of c.close-pass.result.1) closed.legal closed.callers
-    closed.each ∙ done.number in
+    closed.each ∙ done.slots.number in
     let room = done.room.for_reports in
     omega (arith, gathered, room)
 

@@ -1,4 +1,4 @@
-use Rattle.std.proofs.Common.{◌≡◌, ℕ, List, [], length, map, sym, ap, ◌∙◌, subst, arith}
+use Rattle.std.proofs.Common.{◌≡◌, ℕ, List, [], length, sym, ap, ◌∙◌, subst, arith}
 use Rattle.std.specs.Prelude.{All}
 use Rattle.std.proofs.lemmas.List.{length-map}
 use Rattle.std.proofs.lemmas.List.Elements.{All-take}
@@ -21,14 +21,14 @@ returns-clause-opened g c =
     let new = c.in_ok-cell.ensures in
     let d = devices g.D.Dialer.shows g.S.Station.shows g.K.Keeper.shows g.C.Clock.shows g.D.Dialer.may_give g.S.Station.ran in
     let many : length c.hire.new.workers.items ≡ c.args.workers =
-    sym (length-map c.hire.new.workers.items desk_of) ∙ ap length h.desks ∙ c.in_ok-desks.ensures.len in
+    sym (length-map c.hire.new.workers.items desk_of) ∙ ap length h.desks.1 ∙ c.in_ok-desks.ensures.len in
     let fresh : AreFresh d c.in_ok-cell.cell (length c.args.plan.jobs.now) c.hire.new.workers.items = record {
       passes = subst (AreAllOf c.in_ok-cell.cell) (sym h.passes.1) new.passes;
       blank = subst (λ (ps : List Pass). All (λ p. (seen_of p ≡ []) × (mine_of p ≡ [])) ps) (sym h.passes.1) new.blank;
-      desks = subst (λ (ds : List Desk). All (λ desk. HasRoom (length c.args.plan.jobs.now) desk) ds) (sym h.desks)
+      desks = subst (λ (ds : List Desk). All (λ desk. HasRoom (length c.args.plan.jobs.now) desk) ds) (sym h.desks.1)
           (subst (λ (n : ℕ). All (λ desk. HasRoom n desk) c.in_ok-desks.desks.items) c.len-jobs.ensures c.in_ok-desks.ensures.room);
       idle = subst (All (λ kit. IsIdle (g.K.Keeper.shows kit.keeper))) (sym (h.kits.1 ∙ c.in_ok-unused.ensures.items))
-          (All-take (λ kit. IsIdle (g.K.Keeper.shows kit.keeper)) c.args.workers c.args.kits.now.items c.requires.idle);
+          (All-take (λ kit. IsIdle (g.K.Keeper.shows kit.keeper)) c.args.workers c.args.kits.now.items c.requires.kits.idle);
     } in
     let number : c.in_ok-cell.cell.limits.jobs ≡ length c.args.plan.jobs.now = ap (λ (l : Limits 16). l.jobs) new.limits
     ∙ c.limits_of-limits.ensures.jobs ∙ c.len-jobs.ensures in
@@ -36,11 +36,13 @@ returns-clause-opened g c =
       many = many;
       fresh = fresh;
       ready = ready-all c.hire.new.workers.items fresh;
-      hosts = subst (λ (l : Limits 16). AreLimitsOf l c.args.plan.config.now.hosts) (sym new.limits) c.limits_of-limits.ensures.hosts;
-      number = number;
+      slots = record {
+        hosts = subst (λ (l : Limits 16). AreLimitsOf l c.args.plan.config.now.hosts) (sym new.limits) c.limits_of-limits.ensures.hosts;
+        number = number;
+      };
       room = record {
         passes = h.passes.0;
-        desks = h.empty;
+        desks = h.desks.0;
         reports = c.in_ok-reports.ensures.items;
         for_passes = h.room.1;
         for_desks = h.room.2;

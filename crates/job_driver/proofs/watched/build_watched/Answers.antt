@@ -33,7 +33,7 @@ returns-clause-ran g c =
     } in
     watched-ran d built.last.limits (job_at c.args.jobs.now c.args.config.now) c.args.config.now.period c.args.workers built.reports
     (seen_of built.pass) built.last.state c.pop.new.self.items c.build_beside-done.new.kits.items lender back
-    c.args.kits.now.items c.push.new.self.items c.in_ok-built.ensures.ran
+    c.args.kits.now.items c.push.new.self.items c.in_ok-built.ensures.built.ran
     (record {
       dialer = refl;
       station = refl;

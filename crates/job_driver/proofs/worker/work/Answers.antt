@@ -12,66 +12,71 @@ use Rattle.job_driver.proofs.worker.work.Goals as goal
 
 pub working-init : goal.working-init
 working-init g c = record {
-  works = works-none c.requires.none c.requires.blank;
-  few = few-none _ c.requires.none;
-  within = within-none _ _ c.requires.none;
+  works = works-none c.requires.begins.room.none c.requires.begins.blank;
+  few = few-none _ c.requires.begins.room.none;
+  within = within-none _ _ c.requires.begins.room.none;
   counted = counted-none _;
-  rooms = let r = c.requires.rooms in omega arith;
-  room = c.requires.room;
-  spare = λ alone. let s = c.requires.spare alone in omega (arith, s);
-  pending = c.requires.pending;
+  rooms = let r = c.requires.begins.room.rooms in omega arith;
+  room = c.requires.begins.room.room;
+  spare = λ alone. let s = c.requires.begins.spare alone in omega (arith, s);
+  pending = c.requires.begins.pending;
   back = search rules;
-  ready = c.requires.ready;
+  ready = c.requires.begins.ready;
   follows = g.met.G.Grants.follows_itself _;
-  marked = marked-none g.M.Marks.board g.M.Marks.all g.M.Marks.rows _ _ c.requires.none;
+  marked = marked-none g.M.Marks.board g.M.Marks.all g.M.Marks.rows _ _ c.requires.begins.room.none;
   peers = same_peers _;
   programs = same_programs _;
 }
 
-pub returns-in_default-clause-back : goal.returns-in_default-clause-back
-returns-in_default-clause-back g c = drawn-back _ c.draw.result _ _ c.draw.ensures.mine c.working.invariant.back
+pub returns-in_default-clause-finished : goal.returns-in_default-clause-finished
+returns-in_default-clause-finished g c =
+    let i = c.working.invariant in record {
+      ready = c.draw.ensures.ready;
+      follows = g.met.G.Grants.follows_on _ _ _ i.follows c.draw.ensures.follows;
+      back = drawn-back _ c.draw.result _ _ c.draw.ensures.mine i.back;
+      pending = i.pending;
+    }
 
 pub unreachable-requires : goal.unreachable-requires
 unreachable-requires g c =
     let i = c.working.invariant in
     let few = i.few c.in-Some-draw.job (report-later c.in-Some-draw.job i.works c.in-Some-draw.ensures.later) in
-    let below : c.in-Some-draw.job < length c.args.jobs.now = subst (λ (k : ℕ). c.in-Some-draw.job < k)
-    (ap (λ l. l.jobs) (g.met.G.Grants.limits_stay _ _ i.follows) ∙ c.requires.number) c.in-Some-draw.ensures.job in
+    let below : c.in-Some-draw.job < length c.args.plan.jobs.now = subst (λ (k : ℕ). c.in-Some-draw.job < k)
+    (ap (λ l. l.jobs) (g.met.G.Grants.limits_stay _ _ i.follows) ∙ c.requires.slots.number) c.in-Some-draw.ensures.job in
     let rooms = i.rooms in
-    let none : length c.working.rooms.items ≡ 0 = grind (arith, common_steps, c.in_default-pop.ensures.items) in
+    let none : length c.working.desk.rooms.items ≡ 0 = grind (arith, common_steps, c.in_default-pop.ensures.items) in
     omega (arith, few, below, rooms, none)
 
 pub run_job-report-requires-clause-job : goal.run_job-report-requires-clause-job
 run_job-report-requires-clause-job g c =
     let i = c.working.invariant in
     let drawn = g.met.G.Grants.follows_on _ _ _ i.follows c.in-Some-draw.ensures.follows in
-    let below : c.in-Some-draw.job < length c.args.jobs.now =
-    subst (λ (k : ℕ). c.in-Some-draw.job < k) (ap (λ l. l.jobs) (g.met.G.Grants.limits_stay _ _ i.follows) ∙ c.requires.number)
+    let below : c.in-Some-draw.job < length c.args.plan.jobs.now =
+    subst (λ (k : ℕ). c.in-Some-draw.job < k) (ap (λ l. l.jobs) (g.met.G.Grants.limits_stay _ _ i.follows) ∙ c.requires.slots.number)
     c.in-Some-draw.ensures.job in
+    let u = c.args.plan.usable in
     record {
-      word = word-found c.in-Some-draw.job c.as_slice.ensures c.index-as_slice-job.is below c.requires.jobs.words;
-      askable = record { entries = c.requires.entries; some = c.requires.some; tries = c.requires.tries };
-      hosts = subst (λ l. AreLimitsOf l c.args.config.now.hosts) (sym (g.met.G.Grants.limits_stay _ _ drawn)) c.requires.hosts;
+      word = word-found c.in-Some-draw.job c.as_slice.ensures c.index-as_slice-job.is below c.args.plan.doable.words;
+      askable = record { entries = u.hosts.few; some = u.some; tries = u.tries };
+      hosts = subst (λ l. AreLimitsOf l c.args.plan.config.now.hosts) (sym (g.met.G.Grants.limits_stay _ _ drawn)) c.requires.slots.hosts;
     }
 
 pub run_job-report-requires-clause-begins : goal.run_job-report-requires-clause-begins
 run_job-report-requires-clause-begins g c =
     let i = c.working.invariant in
     let few = i.few c.in-Some-draw.job (report-later c.in-Some-draw.job i.works c.in-Some-draw.ensures.later) in
-    let below : c.in-Some-draw.job < length c.args.jobs.now =
-    subst (λ (k : ℕ). c.in-Some-draw.job < k) (ap (λ l. l.jobs) (g.met.G.Grants.limits_stay _ _ i.follows) ∙ c.requires.number)
+    let below : c.in-Some-draw.job < length c.args.plan.jobs.now =
+    subst (λ (k : ℕ). c.in-Some-draw.job < k) (ap (λ l. l.jobs) (g.met.G.Grants.limits_stay _ _ i.follows) ∙ c.requires.slots.number)
     c.in-Some-draw.ensures.job in
     record {
       ready = c.in-Some-draw.ensures.ready;
-      spare = spare-enough _ (length c.args.jobs.now) (length c.working.reports.items) _ _ (omega (arith, few, below)) i.spare
+      spare = spare-enough _ (length c.args.plan.jobs.now) (length c.working.desk.reports.items) _ _ (omega (arith, few, below)) i.spare
           c.in-Some-draw.ensures.spare;
       none = drawn-back _ c.draw.result _ _ c.draw.ensures.mine i.back;
-      places = small-places _ c.working.reports.items (let most = c.requires.jobs.most in omega (arith, few, below, most)) i.counted;
+      places = small-places _ c.working.desk.reports.items (let most = c.args.plan.doable.most in omega (arith, few, below, most))
+          i.counted;
       pending = i.pending;
     }
-
-pub returns-in_default-clause-follows : goal.returns-in_default-clause-follows
-returns-in_default-clause-follows g c = g.met.G.Grants.follows_on _ _ _ c.working.invariant.follows c.draw.ensures.follows
 
 pub working-preserved : goal.working-preserved
 working-preserved g c =
@@ -81,28 +86,28 @@ working-preserved g c =
     let d = c.in-Some-draw.ensures in
     let drawn = g.met.G.Grants.follows_on _ _ _ i.follows d.follows in
     let later = report-later job i.works d.later in
-    let below : job < length c.args.jobs.now = subst (λ (k : ℕ). job < k)
-    (ap (λ l. l.jobs) (g.met.G.Grants.limits_stay _ _ i.follows) ∙ c.requires.number) d.job in
+    let below : job < length c.args.plan.jobs.now = subst (λ (k : ℕ). job < k)
+    (ap (λ l. l.jobs) (g.met.G.Grants.limits_stay _ _ i.follows) ∙ c.requires.slots.number) d.job in
     record {
       works = works-more c.run_job-report.result (g.met.G.Grants.limits_stay _ _ drawn) (g.met.G.Grants.caller_stays _ _ drawn)
-          (job-found job c.args.config.now c.as_slice.ensures c.index-as_slice-job.is below) refl
+          (job-found job c.args.plan.config.now c.as_slice.ensures c.index-as_slice-job.is below) refl
           (relation-then i.peers w.peers) (relation3-then i.programs w.programs)
           (drawn-as _ (g.met.G.Grants.caller_stays _ _ i.follows) c.in-Some-draw.is c.draw.ensures.mine) c.in-Ok.ensures.items
           w.number w.worker i.works w.ran;
       few = subst AreFew (sym c.in-Ok.ensures.items) (few-more _ _ job w.number i.few later);
-      within = subst (λ rs. All (λ number. number < length c.args.jobs.now) (numbers_of rs)) (sym c.in-Ok.ensures.items)
+      within = subst (λ rs. All (λ number. number < length c.args.plan.jobs.now) (numbers_of rs)) (sym c.in-Ok.ensures.items)
           (within-more _ _ _ job w.number below i.within);
-      counted = counted-more c.run_job-report.result c.in-Ok.ensures.items c.requires.some c.requires.tries i.counted w.ran;
+      counted = counted-more c.run_job-report.result c.in-Ok.ensures.items c.args.plan.usable.some c.args.plan.usable.tries i.counted w.ran;
       rooms = grind (arith, common_steps, c.in-Some-pop.ensures.items, c.in-Ok.ensures.items, i.rooms);
       room = let r = i.room in let k = c.push.ensures.capacity in omega (arith, r, k);
-      spare = spare-more _ (length c.args.jobs.now) (length c.working.reports.items) _ _ _ _
+      spare = spare-more _ (length c.args.plan.jobs.now) (length c.working.desk.reports.items) _ _ _ _
           (grind (arith, common_steps, c.in-Ok.ensures.items)) i.spare d.spare w.returned.spare;
       pending = w.returned.pending;
       back = w.returned.none;
       ready = w.returned.ready;
       follows = g.met.G.Grants.follows_on _ _ _ drawn w.returned.follows;
       marked = marked-more g.M.Marks.board g.M.Marks.all g.M.Marks.rows c.args.marks.now c.working.marks c.begin.new.self c.end.new.self
-          c.working.reports.items c.push.new.self.items c.run_job-report.result job i.marked
+          c.working.desk.reports.items c.push.new.self.items c.run_job-report.result job i.marked
           c.begin.ensures.board c.begin.ensures.added c.end.ensures.board c.end.ensures.added c.in-Ok.ensures.items w.number;
       peers = relation-then i.peers w.peers;
       programs = relation3-then i.programs w.programs;
@@ -112,9 +117,9 @@ pub unreachable-requires-in_default-push : goal.unreachable-requires-in_default-
 unreachable-requires-in_default-push g c =
     let i = c.working.invariant in
     let few = i.few c.in-Some-draw.job (report-later c.in-Some-draw.job i.works c.in-Some-draw.ensures.later) in
-    let below : c.in-Some-draw.job < length c.args.jobs.now = subst (λ (k : ℕ). c.in-Some-draw.job < k)
-    (ap (λ l. l.jobs) (g.met.G.Grants.limits_stay _ _ i.follows) ∙ c.requires.number) c.in-Some-draw.ensures.job in
+    let below : c.in-Some-draw.job < length c.args.plan.jobs.now = subst (λ (k : ℕ). c.in-Some-draw.job < k)
+    (ap (λ l. l.jobs) (g.met.G.Grants.limits_stay _ _ i.follows) ∙ c.requires.slots.number) c.in-Some-draw.ensures.job in
     let room = i.room in
     let full = c.in_default-push.ensures.full in
-    let k = c.working.reports.ok in
+    let k = c.working.desk.reports.ok in
     omega (arith, few, below, room, full, k)
