@@ -22,8 +22,8 @@ use std::thread::Threads;
 /// How many kits there are: the most workers.
 const KITS: usize = 16;
 
-/// How many milliseconds a pause lasts between two looks at how far a build has come; a line follows after 20 of them.
-const LOOK_MILLIS: u64 = 50;
+/// How many milliseconds a pause lasts between two looks at how far a build has come; a line follows after 100 of them.
+const LOOK_MILLIS: u64 = 10;
 
 /// The variable with the host list.
 const HOSTS: &str = "DISTCC_HOSTS";

@@ -26,7 +26,7 @@ fn print_line<E: Sink>(number: u32, jobs: u32, count: Count, err: &mut E) -> Lin
 }
 
 /// The pauses between two lines.
-const PAUSES: u32 = 20;
+const PAUSES: u32 = 100;
 
 // Pauses so many times, or until all jobs have ended.
 fn pause_on<C: Clock>(clock: &mut C, watchers: &mut [Watcher], jobs: u32, pauses: u32)
@@ -83,7 +83,7 @@ fn watch_on<C: Clock, E: Sink>(
 }
 
 /// Prints so many lines of what all boards show, or fewer where one says that all jobs have ended. Between two of them it pauses on the
-/// clock 20 times, or until all have ended. It ends early where the sink stops or wants memory. It waits for nobody, and takes no memory
+/// clock 100 times, or until all have ended. It ends early where the sink stops or wants memory. It waits for nobody, and takes no memory
 /// of its own.
 pub fn watch<C: Clock, E: Sink>(
     clock: &mut C,
