@@ -34,9 +34,9 @@ def hit(port, path):
     print(f"a hit on a source of 8 MiB, with its transfer: {cached:.1f} ms; sha256sum of it, with its start: {summed:.1f} ms; ratio {cached / summed:.2f}")
 
 
-def resident(process):
+def resident(process, kind="VmRSS"):
     with open(f"/proc/{process}/status", encoding="ascii") as file:
-        return next(int(line.split()[1]) for line in file if line.startswith("VmRSS"))
+        return next(int(line.split()[1]) for line in file if line.startswith(kind))
 
 
 def fill(port, count, process, name, sizes):
@@ -45,7 +45,8 @@ def fill(port, count, process, name, sizes):
     for number in range(count):
         body = b"int a;\n" * (choice.randint(least, most) // 7)
         assert exchange(port, request(b"// %d\n" % number + body)).startswith(b"DONE00000001STAT00000000")
-    print(f"{name}: {resident(process)} KiB resident behind {count} sources of {sizes} KiB")
+    own = resident(process, "RssAnon")
+    print(f"{name}: {resident(process)} KiB resident behind {count} sources of {sizes} KiB, of which {own} KiB aren't of files")
 
 
 if sys.argv[1] == "hit":

@@ -9,15 +9,20 @@ use std::alloc::{AllocError, Global};
 use std::process::Abort;
 use std::test::Fail;
 
-// How many bytes the outputs have, the object, and the source. A piece has 4,080 bytes.
+// How many bytes the outputs have, the object, and the source. A piece has 320 bytes, and
+// the numbers of 1,024 pieces are moved at once.
 const LENGTHS: &[(usize, usize, usize)] = &[
     (0, 0, 0),
-    (1, 0, 4_079),
-    (0, 4_080, 4_080),
-    (5, 4_081, 1),
-    (4_080, 8_160, 8_161),
+    (1, 0, 319),
+    (0, 320, 320),
+    (5, 321, 1),
+    (320, 640, 641),
     (3, 20_000, 50_000),
+    (0, 90_000, 240_000),
 ];
+
+/// So many runs of several sizes, of which the book below holds some ten.
+const CROWD: u8 = 60;
 
 const BOUNDS: Bounds = Bounds {
     out: 10_000,
@@ -34,25 +39,25 @@ fn pattern(alloc: Global, len: usize, first: usize) -> Result<Bytes, AllocError>
     Ok(bytes)
 }
 
-fn left(alloc: Global, lengths: (usize, usize, usize)) -> Result<Ran, AllocError> {
+fn left(alloc: Global, lengths: (usize, usize, usize), first: u8) -> Result<Ran, AllocError> {
+    let first = usize::from(first);
     Ok(Ran {
         status: 0,
-        out: pattern(alloc, lengths.0, 1)?,
-        err: pattern(alloc, lengths.0, 2)?,
-        object: pattern(alloc, lengths.1, 3)?,
+        out: pattern(alloc, lengths.0, first + 1)?,
+        err: pattern(alloc, lengths.0, first + 2)?,
+        object: pattern(alloc, lengths.1, first + 3)?,
     })
 }
 
-// One run leaves what each run of these lengths leaves.
+// A run leaves what is wanted.
 fn expect_left<R: Abort, S: Station>(
     rt: &R,
     alloc: Global,
     station: &mut S,
     words: &[Word],
     source: &Bytes,
-    lengths: (usize, usize, usize),
+    wanted: &Ran,
 ) -> Result<(), Fail> {
-    let wanted = left(alloc, lengths)?;
     let Ok(ran) = station.run(alloc, words, source.as_slice(), &BOUNDS) else {
         return Err(Fail::from(AllocError));
     };
@@ -63,28 +68,56 @@ fn expect_left<R: Abort, S: Station>(
     Ok(())
 }
 
-// A source, the same again, one that differs in its last byte, and one that is shorter by a byte.
-fn expect<R: Abort>(rt: &R, alloc: Global, lengths: (usize, usize, usize)) -> Result<(), Fail> {
+// The source with a last byte, the same again, with another last byte, without one, and the first again.
+fn expect_each<R: Abort, S: Station>(
+    rt: &R,
+    alloc: Global,
+    station: &mut S,
+    words: &[Word],
+    source: &mut Bytes,
+    wanted: &Ran,
+) -> Result<(), Fail> {
+    let len = source.len();
+    source.try_push(252)?;
+    expect_left(rt, alloc, station, words, source, wanted)?;
+    expect_left(rt, alloc, station, words, source, wanted)?;
+    source.truncate(len);
+    source.try_push(253)?;
+    expect_left(rt, alloc, station, words, source, wanted)?;
+    source.truncate(len);
+    expect_left(rt, alloc, station, words, source, wanted)?;
+    source.try_push(252)?;
+    expect_left(rt, alloc, station, words, source, wanted)
+}
+
+// What three runs of these lengths leave.
+fn three(alloc: Global, lengths: (usize, usize, usize)) -> Result<RanList, AllocError> {
     let mut rans = RanList::new(alloc);
     for _ in 0..3 {
-        rans.try_push(left(alloc, lengths)?)?;
+        rans.try_push(left(alloc, lengths, 0)?)?;
     }
+    Ok(rans)
+}
+
+// Runs of these lengths, on five sources in turn.
+fn expect<R: Abort>(rt: &R, alloc: Global, lengths: (usize, usize, usize)) -> Result<(), Fail> {
+    let words = words_of(alloc, COMPILE)?;
+    let wanted = left(alloc, lengths, 0)?;
+    let mut source = pattern(alloc, lengths.2, 4)?;
     let mut cached = CachedStation {
-        station: MemStation::new(rans, CallNumbers::new(alloc)),
+        station: MemStation::new(three(alloc, lengths)?, CallNumbers::new(alloc)),
         book: Book::new(alloc, 1_048_576),
     };
-    let words = words_of(alloc, COMPILE)?;
-    let mut source = pattern(alloc, lengths.2, 4)?;
-    source.try_push(252)?;
-    expect_left(rt, alloc, &mut cached, words.as_slice(), &source, lengths)?;
-    expect_left(rt, alloc, &mut cached, words.as_slice(), &source, lengths)?;
-    source.truncate(lengths.2);
-    source.try_push(253)?;
-    expect_left(rt, alloc, &mut cached, words.as_slice(), &source, lengths)?;
-    source.truncate(lengths.2);
-    expect_left(rt, alloc, &mut cached, words.as_slice(), &source, lengths)?;
+    expect_each(
+        rt,
+        alloc,
+        &mut cached,
+        words.as_slice(),
+        &mut source,
+        &wanted,
+    )?;
     let stats = cached.book.stats();
-    assert_eq!(rt; (stats.hits, stats.misses, stats.unkept), (1, 3, 0));
+    assert_eq!(rt; (stats.hits, stats.misses, stats.unkept), (2, 3, 0));
     Ok(())
 }
 
@@ -93,5 +126,75 @@ fn lengths(rt: HostRuntime) -> Result<(), Fail> {
     for lengths in LENGTHS {
         expect(&rt, rt.alloc(), *lengths)?;
     }
+    Ok(())
+}
+
+fn crowd_lengths(at: u8) -> (usize, usize, usize) {
+    let at = usize::from(at);
+    (at * 37 % 700, at * 61 % 1_500, at * 89 % 1_200)
+}
+
+// What the run of this number in the crowd is asked, and what it leaves.
+fn expect_crowd<R: Abort, S: Station>(
+    rt: &R,
+    alloc: Global,
+    station: &mut S,
+    words: &[Word],
+    at: u8,
+) -> Result<(), Fail> {
+    let lengths = crowd_lengths(at);
+    let mut source = pattern(alloc, lengths.2, usize::from(at))?;
+    source.try_push(at)?;
+    let wanted = left(alloc, lengths, at)?;
+    expect_left(rt, alloc, station, words, &source, &wanted)
+}
+
+// What the crowd's runs leave, one after another.
+fn crowd_left(alloc: Global) -> Result<RanList, AllocError> {
+    let mut rans = RanList::new(alloc);
+    for at in 0..CROWD {
+        rans.try_push(left(alloc, crowd_lengths(at), at)?)?;
+    }
+    Ok(rans)
+}
+
+// Asks for a run of the crowd, and for two of those before it.
+fn expect_around<R: Abort, S: Station>(
+    rt: &R,
+    alloc: Global,
+    station: &mut S,
+    words: &[Word],
+    at: u8,
+) -> Result<(), Fail> {
+    for back in [0, 1, 3] {
+        expect_crowd(rt, alloc, station, words, at.saturating_sub(back))?;
+    }
+    Ok(())
+}
+
+// Asks so for all of them.
+fn expect_all<R: Abort, S: Station>(
+    rt: &R,
+    alloc: Global,
+    station: &mut S,
+    words: &[Word],
+) -> Result<(), Fail> {
+    for at in 0..CROWD {
+        expect_around(rt, alloc, station, words, at)?;
+    }
+    Ok(())
+}
+
+#[test]
+fn crowd(rt: HostRuntime) -> Result<(), Fail> {
+    let alloc = rt.alloc();
+    let words = words_of(alloc, COMPILE)?;
+    let mut cached = CachedStation {
+        station: MemStation::new(crowd_left(alloc)?, CallNumbers::new(alloc)),
+        book: Book::new(alloc, 24_576),
+    };
+    expect_all(&rt, alloc, &mut cached, words.as_slice())?;
+    let stats = cached.book.stats();
+    assert_eq!(rt; (stats.hits, stats.misses, stats.unkept), (120, 60, 0));
     Ok(())
 }

@@ -1,9 +1,9 @@
 -- Bytes in pieces, read from the front.
-use Rattle.std.proofs.Common.{◌≡◌, ℕ, ◌+◌, ◌-◌, ◌<◌, ◌≤◌, List, [], ◌∷◌, ◌++◌, length, take, drop, refl, sym, ◌∙◌, ap, arith, append_assoc}
+use Rattle.std.proofs.Common.{◌≡◌, ℕ, ◌+◌, ◌-◌, ◌<◌, ◌≤◌, List, [], ◌∷◌, ◌++◌, length, get_or, take, drop, refl, sym, ◌∙◌, ap, arith, append_assoc}
 use Rattle.std.specs.Prelude.{true, false, ◌&&◌, Bool, not}
 use Rattle.std.specs.List.{concat}
 use Rattle.std.specs.Str.{bytes_eq}
-use Rattle.std.proofs.lemmas.List.{append-nil, length-drop, length-take-le, take-append-drop, take_all}
+use Rattle.std.proofs.lemmas.List.{append-nil, length-append, drop-drop, length-drop, length-take-le, take-append-drop, take_all}
 use Rattle.std.proofs.Math.Seq.{take-append-add, drop-append-add}
 
 pub concat_more : (xs : List (List ℕ)) (x : List ℕ) → concat (xs ++ x ∷ []) ≡ concat xs ++ x
@@ -20,6 +20,30 @@ pub take_piece : (piece rest : List ℕ) (n : ℕ) → length piece ≤ n → ta
 take_piece piece rest n le =
     let e : n ≡ length piece + (n - length piece) = omega (arith, le) in
     ap (λ k. take k (piece ++ rest)) e ∙ take-append-add piece rest (n - length piece)
+
+pub next_piece : (left : ℕ) (first piece front rest whole : List ℕ) → first ≡ piece ++ front → first ++ rest ≡ whole → length piece ≤ left
+    → take left whole ≡ piece ++ take (left - length piece) (front ++ rest)
+next_piece left first piece front rest whole first_is whole_is le =
+    ap (take left) (sym whole_is ∙ ap (λ xs. xs ++ rest) first_is ∙ append_assoc piece front rest)
+    ∙ take_piece piece (front ++ rest) left le
+
+-- a list is its first item and the others
+pub first_rest : {X : Type 0} (xs : List X) (x : X) → 1 ≤ length xs → x ≡ get_or xs 0 x → xs ≡ x ∷ take (length xs - 1) (drop 1 xs)
+first_rest [] x some is = absurd (omega (arith, some))
+first_rest (y ∷ xs) x some is =
+    let all : take (length (y ∷ xs) - 1) xs ≡ xs = take_all (length (y ∷ xs) - 1) xs (omega arith) in
+    ap (λ z. z ∷ xs) (sym is) ∙ ap (λ zs. x ∷ zs) (sym all)
+
+-- two texts match one after the other where both together do
+pub both_match : (a b text : List ℕ)
+    → bytes_eq (take (length (a ++ b)) text) (a ++ b) ≡ (bytes_eq (take (length a) text) a && bytes_eq (take (length b) (drop
+    (length a) text)) b)
+both_match [] b text = refl
+both_match (x ∷ a) b [] = refl
+both_match (x ∷ a) b (y ∷ text) = grind (arith, both_match a b text)
+
+pub both_left : (a b text : List ℕ) → drop (length (a ++ b)) text ≡ drop (length b) (drop (length a) text)
+both_left a b text = ap (λ n. drop n text) (length-append a b) ∙ sym (drop-drop (length b) (length a) text)
 
 pub bytes_piece : (piece a front b : List ℕ) → length piece ≡ length front → bytes_eq (piece ++ a) (front ++ b) ≡
     (bytes_eq piece front && bytes_eq a b)

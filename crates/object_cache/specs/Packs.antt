@@ -1,54 +1,73 @@
--- An entry, as it is kept: the shape of each word, and one text of all bytes.
-use Rattle.std.specs.Prelude.{ℕ, ◌+◌, List, [], ◌∷◌, length, take, drop}
+-- An entry, as it is kept: numbers, and one text of both outputs, the object, the coded words and the input.
+use Rattle.std.specs.Prelude.{ℕ, List, [], ◌∷◌, ◌++◌, length, take, drop, zero, suc}
+use Rattle.std.specs.Int.{w32, to_be_bytes, from_be_bytes}
+use Rattle.std.specs.List.{flat_map}
+use Rattle.farm_types.specs.declared.placed.Ext.TheVariants.{I, Ii}
 use Rattle.farm_types.specs.declared.placed.Word.{Word}
 use Rattle.farm_types.specs.declared.placed.Word.TheVariants.{Text, Input, Output}
-use Rattle.object_cache.specs.declared.shape.Shape.{Shape}
-use Rattle.object_cache.specs.declared.shape.Shape.TheVariants.{Sized, Source, Target}
 use Rattle.object_cache.specs.Entries.{Entry}
 
--- the shape of a word, and its bytes
-abbrev pub shape_of : Word → Shape
-shape_of (Text bytes) = Sized (length bytes)
-shape_of (Input ext) = Source ext
-shape_of Output = Target
+-- the bytes of a length, as it is kept, and the length in front of a text
+unfoldable pub len_bytes : ℕ → List ℕ
+len_bytes len = to_be_bytes w32 len
+
+unfoldable pub len_in : List ℕ → ℕ
+len_in text = from_be_bytes w32 (take 4 text)
+
+-- a word, as it is kept: its kind, and the bytes of a text behind their length
+abbrev pub head_of : Word → List ℕ
+head_of (Text bytes) = 0 ∷ len_bytes (length bytes)
+head_of (Input I) = 1 ∷ []
+head_of (Input Ii) = 2 ∷ []
+head_of Output = 3 ∷ []
 
 abbrev pub bytes_of : Word → List ℕ
 bytes_of (Text bytes) = bytes
 bytes_of (Input ext) = []
 bytes_of Output = []
 
--- how many bytes are of a word of this shape
-abbrev pub shape_len : Shape → ℕ
-shape_len (Sized len) = len
-shape_len (Source ext) = 0
-shape_len Target = 0
+abbrev pub coded : Word → List ℕ
+coded word = head_of word ++ bytes_of word
 
-abbrev pub shapes_len : List Shape → ℕ
-shapes_len [] = 0
-shapes_len (shape ∷ shapes) = shape_len shape + shapes_len shapes
+-- the word in front of a text of coded words, and what stands behind it
+abbrev pub word_in : List ℕ → Word
+word_in [] = Output
+word_in (zero ∷ rest) = Text (take (len_in rest) (drop 4 rest))
+word_in (suc zero ∷ rest) = Input I
+word_in (suc (suc zero) ∷ rest) = Input Ii
+word_in (suc (suc (suc kind)) ∷ rest) = Output
 
--- the word of this shape in front of a text, and the words of these shapes
-abbrev pub word_in : Shape → List ℕ → Word
-word_in (Sized len) text = Text (take len text)
-word_in (Source ext) text = Input ext
-word_in Target text = Output
+abbrev pub behind_word : List ℕ → List ℕ
+behind_word [] = []
+behind_word (zero ∷ rest) = drop (len_in rest) (drop 4 rest)
+behind_word (suc kind ∷ rest) = rest
 
-abbrev pub words_in : List Shape → List ℕ → List Word
-words_in [] text = []
-words_in (shape ∷ shapes) text = word_in shape text ∷ words_in shapes (drop (shape_len shape) text)
+-- so many words in front of a text, and what stands behind them
+unfoldable pub words_in : ℕ → List ℕ → List Word
+words_in zero text = []
+words_in (suc count) text = word_in text ∷ words_in count (behind_word text)
 
--- the text has both outputs and the object, of these lengths, and then the bytes of the words, and the input
-abbrev pub unpacked : List Shape → ℕ → ℕ → ℕ → ℕ → List ℕ → Entry
-unpacked shapes status out err object text =
-    let behind = drop object (drop err (drop out text)) in
-    record {
-      words = words_in shapes behind;
-      input = drop (shapes_len shapes) behind;
-      ran = record {
-        status = status;
-        out = take out text;
-        err = take err (drop out text);
-        object = take object
-            (drop err (drop out text));
-      };
-    }
+unfoldable pub behind_words : ℕ → List ℕ → List ℕ
+behind_words zero text = text
+behind_words (suc count) text = behind_words count (behind_word text)
+
+-- the text of an entry
+abbrev pub packed : Entry → List ℕ
+packed entry = (((entry.ran.out ++ entry.ran.err) ++ entry.ran.object) ++ flat_map coded entry.words) ++ entry.input
+
+-- what stands behind both outputs and the object, of these lengths
+abbrev pub behind_ran : ℕ → ℕ → ℕ → List ℕ → List ℕ
+behind_ran out err object text = drop object (drop err (drop out text))
+
+-- the entry of a text with so many words, whose outputs and object have these lengths
+abbrev pub unpacked : ℕ → ℕ → ℕ → ℕ → ℕ → List ℕ → Entry
+unpacked words status out err object text = record {
+  words = words_in words (behind_ran out err object text);
+  input = behind_words words (behind_ran out err object text);
+  ran = record {
+    status = status;
+    out = take out text;
+    err = take err (drop out text);
+    object = take object (drop err (drop out text));
+  };
+}

@@ -1,10 +1,11 @@
-//! Bytes in pieces, read from the front.
+//! The bytes of an entry, read from the front.
 
 ghost use Rattle.std.specs.Prelude.{◌≡◌, ◌++◌, ◌<◌, ◌≤◌, length, take, drop, IfOk, IsTrue};
 ghost use Rattle.std.specs.List.{concat};
 ghost use Rattle.std.specs.Str.{bytes_eq};
+ghost use Rattle.object_cache.specs.Pieces.{in_order};
 
-use crate::pieces::Pieces;
+use crate::order::{Piece, piece_at};
 use farm_types::Bytes;
 use std::alloc::{AllocError, Global};
 use std::marker::Model;
@@ -13,30 +14,33 @@ use std::marker::Model;
 #[derive(Drop)]
 pub(crate) struct Cursor<'a> {
     front: &'a [u8],
-    rest: &'a [Bytes],
+    rest: &'a [u32],
+    block: &'a [Piece],
+    left: usize,
 }
 
 impl<'a> Model for Cursor<'a> {
-    ghost use Rattle.std.specs.Prelude.{ℕ, List, ◌++◌};
+    ghost use Rattle.std.specs.Prelude.{ℕ, List, ◌++◌, take};
     ghost use Rattle.std.specs.List.{concat};
+    ghost use Rattle.object_cache.specs.Pieces.{in_order};
 
     ghost Value = { List ℕ };
 
-    ghost view = { λ c. c.front.now ++ concat c.rest.now };
+    ghost view = { λ c. take c.left (c.front.now ++ concat (in_order c.block.now c.rest.now)) };
 }
 
 // The first of these that has bytes, and those behind it.
-fn first_piece<'a>(front: &'a [u8], rest: &'a [Bytes]) -> (&'a [u8], &'a [Bytes])
-    ensures whole { result.0.now ++ concat result.1.now ≡ front.now ++ concat rest.now }
-    ensures some { 0 < length (front.now ++ concat rest.now) → 0 < length result.0.now }
+fn first_piece<'a>(front: &'a [u8], rest: &'a [u32], block: &'a [Piece]) -> (&'a [u8], &'a [u32])
+    ensures whole { result.0.now ++ concat (in_order block.now result.1.now) ≡ front.now ++ concat (in_order block.now rest.now) }
+    ensures some { 0 < length (front.now ++ concat (in_order block.now rest.now)) → 0 < length result.0.now }
 {
     let mut first = front;
     let mut others = rest;
     'turning: while first.is_empty() {
-        let [piece, after @ ..] = others else {
+        let [place, after @ ..] = others else {
             return (first, others);
         };
-        first = piece.as_slice();
+        first = piece_at(block, *place);
         others = after;
     }
     (first, others)
@@ -44,15 +48,19 @@ fn first_piece<'a>(front: &'a [u8], rest: &'a [Bytes]) -> (&'a [u8], &'a [Bytes]
 
 impl<'a> Cursor<'a> {
     ghost use Rattle.std.specs.Prelude.{◌≡◌, ◌++◌, ◌<◌, ◌≤◌, ℕ, length, take, drop, IfOk, IsTrue};
+    ghost use Rattle.std.specs.List.{concat};
     ghost use Rattle.std.specs.Str.{bytes_eq};
+    ghost use Rattle.object_cache.specs.Pieces.{in_order};
 
-    /// All bytes of some pieces.
-    pub(crate) fn new(pieces: &'a Pieces) -> Cursor<'a>
-        ensures { result ≡ pieces.now }
+    /// So many bytes of the pieces at these places of a block, or all of them.
+    pub(crate) fn new(block: &'a [Piece], places: &'a [u32], len: usize) -> Cursor<'a>
+        ensures { result ≡ take len (concat (in_order block.now places.now)) }
     {
         Cursor {
             front: &[],
-            rest: pieces.stored.as_slice(),
+            rest: places,
+            block,
+            left: len,
         }
     }
 
@@ -63,10 +71,11 @@ impl<'a> Cursor<'a> {
         ensures most { length result.now ≤ most }
         ensures some { 0 < length self.old → 0 < length result.now }
     {
-        let (first, rest) = first_piece(self.front, self.rest);
-        let (piece, front) = first.split_at(first.len().min(most));
+        let (first, rest) = first_piece(self.front, self.rest, self.block);
+        let (piece, front) = first.split_at(first.len().min(most).min(self.left));
         self.front = front;
         self.rest = rest;
+        self.left -= piece.len();
         piece
     }
 
