@@ -4,3 +4,4 @@ pub mod LineLemmas
 pub mod DatabaseLemmas
 pub mod Telling
 pub mod Listed
+pub mod WordReading

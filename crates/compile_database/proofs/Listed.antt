@@ -1,5 +1,5 @@
 -- How a text was listed, and an input read.
-use Rattle.std.proofs.Common.{◌≡◌, ℕ, List, Some, None, Err, refl, subst, inl, inr}
+use Rattle.std.proofs.Common.{◌≡◌, ℕ, List, Some, None, refl, subst, inl, inr}
 use Rattle.edge_traits.specs.Sources.{SourceView}
 use Rattle.stream_print.specs.Prints.{SinksView}
 use Rattle.compile_database.specs.declared.fault.DatabaseFault.{DatabaseFault}
@@ -8,7 +8,7 @@ use Rattle.compile_database.specs.Choices.{Choice}
 use Rattle.compile_database.specs.Databases.{FaultStands}
 use Rattle.compile_database.specs.Programs.{Listed, faulty_text, unlisted, Does, told, bad_words, unheard}
 use Rattle.compile_database.specs.Helps.{asked, text_of}
-use Rattle.compile_database.specs.Words.{said}
+use Rattle.compile_database.specs.Words.{BadWordsAt}
 use Rattle.compile_database.specs.Refusals.{FaultRefused, ToldOrWanted, WordsRefused}
 use Rattle.compile_database.proofs.Telling.{told_by}
 
@@ -27,6 +27,6 @@ heard ask is same (inl printed) = told ask is refl (told_by same printed)
 heard ask is same (inr wanted) = unheard refl wanted
 
 -- words were refused
-pub misheard : {words : List (List ℕ)} {view : SourceView} {old new : SinksView} {answer : ℕ} (place : ℕ) → asked words ≡ None → said words ≡ Err place → WordsRefused place old new answer → Does words view view old new answer
+pub misheard : {words : List (List ℕ)} {view : SourceView} {old new : SinksView} {answer : ℕ} (place : ℕ) → asked words ≡ None → BadWordsAt words place → WordsRefused place old new answer → Does words view view old new answer
 misheard place none is (inl printed) = bad_words place none is refl printed
 misheard place none is (inr wanted) = unheard refl wanted

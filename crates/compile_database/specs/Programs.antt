@@ -1,20 +1,20 @@
 -- What `farm_jobs` does.
-use Rattle.std.specs.Prelude.{◌≡◌, ◌<◌, ℕ, List, [], ◌∷◌, ◌++◌, length, codes, None, Some, Err}
+use Rattle.std.specs.Prelude.{◌≡◌, ◌<◌, ℕ, List, [], ◌∷◌, ◌++◌, length, codes, None, Some}
 use Rattle.std.specs.Fmt.{decimal}
 use Rattle.edge_traits.specs.Causes.{Still}
 use Rattle.edge_traits.specs.Sources.{SourceView}
-use Rattle.input_read.specs.Reads.{AllRead, ReadTo, BrokeOff, HasReadSome}
+use Rattle.stream_print.specs.Reads.{AllRead, ReadTo, BrokeOff, HasReadSome}
 use Rattle.stream_print.specs.declared.pieces.SinkKind.TheVariants.{Out}
 use Rattle.stream_print.specs.declared.pieces.Piece.{Piece}
 use Rattle.stream_print.specs.Prints.{SinksView}
-use Rattle.stream_print.specs.Ends.{Ends, WantOf, complaint}
+use Rattle.stream_print.specs.Printing.{Printing, WantOf, complaint}
 use Rattle.compile_database.specs.declared.fault.DatabaseFault.{DatabaseFault}
 use Rattle.compile_database.specs.declared.help.Ask.{Ask}
 use Rattle.compile_database.specs.Choices.{Choice}
 use Rattle.compile_database.specs.Databases.{FaultStands, ListOf}
 use Rattle.compile_database.specs.Faults.{fault_text}
 use Rattle.compile_database.specs.Helps.{asked, text_of}
-use Rattle.compile_database.specs.Words.{Chooses, said}
+use Rattle.compile_database.specs.Words.{BadWordsAt, Chooses}
 
 -- ---- the texts
 
@@ -42,11 +42,11 @@ output text = record { sink = Out; bytes = text }
 
 -- the text was printed, or printing stopped, or memory was wanting
 abbrev pub Told : List ℕ → SinksView → SinksView → ℕ → Type 0
-Told text sinks sinks_now answer = Ends no_memory_text (output text ∷ []) 0 sinks sinks_now answer
+Told text sinks sinks_now answer = Printing no_memory_text (output text ∷ []) 0 sinks sinks_now answer
 
 -- this refusal was printed, or printing stopped, or memory was wanting
 abbrev pub Refused : List ℕ → ℕ → SinksView → SinksView → ℕ → Type 0
-Refused message status sinks sinks_now answer = Ends no_memory_text (complaint message ∷ []) status sinks sinks_now answer
+Refused message status sinks sinks_now answer = Printing no_memory_text (complaint message ∷ []) status sinks sinks_now answer
 
 -- memory was wanting before anything was printed
 abbrev pub Wanted : SinksView → SinksView → ℕ → Type 0
@@ -70,6 +70,6 @@ pub data Reads (choice : Choice) (old new : SourceView) (sinks sinks_now : Sinks
 -- wanting, and nothing was read.
 pub data Does (words : List (List ℕ)) (old new : SourceView) (sinks sinks_now : SinksView) (answer : ℕ) : Type 0 where
   told : (ask : Ask) → asked words ≡ Some ask → new ≡ old → Told (text_of ask) sinks sinks_now answer → Does words old new sinks sinks_now answer
-  bad_words : (place : ℕ) → asked words ≡ None → said words ≡ Err place → new ≡ old → Refused (bad_words_text place) 101 sinks sinks_now answer → Does words old new sinks sinks_now answer
-  listed : (choice : Choice) → asked words ≡ None → Chooses (said words) choice → Reads choice old new sinks sinks_now answer → Does words old new sinks sinks_now answer
+  bad_words : (place : ℕ) → asked words ≡ None → BadWordsAt words place → new ≡ old → Refused (bad_words_text place) 101 sinks sinks_now answer → Does words old new sinks sinks_now answer
+  listed : (choice : Choice) → asked words ≡ None → Chooses words choice → Reads choice old new sinks sinks_now answer → Does words old new sinks sinks_now answer
   unheard : new ≡ old → Wanted sinks sinks_now answer → Does words old new sinks sinks_now answer

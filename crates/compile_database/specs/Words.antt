@@ -1,5 +1,10 @@
 -- The words of `farm_jobs`.
-use Rattle.std.specs.Prelude.{◌≡◌, ℕ, ◌+◌, ◌*◌, ◌-◌, List, [], ◌∷◌, length, codes, bytes_eq, nat_lt, nat_le, Bool, false, ◌&&◌, ◌||◌, ◌==◌, if◌then◌else◌, Option, Some, None, is_some, unwrap_or, Result, Ok, Err}
+use Rattle.std.specs.Prelude.{◌≡◌, ℕ, ◌+◌, ◌*◌, ◌-◌, List, [], ◌∷◌, length, codes, bytes_eq, nat_lt, nat_le, Bool, true, false, ◌&&◌, ◌||◌, ◌==◌, if◌then◌else◌, Option, Some, None, is_some, unwrap_or, Result, Ok, Err}
+use Rattle.std.specs.Option.{option_and_then}
+use Rattle.option_words.specs.declared.table.Row.{Row}
+use Rattle.option_words.specs.Items.{Item, value_in}
+use Rattle.option_words.specs.Tables.{Table}
+use Rattle.option_words.specs.Readings.{AreOptions, BadOptionAt}
 use Rattle.compile_database.specs.declared.options.OptionName.{OptionName}
 use Rattle.compile_database.specs.declared.options.OptionName.TheVariants.{Folder, From, Count}
 use Rattle.compile_database.specs.Choices.{Choice}
@@ -43,9 +48,7 @@ pub record Given : Type 0 where
   pub from : Option ℕ
   pub count : Option ℕ
 
-abbrev pub nothing : Given
-nothing = record { folder = None; from = None; count = None }
-
+-- the option that a word names
 abbrev pub option_of : List ℕ → Option OptionName
 option_of word =
     if bytes_eq word (codes "--folder") then Some Folder
@@ -53,54 +56,46 @@ option_of word =
     else if bytes_eq word (codes "--count") then Some Count
     else None
 
--- whether an option stood already
-abbrev pub is_given : Given → OptionName → Bool
-is_given given Folder = is_some given.folder
-is_given given From = is_some given.from
-is_given given Count = is_some given.count
+-- what is known of an option: each has a value, and stands at most once
+abbrev pub row_of : Option OptionName → Option Row
+row_of None = None
+row_of (Some name) = Some (record { takes_value = true; repeats = false })
 
--- an option that may stand next
-abbrev pub next_option : Given → Option OptionName → Option OptionName
-next_option given (Some name) = if is_given given name then None else Some name
-next_option given None = None
+-- the word may be the value of this option
+abbrev pub value_fits : Option OptionName → List ℕ → Bool
+value_fits (Some Folder) word = true
+value_fits (Some From) word = is_some (number_of word)
+value_fits (Some Count) word = is_some (count_of word)
+value_fits None word = false
 
-abbrev pub with_number : (ℕ → Given) → Option ℕ → Option Given
-with_number make (Some n) = Some (make n)
-with_number make None = None
+-- the options of `farm_jobs`
+abbrev pub options : Table
+options = record {
+  known = λ word. row_of (option_of word);
+  Fits = λ before name value. value_fits (option_of name) value ≡ true;
+}
 
--- what is said with this value of an option
-abbrev pub with_value : Given → OptionName → List ℕ → Option Given
-with_value given Folder word = Some (record given { folder = Some word })
-with_value given From word = with_number (λ n. record given { from = Some n }) (number_of word)
-with_value given Count word = with_number (λ n. record given { count = Some n }) (count_of word)
-
--- what is said next, where this option stands at a place, and else the place
-abbrev pub with_option : Option OptionName → ℕ → (OptionName → Result Given ℕ) → Result Given ℕ
-with_option (Some name) at next = next name
-with_option None at next = Err at
-
--- what is said next, where this much is said at a place, and else the place
-abbrev pub with_more : Option Given → ℕ → (Given → Result Given ℕ) → Result Given ℕ
-with_more (Some more) at next = next more
-with_more None at next = Err at
-
--- What the words say that follow these options, where the first of them stands at this place, and is the value of an option
--- where one is given. Err is the place of the first word that doesn't fit; that of a missing word is behind the last.
-abbrev pub said_from : Given → Option OptionName → ℕ → List (List ℕ) → Result Given ℕ
-said_from given None at [] = Ok given
-said_from given (Some name) at [] = Err at
-said_from given None at (w ∷ ws) = with_option (next_option given (option_of w)) at (λ name. said_from given (Some name) (at + 1) ws)
-said_from given (Some name) at (w ∷ ws) = with_more (with_value given name w) at (λ more. said_from more None (at + 1) ws)
-
--- what options say
-abbrev pub said : List (List ℕ) → Result Given ℕ
-said words = said_from nothing None 0 words
+-- what these options say
+abbrev pub given_by : List Item → Given
+given_by items = record {
+  folder = value_in (codes "--folder") items;
+  from = option_and_then number_of (value_in (codes "--from") items);
+  count = option_and_then count_of (value_in (codes "--count") items);
+}
 
 -- the entries that are taken by these options: from the first on, where nothing else is said
 abbrev pub choice_by : Given → Choice
 choice_by given = record { folder = given.folder; from = unwrap_or given.from 0; count = given.count }
 
--- the words say that these entries are taken
-abbrev pub Chooses : Result Given ℕ → Choice → Type 0
-Chooses (Ok given) choice = choice ≡ choice_by given
-Chooses (Err place) choice = ⊥
+-- the words are options, and say that these entries are taken
+abbrev pub Chooses : List (List ℕ) → Choice → Type 0
+Chooses words choice = (items : List Item) × AreOptions options words items × (choice ≡ choice_by (given_by items))
+
+-- the words are no options, and this is the place, from 0, of the first that doesn't fit; that of a missing word is behind the last
+abbrev pub BadWordsAt : List (List ℕ) → ℕ → Type 0
+BadWordsAt words place = BadOptionAt options words place
+
+-- the entries that words take, or the place of the first word that doesn't fit
+abbrev pub WordsRead : List (List ℕ) → Result Choice ℕ → Type 0
+WordsRead words (Ok choice) = Chooses words choice
+WordsRead words (Err place) = BadWordsAt words place

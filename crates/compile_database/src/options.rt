@@ -1,12 +1,16 @@
 //! The words of `farm_jobs`.
 
-ghost use Rattle.std.specs.Prelude.{◌≡◌, ◌≤◌, map, string_bytes, IfOk, IfErr, IfSome, option_map, Ok, Err};
+ghost use Rattle.std.specs.Prelude.{◌≡◌, ◌≤◌, List, map, string_bytes, IfOk, IfErr, IfSome};
+ghost use Rattle.std.specs.Option.{option_and_then, option_copied};
+ghost use Rattle.option_words.specs.Items.{Item};
+ghost use Rattle.option_words.specs.Readings.{AreOptions};
 ghost use Rattle.compile_database.specs.Words as words;
-ghost use Rattle.compile_database.specs.Words.{Chooses, count_of, is_given, next_option, nothing, number_of, option_of, said, said_from, with_value};
+ghost use Rattle.compile_database.specs.Words.{BadWordsAt, Chooses, count_of, given_by, number_of, option_of, options, row_of, value_fits};
 ghost use Rattle.compile_database.specs.Selections.{choice_of, given};
 
 use crate::choice::Selection;
 use farm_types::limits::JOBS_MAX;
+use option_words::{OptionTable, Row, check_options, value_of};
 
 /// An option of `farm_jobs`.
 #[derive(Clone, Copy, Debug, PartialEq, Eq, Drop)]
@@ -67,6 +71,7 @@ fn count_of(word: &[u8]) -> Option<usize>
     }
 }
 
+// The option that a word names.
 fn option_of(word: &str) -> Option<OptionName>
     ensures { result ≡ option_of word.now }
 {
@@ -78,95 +83,98 @@ fn option_of(word: &str) -> Option<OptionName>
     }
 }
 
-fn is_given(options: &Given<'_>, name: OptionName) -> bool
-    ensures { result ≡ is_given (given options.now) name }
+// What is known of an option.
+fn row_of(option: Option<OptionName>) -> Option<Row>
+    ensures { result ≡ row_of option }
 {
-    match name {
-        OptionName::Folder => options.folder.is_some(),
-        OptionName::From => options.from.is_some(),
-        OptionName::Count => options.count.is_some(),
-    }
-}
-
-// The option that a word names, where it may stand behind these.
-fn next_option(options: &Given<'_>, word: &str) -> Option<OptionName>
-    ensures { result ≡ next_option (given options.now) (option_of word.now) }
-{
-    match option_of(word) {
-        Some(name) if !is_given(options, name) => Some(name),
-        Some(_) => None,
+    match option {
+        Some(_) => Some(Row {
+            takes_value: true,
+            repeats: false,
+        }),
         None => None,
     }
 }
 
-// What is said with this value of an option.
-fn with_value<'a>(options: Given<'a>, name: OptionName, word: &'a str) -> Option<Given<'a>>
-    ensures { option_map given result ≡ with_value (given options.entry) name word.now }
+// Whether a word may be the value of an option.
+fn is_value(option: Option<OptionName>, word: &str) -> bool
+    ensures { result ≡ value_fits option word.now }
 {
-    match name {
-        OptionName::Folder => Some(Given {
-            folder: Some(word),
-            ..options
-        }),
-        OptionName::From => match number_of(word.as_bytes()) {
-            Some(from) => Some(Given {
-                from: Some(from),
-                ..options
-            }),
-            None => None,
-        },
-        OptionName::Count => match count_of(word.as_bytes()) {
-            Some(count) => Some(Given {
-                count: Some(count),
-                ..options
-            }),
-            None => None,
-        },
+    match option {
+        Some(OptionName::Folder) => true,
+        Some(OptionName::From) => number_of(word.as_bytes()).is_some(),
+        Some(OptionName::Count) => count_of(word.as_bytes()).is_some(),
+        None => false,
     }
 }
 
-// What options say, or the place of the first word that doesn't fit, from 0; that of a missing word is their number.
-fn read_options(words: &[String]) -> Result<Given<'_>, usize>
-    ensures ok { IfOk result (λ options. said (map string_bytes words.now) ≡ Ok (given options)) }
-    ensures err { IfErr result (λ place. said (map string_bytes words.now) ≡ Err place) }
-{
-    let mut options = Given {
-        folder: None,
-        from: None,
-        count: None,
-    };
-    let mut expected: Option<OptionName> = None;
-    'each: for (at, word) in words.iter().enumerate() {
-        match expected {
-            None => match next_option(&options, word.as_str()) {
-                Some(name) => expected = Some(name),
-                None => return Err(at),
-            },
-            Some(name) => match with_value(options, name, word.as_str()) {
-                Some(more) => {
-                    options = more;
-                    expected = None;
-                }
-                None => return Err(at),
-            },
-        }
+/// The options of `farm_jobs`.
+struct JobOptions;
+
+impl OptionTable for JobOptions {
+    ghost use Rattle.compile_database.specs.Words.{options};
+
+    ghost table = { λ _. options };
+
+    fn row(&self, word: &str) -> Option<Row> {
+        row_of(option_of(word))
     }
-    match expected {
-        None => Ok(options),
-        Some(_) => Err(words.len()),
+
+    fn fits(&self, _before: &[String], name: &str, value: &str) -> bool {
+        is_value(option_of(name), value)
+    }
+}
+
+// The number that the value of an option spells.
+fn number_in(value: Option<&str>) -> Option<usize>
+    ensures { result ≡ option_and_then number_of (option_copied value.entry) }
+{
+    match value {
+        Some(word) => number_of(word.as_bytes()),
+        None => None,
+    }
+}
+
+// The number of entries that the value of an option spells.
+fn count_in(value: Option<&str>) -> Option<usize>
+    ensures { result ≡ option_and_then count_of (option_copied value.entry) }
+{
+    match value {
+        Some(word) => count_of(word.as_bytes()),
+        None => None,
+    }
+}
+
+// What options say.
+fn options_in(words: &[String]) -> Given<'_>
+    ensures { (items : List Item) → AreOptions options (map string_bytes words.now) items → given result ≡ given_by items }
+{
+    Given {
+        folder: value_of(&JobOptions, words, "--folder"),
+        from: number_in(value_of(&JobOptions, words, "--from")),
+        count: count_in(value_of(&JobOptions, words, "--count")),
+    }
+}
+
+// The selection that options make.
+fn select(options: Given<'_>) -> Selection<'_>
+    ensures { choice_of result ≡ words.choice_by (given options.entry) }
+{
+    Selection {
+        folder: options.folder,
+        from: options.from.unwrap_or(0),
+        count: options.count,
     }
 }
 
 /// The selection that the words make, or the place of the first word that doesn't fit, from 0; that of a missing word is
 /// their number. Takes no memory.
 pub(crate) fn selection_of(words: &[String]) -> Result<Selection<'_>, usize>
-    ensures ok { IfOk result (λ selection. Chooses (said (map string_bytes words.now)) (choice_of selection)) }
-    ensures err { IfErr result (λ place. said (map string_bytes words.now) ≡ Err place) }
+    ensures ok { IfOk result (λ selection. Chooses (map string_bytes words.now) (choice_of selection)) }
+    ensures err { IfErr result (BadWordsAt (map string_bytes words.now)) }
 {
-    let options = read_options(words)?;
-    Ok(Selection {
-        folder: options.folder,
-        from: options.from.unwrap_or(0),
-        count: options.count,
-    })
+    match check_options(&JobOptions, words) {
+        Ok(_) => Ok(select(options_in(words))),
+        Err(place) => Err(place),
+    }
 }

@@ -14,9 +14,8 @@ use crate::help::{asked, text_of};
 use crate::options::selection_of;
 use edge_traits::{Sink, Source};
 use farm_types::Bytes;
-use input_read::{Input, read_input};
 use std::alloc::Global;
-use stream_print::{Piece, SinkKind, complain, finish, no_memory};
+use stream_print::{Input, Piece, SinkKind, complain, finish, no_memory, read_input};
 
 /// A compile database of so many bytes is too long.
 const TOO_LONG: usize = 67_108_864;

@@ -1,30 +1,72 @@
 -- Words ask for one thing, and name one list of rules.
-use Rattle.std.proofs.Common.{◌≡◌, ℕ, ◌+◌, ◌-◌, ◌<◌, ◌≤◌, inl, inr, Bool, true, false, List, [], ◌∷◌, ◌++◌, length, map, take, drop, get_or, refl, sym, ◌∙◌, ap, subst, append_assoc, length-append, arith}
-use Rattle.std.specs.Prelude.{◌&&◌, ◌||◌, codes, bytes_eq, Option, Some, None, Result, Ok, Err, All, if◌then◌else◌}
+use Rattle.std.proofs.Common.{◌≡◌, ℕ, ◌+◌, ◌-◌, ◌<◌, ◌≤◌, Bool, true, false, List, [], ◌∷◌, ◌++◌, length, map, take, drop, get_or, refl, sym, ◌∙◌, ap, subst, append_assoc, length-append, arith}
+use Rattle.std.specs.Prelude.{◌&&◌, ◌||◌, codes, bytes_eq, Option, Some, None, is_some, Result, Ok, Err, All, IfSome, IfNone, if◌then◌else◌}
 use Rattle.std.specs.Option.{option_to_list}
 use Rattle.std.proofs.lemmas.List.Elements.{All-nil, All-cons, All-append}
+use Rattle.std.proofs.Math.Seq.{take-length}
 use Rattle.std.proofs.lemmas.List.{append-nil}
 use Rattle.access_list.specs.declared.rule.Rule.{Rule}
 use Rattle.access_list.specs.Rules.{RuleOf, AreRight, bits_of, bits_part}
-use Rattle.access_list.proofs.Cutting.{one_rule}
+use Rattle.access_list.proofs.Cutting.{one_rule, one_number, one_address}
+use Rattle.option_words.specs.Items.{Item, items_words, value_words, stands_in, value_in}
+use Rattle.option_words.specs.Tables.{has_value, may_stand, follows, HasValue, StandBehind}
+use Rattle.option_words.specs.Readings.{AreOptions}
+use Rattle.option_words.proofs.Steps.{stand_more}
+use Rattle.option_words.proofs.Reading.{one_items, not_both, one_place}
 use Rattle.daemon_service.specs.declared.compilers.Compiler.{Compiler}
 use Rattle.daemon_words.specs.declared.name.OptionName.{OptionName}
 use Rattle.daemon_words.specs.declared.name.OptionName.TheVariants as option
+use Rattle.daemon_words.specs.declared.name.Kind.{Kind}
+use Rattle.daemon_words.specs.declared.name.Kind.TheVariants as kind
 use Rattle.daemon_words.specs.declared.options.Options.{Options}
 use Rattle.daemon_words.specs.declared.command.Command.{Command}
 use Rattle.daemon_words.specs.declared.command.Command.TheVariants.{Help, Version, Serve}
 use Rattle.daemon_words.specs.Names.{option_named}
-use Rattle.daemon_words.specs.Options.{unless_given, option_here, is_given, name_in, named_in, IsPositive, AreWithin, Sets, PairIs, Reads, nothing_given}
+use Rattle.daemon_words.specs.Options.{row_of, is_of, count_in, name_in, named_in, IsPositive, IsWithin, AreWithin, IsSpelled, ValueFits, GivenBy, Says, Reads, options}
 use Rattle.daemon_words.specs.Commands.{asked, served, trusts, settings_of, placed, ByFirst, ReadWords}
 use Rattle.daemon_words.specs.Tables.{SaysRule, RuleIn, AreRules, compilers_of}
-use Rattle.daemon_words.proofs.ReadingOn.{one_reading, two_parts}
 
 abbrev as_command : Command → Result Command ℕ
 as_command command = Ok command
 
+one_spelled : (name : OptionName) (value : List ℕ) (n m : ℕ) → IsSpelled name value n → IsSpelled name value m → n ≡ m
+one_spelled option.Port value n m p q = one_number _ _ _ n m p.number q.number
+one_spelled option.Listen value n m p q = one_address value n m p q
+one_spelled option.Jobs value n m p q = one_number _ _ _ n m p.number q.number
+one_spelled option.Serve value n m p q = one_number _ _ _ n m p.number q.number
+one_spelled option.Cache value n m p q = one_number _ _ _ n m p.number q.number
+one_spelled option.Compiler value n m p q = absurd p
+one_spelled option.Allow value n m p q = absurd p
+one_spelled option.Deny value n m p q = absurd p
+
+one_given : (name : OptionName) (value : Option (List ℕ)) (a b : Option ℕ) → GivenBy name value a → GivenBy name value b → a ≡ b
+one_given name None a b p q = p ∙ sym q
+one_given name (Some value) None None p q = refl
+one_given name (Some value) None (Some n) p q = absurd (p n q)
+one_given name (Some value) (Some n) None p q = absurd (q n p)
+one_given name (Some value) (Some n) (Some m) p q = ap Some (one_spelled name value n m p q)
+
+one_saying : (words : List (List ℕ)) (items : List Item) (a b : Options) → Says words items a → Says words items b → a ≡ b
+one_saying words items a b p q = λ i. record {
+  port = one_given option.Port (value_in (codes "--port") items) a.port b.port p.port q.port i;
+  listen = one_given option.Listen (value_in (codes "--listen") items) a.listen b.listen p.listen q.listen i;
+  jobs = one_given option.Jobs (value_in (codes "--jobs") items) a.jobs b.jobs p.jobs q.jobs i;
+  serve = one_given option.Serve (value_in (codes "--serve") items) a.serve b.serve p.serve q.serve i;
+  cache = one_given option.Cache (value_in (codes "--cache") items) a.cache b.cache p.cache q.cache i;
+  compilers = (p.compilers ∙ sym q.compilers) i;
+  rules = (p.rules ∙ sym q.rules) i;
+}
+
+one_reading : (words : List (List ℕ)) (r s : Result Options ℕ) → Reads words r → Reads words s → r ≡ s
+one_reading words (Ok a) (Ok b) p q =
+    let same = one_items options words p.0 q.0 p.1 q.1 in ap Ok (one_saying words q.0 a b (subst (λ items. Says words items a) same p.2) q.2)
+one_reading words (Ok a) (Err place) p q = absurd (not_both options words p.0 place p.1 q)
+one_reading words (Err place) (Ok b) p q = absurd (not_both options words q.0 place q.1 p)
+one_reading words (Err place) (Err there) p q = ap Err (one_place options words place there p q)
+
 one_first : (words : List (List ℕ)) (first : Option Command) (r s : Result Command ℕ) → ByFirst words r first → ByFirst words s first → r ≡ s
 one_first words (Some command) r s p q = p ∙ sym q
-one_first words None r s p q = p.2 ∙ ap served (one_reading [] nothing_given words p.0 q.0 p.1 q.1) ∙ sym q.2
+one_first words None r s p q = p.2 ∙ ap served (one_reading words p.0 q.0 p.1 q.1) ∙ sym q.2
 
 pub once : (words : List (List ℕ)) (r s : Result Command ℕ) → ReadWords words r → ReadWords words s → r ≡ s
 once words r s p q = p.2 ∙ ap (placed (trusts words)) (one_first (settings_of words) (asked (settings_of words)) p.0 q.0 p.1 q.1) ∙ sym q.2
@@ -91,91 +133,101 @@ all_small (word ∷ value ∷ more) rules are =
 
 -- ---- how many
 
--- so many rules more, and no more than there is room for
-record Counted (more : ℕ) (options final : Options) : Type 0 where
-  pub sum : more + options.rules ≤ final.rules
-  pub few : options.rules ≤ 64 → final.rules ≤ 64
+one : Kind → List ℕ → ℕ
+one kind name = if is_of kind (option_named name) then 1 else 0
 
-found_few : (found : Option Rule) → length (option_to_list found) ≤ 1
-found_few None = omega arith
-found_few (Some rule) = omega arith
+count_items : Kind → List Item → ℕ
+count_items kind [] = 0
+count_items kind (item ∷ items) = one kind item.name + count_items kind items
 
-none_found : (found : Option Rule) → found ≡ None → length (option_to_list found) ≡ 0
-none_found found none = ap (λ f. length (option_to_list f)) none
+count_append : (kind : Kind) (a b : List Item) → count_items kind (a ++ b) ≡ count_items kind a + count_items kind b
+unfolding count_items
+count_append kind [] b = omega arith
+count_append kind (item ∷ a) b = omega (arith, count_append kind a b)
 
-kept : (options next : Options) (found : Option Rule) → next.rules ≡ options.rules → found ≡ None → Counted (length (option_to_list found)) options next
-kept options next found same none = record {
-  sum = omega (arith, same, none_found found none);
-  few = λ room. omega (arith, same, room);
-}
+never_plain : (option : Option OptionName) (stood : Bool) → may_stand (row_of option) stood ≡ true → has_value (row_of option) ≡ false → ⊥
+never_plain None stood follows plain = cc follows
+never_plain (Some name) stood follows plain = cc plain
 
-added : (options next : Options) (found : Option Rule) → next.rules ≡ options.rules + 1 → options.rules < 64 → Counted (length (option_to_list found)) options next
-added options next found same room = record {
-  sum = omega (arith, same, found_few found);
-  few = λ few. omega (arith, same, room);
-}
+count_valued : (kind : Kind) (before : List Item) (name : List ℕ) (value : Option (List ℕ)) (more : List (List ℕ)) (n : ℕ) → follows options before name ≡ true → HasValue options before name value
+    → count_in kind more ≡ n → count_in kind (name ∷ value_words value more) ≡ one kind name + n
+unfolding one
+count_valued kind before name None more n follows plain rest = absurd (never_plain (option_named name) (stands_in name before) follows plain)
+count_valued kind before name (Some value) more n follows has rest = ap (λ m. (if is_of kind (option_named name) then 1 else 0) + m) rest
 
-stepped : (name : OptionName) (value : List ℕ) (before : List (List ℕ)) (options next : Options) (found : Option Rule) → Sets name value before options next → RuleIn value found (Some name) → Counted (length (option_to_list found)) options next
-stepped option.Compiler value before options next found sets is = kept options next found (ap (λ o. o.rules) sets.next_is) is
-stepped option.Port value before options next found sets is = kept options next found (ap (λ o. o.rules) sets.2) is
-stepped option.Listen value before options next found sets is = kept options next found (ap (λ o. o.rules) sets.2) is
-stepped option.Jobs value before options next found sets is = kept options next found (ap (λ o. o.rules) sets.2) is
-stepped option.Serve value before options next found sets is = kept options next found (ap (λ o. o.rules) sets.2) is
-stepped option.Cache value before options next found sets is = kept options next found (ap (λ o. o.rules) sets.2) is
-stepped option.Allow value before options next found sets is = added options next found (ap (λ o. o.rules) sets.next_is) sets.room
-stepped option.Deny value before options next found sets is = added options next found (ap (λ o. o.rules) sets.next_is) sets.room
+counted : (kind : Kind) (before items : List Item) → StandBehind options before items → count_in kind (items_words items) ≡ count_items kind items
+unfolding count_items
+counted kind before [] stand = refl
+counted kind before (item ∷ items) stand =
+    count_valued kind before item.name item.value (items_words items) (count_items kind items) stand.0.follows_on stand.0.value (counted kind (before ++ item ∷ []) items stand.1)
 
-counted_on : (one more : ℕ) (options next final : Options) → Counted one options next → Counted more next final → Counted (one + more) options final
-counted_on one more options next final first rest = record {
-  sum = omega (arith, first.sum, rest.sum);
-  few = λ few. rest.few (first.few few);
-}
+room_by : (kind : Kind) (option : Option OptionName) (before : List (List ℕ)) (value : List ℕ) → is_of kind option ≡ true → ValueFits option before value → count_in kind before < 64
+room_by kind None before value holds fits = absurd fits
+room_by kind.Compiler (Some option.Compiler) before value holds fits = fits.room
+room_by kind.Rule (Some option.Compiler) before value holds fits = absurd (cc holds)
+room_by kind.Compiler (Some option.Port) before value holds fits = absurd (cc holds)
+room_by kind.Rule (Some option.Port) before value holds fits = absurd (cc holds)
+room_by kind.Compiler (Some option.Listen) before value holds fits = absurd (cc holds)
+room_by kind.Rule (Some option.Listen) before value holds fits = absurd (cc holds)
+room_by kind.Compiler (Some option.Jobs) before value holds fits = absurd (cc holds)
+room_by kind.Rule (Some option.Jobs) before value holds fits = absurd (cc holds)
+room_by kind.Compiler (Some option.Serve) before value holds fits = absurd (cc holds)
+room_by kind.Rule (Some option.Serve) before value holds fits = absurd (cc holds)
+room_by kind.Compiler (Some option.Allow) before value holds fits = absurd (cc holds)
+room_by kind.Rule (Some option.Allow) before value holds fits = fits.room
+room_by kind.Compiler (Some option.Deny) before value holds fits = absurd (cc holds)
+room_by kind.Rule (Some option.Deny) before value holds fits = fits.room
+room_by kind.Compiler (Some option.Cache) before value holds fits = absurd (cc holds)
+room_by kind.Rule (Some option.Cache) before value holds fits = absurd (cc holds)
 
-left_in : (b : Bool) (name other : OptionName) → (if b then None else Some name) ≡ Some other → Some name ≡ Some other
-left_in true name other is = absurd (cc is)
-left_in false name other is = is
+room : (kind : Kind) (before : List Item) (name : List ℕ) (value : Option (List ℕ)) → follows options before name ≡ true → HasValue options before name value → is_of kind (option_named name) ≡ true
+    → count_in kind (items_words before) < 64
+room kind before name None follows plain holds = absurd (never_plain (option_named name) (stands_in name before) follows plain)
+room kind before name (Some value) follows has holds = room_by kind (option_named name) (items_words before) value holds has.1
 
-named_here : (options : Options) (named : Option OptionName) (name : OptionName) → unless_given options named ≡ Some name → named ≡ Some name
-named_here options None name is = absurd (cc is)
-named_here options (Some other) name is = left_in (is_given options other) other name is
+one_by : (b : Bool) (m n : ℕ) → (b ≡ true → m < 64) → m ≡ n → n ≤ 64 → n + (if b then 1 else 0) ≤ 64
+one_by true m n room same few = omega (arith, room refl, same)
+one_by false m n room same few = omega (arith, few)
 
-counted_pair : (value : List ℕ) (before : List (List ℕ)) (options final : Options) (word : List ℕ) (more : Options → Type 0) (found : Option Rule) (rest : List Rule)
-    → ((next : Options) → more next → Counted (length rest) next final) → RuleIn value found (option_named word)
-    → (here : Option OptionName) → option_here options word ≡ here → PairIs value before options more (Ok final) here → Counted (length (option_to_list found) + length rest) options final
-counted_pair value before options final word more found rest once is None here pair = absurd (cc pair)
-counted_pair value before options final word more found rest once is (Some name) here (inl pair) = absurd (cc pair.1)
-counted_pair value before options final word more found rest once is (Some name) here (inr pair) =
-    let named : option_named word ≡ Some name = named_here options (option_named word) name here in
-    counted_on (length (option_to_list found)) (length rest) options pair.0 final (stepped name value before options pair.0 found pair.1 (subst (RuleIn value found) named is)) (once pair.0 pair.2)
+few_items : (kind : Kind) (before items : List Item) → StandBehind options [] before → StandBehind options before items → count_items kind before ≤ 64 → count_items kind (before ++ items) ≤ 64
+unfolding count_items one
+few_items kind before [] behind stand few = omega (arith, ap (count_items kind) (append-nil before), few)
+few_items kind before (item ∷ items) behind stand few =
+    let one_few = one_by (is_of kind (option_named item.name)) (count_in kind (items_words before)) (count_items kind before)
+    (room kind before item.name item.value stand.0.follows_on stand.0.value) (counted kind [] before behind) few in
+    let more : count_items kind (before ++ item ∷ []) ≤ 64 = omega (arith, count_append kind before (item ∷ []), one_few) in
+    subst (λ l. count_items kind l ≤ 64) (append_assoc before (item ∷ []) items) (few_items kind (before ++ item ∷ []) items (stand_more options [] before item behind stand.0) stand.1 more)
 
-abbrev read_as : Options → Result Options ℕ
-read_as options = Ok options
+-- no more than 64 of a kind
+pub few_counted : (kind : Kind) (words : List (List ℕ)) (items : List Item) → AreOptions options words items → count_in kind words ≤ 64
+unfolding count_items
+few_counted kind words items are =
+    let few : count_items kind items ≤ 64 = few_items kind [] items tt are.right (omega arith) in
+    omega (arith, ap (count_in kind) are.are, counted kind [] items are.right, few)
 
-same_options : (a b : Options) → read_as a ≡ read_as b → a ≡ b
-same_options a b is = cc is
+found_few : (value : List ℕ) (found : Option Rule) (name : Option OptionName) → RuleIn value found name → length (option_to_list found) ≤ (if is_of kind.Rule name then 1 else 0)
+found_few value None name is = omega arith
+found_few value (Some rule) (Some option.Allow) is = omega arith
+found_few value (Some rule) (Some option.Deny) is = omega arith
+found_few value (Some rule) (Some option.Compiler) is = absurd (cc is)
+found_few value (Some rule) (Some option.Port) is = absurd (cc is)
+found_few value (Some rule) (Some option.Listen) is = absurd (cc is)
+found_few value (Some rule) (Some option.Jobs) is = absurd (cc is)
+found_few value (Some rule) (Some option.Serve) is = absurd (cc is)
+found_few value (Some rule) (Some option.Cache) is = absurd (cc is)
+found_few value (Some rule) None is = absurd (cc is)
 
-counted_none : (options final : Options) (rules : List Rule) → read_as final ≡ read_as options → rules ≡ [] → Counted (length rules) options final
-counted_none options final rules is none =
-    let same : final.rules ≡ options.rules = ap (λ o. o.rules) (same_options final options is) in
-    record {
-      sum = omega (arith, same, ap length none);
-      few = λ few. omega (arith, same, few);
-    }
-
-counted : (before : List (List ℕ)) (options : Options) (words : List (List ℕ)) (final : Options) (rules : List Rule) → Reads before options words (Ok final) → AreRules words rules → Counted (length rules) options final
-counted before options [] final rules reads are = counted_none options final rules reads are
-counted before options (word ∷ []) final rules reads are = absurd (cc reads)
-counted before options (word ∷ value ∷ more) final rules reads are =
+rules_few : (words : List (List ℕ)) (rules : List Rule) → AreRules words rules → length rules ≤ count_in kind.Rule words
+rules_few [] rules are = omega (arith, ap length are)
+rules_few (word ∷ []) rules are = omega (arith, ap length are)
+rules_few (word ∷ value ∷ more) rules are =
     let all : length rules ≡ length (option_to_list are.0) + length are.2 = ap length are.3 ∙ length-append (option_to_list are.0) are.2 in
-    subst (λ n. Counted n options final) (sym all)
-    (counted_pair value before options final word (λ next. Reads (before ++ word ∷ value ∷ []) next more (Ok final)) are.0 are.2
-    (λ next reads. counted (before ++ word ∷ value ∷ []) next more final are.2 reads are.4) are.1 (option_here options word) refl reads)
+    omega (arith, all, found_few value are.0 (option_named word) are.1, rules_few more are.2 are.4)
 
-right_read : (words : List (List ℕ)) (options : Options) (rules : List Rule) (read : Result Options ℕ) → Reads [] nothing_given words read → Ok (Serve options) ≡ served read → AreRules words rules → AreRight rules
-right_read words options rules (Ok final) reads same are =
-    let c = counted [] nothing_given words final rules reads are in
-    record { few = omega (arith, c.sum, c.few (omega arith)); bits = all_small words rules are }
-right_read words options rules (Err place) reads same are = absurd (cc same)
+right_read : (words : List (List ℕ)) (given : Options) (rules : List Rule) (read : Result Options ℕ) → Reads words read → Ok (Serve given) ≡ served read → AreRules words rules → AreRight rules
+right_read words given rules (Ok final) reads same are =
+    record { few = omega (arith, rules_few words rules are, few_counted kind.Rule words reads.0 reads.1); bits = all_small words rules are }
+right_read words given rules (Err place) reads same are = absurd (cc same)
 
 abbrev alone : Bool → Command → Result Command ℕ
 alone b command = if b then Ok command else Err 1
@@ -209,37 +261,33 @@ right_rules words options rules read are =
 
 -- ---- the numbers that are given
 
+pub given_read : (name : OptionName) (value text : List ℕ) (n : Option ℕ) → text ≡ value → IfSome n (IsSpelled name text) → IfNone n ((m : ℕ) → IsSpelled name text m → ⊥) → GivenBy name (Some value) n
+given_read name value text None same found none = λ m is. none m (subst (λ t. IsSpelled name t m) (sym same) is)
+given_read name value text (Some n) same found none = subst (λ t. IsSpelled name t n) same found
+
+pub none_read : {A : Type 0} (n : Option ℕ) → IfNone n A → is_some n ≡ false → A
+none_read None none is = none
+none_read (Some n) none is = absurd (cc is)
+
 positive_within : (most greatest : ℕ) (value : List ℕ) (n : ℕ) → IsPositive most greatest value n → (1 ≤ n) × (n ≤ greatest)
 positive_within most greatest value n is = (is.some, is.number.high)
 
-set_within : (name : OptionName) (value : List ℕ) (before : List (List ℕ)) (options next : Options) → Sets name value before options next → AreWithin options → AreWithin next
-set_within option.Compiler value before options next sets within = subst AreWithin (sym sets.next_is) (record { port = within.port; jobs = within.jobs; serve = within.serve; cache = within.cache })
-set_within option.Port value before options next sets within = subst AreWithin (sym sets.2) (record { port = positive_within 5 65535 value sets.0 sets.1; jobs = within.jobs; serve = within.serve; cache = within.cache })
-set_within option.Listen value before options next sets within = subst AreWithin (sym sets.2) (record { port = within.port; jobs = within.jobs; serve = within.serve; cache = within.cache })
-set_within option.Jobs value before options next sets within = subst AreWithin (sym sets.2) (record { port = within.port; jobs = positive_within 2 16 value sets.0 sets.1; serve = within.serve; cache = within.cache })
-set_within option.Serve value before options next sets within = subst AreWithin (sym sets.2) (record { port = within.port; jobs = within.jobs; serve = positive_within 6 100000 value sets.0 sets.1; cache = within.cache })
-set_within option.Cache value before options next sets within = subst AreWithin (sym sets.2) (record { port = within.port; jobs = within.jobs; serve = within.serve; cache = positive_within 3 128 value sets.0 sets.1 })
-set_within option.Allow value before options next sets within = subst AreWithin (sym sets.next_is) (record { port = within.port; jobs = within.jobs; serve = within.serve; cache = within.cache })
-set_within option.Deny value before options next sets within = subst AreWithin (sym sets.next_is) (record { port = within.port; jobs = within.jobs; serve = within.serve; cache = within.cache })
+within_by : (low high : ℕ) (name : OptionName) → ((value : List ℕ) (n : ℕ) → IsSpelled name value n → (low ≤ n) × (n ≤ high)) → (value : Option (List ℕ)) (n : Option ℕ) → GivenBy name value n → IsWithin low high n
+within_by low high name each None n is = subst (IsWithin low high) (sym is) tt
+within_by low high name each (Some value) None is = tt
+within_by low high name each (Some value) (Some n) is = each value n is
 
-within_pair : (value : List ℕ) (before : List (List ℕ)) (options final : Options) (more : Options → Type 0) → ((next : Options) → more next → AreWithin next → AreWithin final)
-    → (here : Option OptionName) → PairIs value before options more (Ok final) here → AreWithin options → AreWithin final
-within_pair value before options final more once None pair within = absurd (cc pair)
-within_pair value before options final more once (Some name) (inl pair) within = absurd (cc pair.1)
-within_pair value before options final more once (Some name) (inr pair) within = once pair.0 pair.2 (set_within name value before options pair.0 pair.1 within)
+says_within : (words : List (List ℕ)) (items : List Item) (given : Options) → Says words items given → AreWithin given
+says_within words items given says = record {
+  port = within_by 1 65535 option.Port (positive_within 5 65535) (value_in (codes "--port") items) given.port says.port;
+  jobs = within_by 1 16 option.Jobs (positive_within 2 16) (value_in (codes "--jobs") items) given.jobs says.jobs;
+  serve = within_by 1 100000 option.Serve (positive_within 6 100000) (value_in (codes "--serve") items) given.serve says.serve;
+  cache = within_by 1 128 option.Cache (positive_within 3 128) (value_in (codes "--cache") items) given.cache says.cache;
+}
 
-reads_within : (before : List (List ℕ)) (options : Options) (words : List (List ℕ)) (final : Options) → Reads before options words (Ok final) → AreWithin options → AreWithin final
-reads_within before options [] final reads within = subst AreWithin (sym (same_options final options reads)) within
-reads_within before options (word ∷ []) final reads within = absurd (cc reads)
-reads_within before options (word ∷ value ∷ more) final reads within =
-    within_pair value before options final (λ next. Reads (before ++ word ∷ value ∷ []) next more (Ok final)) (λ next reads within. reads_within (before ++ word ∷ value ∷ []) next more final reads within)
-    (option_here options word) reads within
-
-served_within : (words : List (List ℕ)) (options : Options) (read : Result Options ℕ) → Reads [] nothing_given words read → Ok (Serve options) ≡ served read → AreWithin options
-served_within words options (Ok final) reads same =
-    let is : final ≡ options = cc same in
-    subst AreWithin is (reads_within [] nothing_given words final reads (record { port = tt; jobs = tt; serve = tt; cache = tt }))
-served_within words options (Err place) reads same = absurd (cc same)
+served_within : (words : List (List ℕ)) (given : Options) (read : Result Options ℕ) → Reads words read → Ok (Serve given) ≡ served read → AreWithin given
+served_within words given (Ok final) reads same = let is : final ≡ given = cc same in subst AreWithin is (says_within words reads.0 final reads.2)
+served_within words given (Err place) reads same = absurd (cc same)
 
 first_within : (words : List (List ℕ)) (options : Options) (first : Option Command) → asked words ≡ first → ByFirst words (Ok (Serve options)) first → AreWithin options
 first_within words options (Some command) is read = absurd (never_asked words options (is ∙ ap Some (served_alone _ command options read)))
@@ -252,6 +300,18 @@ right_numbers words options read =
     first_within settings options (asked settings) refl (subst (λ r. ByFirst settings r (asked settings)) (sym same) read.1)
 
 -- ---- the code that looks for names, and that gathers
+
+two_parts : {A : Type 0} (rest : List A) (x y : A) → 2 ≤ length rest → x ≡ get_or rest 0 x → y ≡ get_or rest 1 y → rest ≡ x ∷ y ∷ take (length rest - 2) (drop 2 rest)
+two_parts [] x y some is also = absurd (omega (arith, some))
+two_parts (a ∷ []) x y some is also = absurd (omega (arith, some))
+two_parts (a ∷ b ∷ more) x y some is also =
+    let left : length more ≡ length (a ∷ b ∷ more) - 2 = omega arith in
+    ap (λ c. c ∷ b ∷ more) (sym is) ∙ ap (λ c. x ∷ c ∷ more) (sym also) ∙ ap (λ l. x ∷ y ∷ l) (sym (take-length more) ∙ ap (λ n. take n more) left)
+
+pub count_none : {A : Type 0} (f : A → List ℕ) (kind : Kind) (rest : List A) → length rest < 2 → count_in kind (map f rest) ≡ 0
+count_none f kind [] few = refl
+count_none f kind (x ∷ []) few = refl
+count_none f kind (x ∷ y ∷ rest) few = absurd (omega (arith, few))
 
 pub named_more : {A : Type 0} (f : A → List ℕ) (rest : List A) (x y : A) (word value name : List ℕ) → 2 ≤ length rest → x ≡ get_or rest 0 x → y ≡ get_or rest 1 y → word ≡ f x → value ≡ f y
     → (bytes_eq word (codes "--compiler") && bytes_eq (name_in value) name) ≡ false → named_in (map f rest) name ≡ named_in (map f (take (length rest - 2) (drop 2 rest))) name

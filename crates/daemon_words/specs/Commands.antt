@@ -4,7 +4,7 @@ use Rattle.daemon_words.specs.declared.options.Options.{Options}
 use Rattle.daemon_words.specs.declared.command.Command.{Command}
 use Rattle.daemon_words.specs.declared.command.Command.TheVariants.{Help, Version, Serve}
 use Rattle.daemon_words.specs.declared.command.DoorPlace.{DoorPlace}
-use Rattle.daemon_words.specs.Options.{Reads, nothing_given}
+use Rattle.daemon_words.specs.Options.{Reads}
 
 abbrev pub asked_by : List ℕ → Option Command
 asked_by word = if bytes_eq word (codes "--help") then Some Help else (if bytes_eq word (codes "--version") then Some Version else None)
@@ -21,7 +21,7 @@ served (Err place) = Err place
 -- such a word stands alone; all other words are options and their values
 abbrev pub ByFirst : List (List ℕ) → Result Command ℕ → Option Command → Type 0
 ByFirst words read (Some command) = read ≡ (if length words == 1 then Ok command else Err 1)
-ByFirst words read None = (options : Result Options ℕ) × Reads [] nothing_given words options × (read ≡ served options)
+ByFirst words read None = (options : Result Options ℕ) × Reads words options × (read ≡ served options)
 
 -- the words begin with `--trust-options`
 abbrev pub trusts : List (List ℕ) → Bool

@@ -1,35 +1,48 @@
 -- What the options say, by their words: each option is a name and a value.
-use Rattle.std.specs.Prelude.{◌≡◌, ℕ, ◌+◌, ◌*◌, ◌<◌, ◌≤◌, ◌==◌, ◌||◌, ◌&&◌, ◌⊎◌, Bool, true, false, List, [], ◌∷◌, ◌++◌, length, take, drop, codes, bytes_eq, Option, Some, None, is_some, Result, Ok, Err, if◌then◌else◌}
+use Rattle.std.specs.Prelude.{◌≡◌, ℕ, ◌+◌, ◌*◌, ◌<◌, ◌≤◌, ◌==◌, ◌||◌, ◌&&◌, Bool, true, false, List, [], ◌∷◌, length, take, drop, codes, bytes_eq, Option, Some, None, Result, Ok, Err, if◌then◌else◌}
 use Rattle.std.specs.List.{position_or_len}
+use Rattle.option_words.specs.declared.table.Row.{Row}
+use Rattle.option_words.specs.Items.{Item, value_in}
+use Rattle.option_words.specs.Tables.{Table}
+use Rattle.option_words.specs.Readings.{AreOptions, BadOptionAt}
 use Rattle.access_list.specs.declared.rule.Rule.{Rule}
 use Rattle.access_list.specs.Addresses.{IsNumber, IsAddress}
 use Rattle.access_list.specs.Rules.{RuleOf}
 use Rattle.daemon_words.specs.declared.name.OptionName.{OptionName}
 use Rattle.daemon_words.specs.declared.name.OptionName.TheVariants as option
+use Rattle.daemon_words.specs.declared.name.Kind.{Kind}
+use Rattle.daemon_words.specs.declared.name.Kind.TheVariants as kind
 use Rattle.daemon_words.specs.declared.options.Options.{Options}
 use Rattle.daemon_words.specs.Names.{option_named}
 
-abbrev pub nothing_given : Options
-nothing_given = record { port = None; listen = None; jobs = None; serve = None; cache = None; compilers = 0; rules = 0 }
+-- ---- the options
 
--- an option stood already that may stand once
-abbrev pub is_given : Options → OptionName → Bool
-is_given options option.Port = is_some options.port
-is_given options option.Listen = is_some options.listen
-is_given options option.Jobs = is_some options.jobs
-is_given options option.Serve = is_some options.serve
-is_given options option.Cache = is_some options.cache
-is_given options option.Compiler = false
-is_given options option.Allow = false
-is_given options option.Deny = false
+-- it may stand more than once
+abbrev pub repeats : OptionName → Bool
+repeats option.Compiler = true
+repeats option.Allow = true
+repeats option.Deny = true
+repeats _ = false
 
-abbrev pub unless_given : Options → Option OptionName → Option OptionName
-unless_given options None = None
-unless_given options (Some name) = if is_given options name then None else Some name
+-- what is known of an option: each has a value
+abbrev pub row_of : Option OptionName → Option Row
+row_of None = None
+row_of (Some name) = Some (record { takes_value = true; repeats = repeats name })
 
--- the option that a word names, where it may stand here
-abbrev pub option_here : Options → List ℕ → Option OptionName
-option_here options word = unless_given options (option_named word)
+-- it is of this kind
+abbrev pub is_of : Kind → Option OptionName → Bool
+is_of kind.Compiler (Some option.Compiler) = true
+is_of kind.Rule (Some option.Allow) = true
+is_of kind.Rule (Some option.Deny) = true
+is_of _ _ = false
+
+-- how many of these options are of this kind
+abbrev pub count_in : Kind → List (List ℕ) → ℕ
+count_in kind [] = 0
+count_in kind (word ∷ []) = 0
+count_in kind (word ∷ value ∷ more) = (if is_of kind (option_named word) then 1 else 0) + count_in kind more
+
+-- ---- their values
 
 -- a number of at least 1
 pub record IsPositive (most greatest : ℕ) (digits : List ℕ) (n : ℕ) : Type 0 where
@@ -58,51 +71,62 @@ named_in (word ∷ []) name = false
 named_in (word ∷ value ∷ more) name = (bytes_eq word (codes "--compiler") && bytes_eq (name_in value) name) || named_in more name
 
 -- one rule more
-pub record AddsRule (allow : Bool) (value : List ℕ) (options next : Options) : Type 0 where
+pub record AddsRule (allow : Bool) (before : List (List ℕ)) (value : List ℕ) : Type 0 where
   pub rule : Rule
   pub says : RuleOf allow value rule
-  pub room : options.rules < 64
-  pub next_is : next ≡ record options { rules = options.rules + 1 }
+  pub room : count_in kind.Rule before < 64
 
 -- one compiler more, of another name than those before
-pub record AddsCompiler (value : List ℕ) (before : List (List ℕ)) (options next : Options) : Type 0 where
+pub record AddsCompiler (before : List (List ℕ)) (value : List ℕ) : Type 0 where
   pub compiler : IsCompiler value
   pub other : named_in before (name_in value) ≡ false
-  pub room : options.compilers < 64
-  pub next_is : next ≡ record options { compilers = options.compilers + 1 }
+  pub room : count_in kind.Compiler before < 64
 
--- what the options say with one more, behind these words
-abbrev pub Sets : OptionName → List ℕ → List (List ℕ) → Options → Options → Type 0
-Sets option.Compiler value before options next = AddsCompiler value before options next
-Sets option.Port value before options next = (n : ℕ) × IsPositive 5 65535 value n × (next ≡ record options { port = Some n })
-Sets option.Listen value before options next = (addr : ℕ) × IsAddress value addr × (next ≡ record options { listen = Some addr })
-Sets option.Jobs value before options next = (n : ℕ) × IsPositive 2 16 value n × (next ≡ record options { jobs = Some n })
-Sets option.Serve value before options next = (n : ℕ) × IsPositive 6 100000 value n × (next ≡ record options { serve = Some n })
-Sets option.Cache value before options next = (n : ℕ) × IsPositive 3 128 value n × (next ≡ record options { cache = Some n })
-Sets option.Allow value before options next = AddsRule true value options next
-Sets option.Deny value before options next = AddsRule false value options next
+-- the number that the value of an option spells
+abbrev pub IsSpelled : OptionName → List ℕ → ℕ → Type 0
+IsSpelled option.Port value n = IsPositive 5 65535 value n
+IsSpelled option.Listen value n = IsAddress value n
+IsSpelled option.Jobs value n = IsPositive 2 16 value n
+IsSpelled option.Serve value n = IsPositive 6 100000 value n
+IsSpelled option.Cache value n = IsPositive 3 128 value n
+IsSpelled _ value n = ⊥
 
--- the value of an option isn't right
-abbrev pub IsWrong : OptionName → List ℕ → List (List ℕ) → Options → Type 0
-IsWrong name value before options = (next : Options) → Sets name value before options next → ⊥
+-- a word may be the value of this option, behind these words
+abbrev pub ValueFits : Option OptionName → List (List ℕ) → List ℕ → Type 0
+ValueFits None before value = ⊥
+ValueFits (Some option.Compiler) before value = AddsCompiler before value
+ValueFits (Some option.Allow) before value = AddsRule true before value
+ValueFits (Some option.Deny) before value = AddsRule false before value
+ValueFits (Some name) before value = (n : ℕ) × IsSpelled name value n
 
--- an option behind these words, and what the words behind it say
-abbrev pub PairIs : List ℕ → List (List ℕ) → Options → (Options → Type 0) → Result Options ℕ → Option OptionName → Type 0
-PairIs value before options more read None = read ≡ Err (length before)
-PairIs value before options more read (Some name) =
-    (IsWrong name value before options × (read ≡ Err (length before + 1))) ⊎ ((next : Options) × Sets name value before options next × more next)
+-- the options of `farmd`
+abbrev pub options : Table
+options = record {
+  known = λ word. row_of (option_named word);
+  Fits = λ before name value. ValueFits (option_named name) before value;
+}
 
--- an option without a value: the place of the missing word is the number of words
-abbrev pub lone_place : Option OptionName → ℕ → ℕ
-lone_place None place = place
-lone_place (Some name) place = place + 1
+-- ---- what they say
 
--- What these words say behind others; or the place of the first that isn't right.
-abbrev pub Reads : List (List ℕ) → Options → List (List ℕ) → Result Options ℕ → Type 0
-Reads before options [] read = read ≡ Ok options
-Reads before options (word ∷ []) read = read ≡ Err (lone_place (option_here options word) (length before))
-Reads before options (word ∷ value ∷ rest) read =
-    PairIs value before options (λ next. Reads (before ++ word ∷ value ∷ []) next rest read) read (option_here options word)
+-- the number of the option with this value, if it is given
+abbrev pub GivenBy : OptionName → Option (List ℕ) → Option ℕ → Type 0
+GivenBy name None n = n ≡ None
+GivenBy name (Some value) None = (n : ℕ) → IsSpelled name value n → ⊥
+GivenBy name (Some value) (Some n) = IsSpelled name value n
+
+pub record Says (words : List (List ℕ)) (items : List Item) (given : Options) : Type 0 where
+  pub port : GivenBy option.Port (value_in (codes "--port") items) given.port
+  pub listen : GivenBy option.Listen (value_in (codes "--listen") items) given.listen
+  pub jobs : GivenBy option.Jobs (value_in (codes "--jobs") items) given.jobs
+  pub serve : GivenBy option.Serve (value_in (codes "--serve") items) given.serve
+  pub cache : GivenBy option.Cache (value_in (codes "--cache") items) given.cache
+  pub compilers : given.compilers ≡ count_in kind.Compiler words
+  pub rules : given.rules ≡ count_in kind.Rule words
+
+-- What these words say; or the place, from 0, of the first that isn't right. That of a missing word is their number.
+abbrev pub Reads : List (List ℕ) → Result Options ℕ → Type 0
+Reads words (Ok given) = (items : List Item) × AreOptions options words items × Says words items given
+Reads words (Err place) = BadOptionAt options words place
 
 -- a number that is given is within these
 abbrev pub IsWithin : ℕ → ℕ → Option ℕ → Type 0

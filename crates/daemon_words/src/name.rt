@@ -2,6 +2,7 @@
 
 ghost use Rattle.std.specs.Prelude.{◌≡◌};
 ghost use Rattle.daemon_words.specs.Names.{option_named};
+ghost use Rattle.daemon_words.specs.Options.{is_of, repeats};
 
 /// The name of an option of `farmd`. Each has a value, the word behind it.
 #[derive(Clone, Copy, Debug, PartialEq, Eq)]
@@ -22,6 +23,38 @@ pub enum OptionName {
     Deny,
     /// `--cache`
     Cache,
+}
+
+// What may be given up to 64 times.
+#[derive(Clone, Copy, Debug, PartialEq, Eq)]
+pub(crate) enum Kind {
+    Compiler,
+    Rule,
+}
+
+impl OptionName {
+    // Whether the option may stand more than once.
+    pub(crate) fn repeats(self) -> bool
+        ensures { result ≡ repeats self }
+    {
+        matches!(
+            self,
+            OptionName::Compiler | OptionName::Allow | OptionName::Deny
+        )
+    }
+}
+
+impl Kind {
+    // Whether an option is of this kind.
+    pub(crate) fn has(self, option: Option<OptionName>) -> bool
+        ensures { result ≡ is_of self option }
+    {
+        match (self, option) {
+            (Kind::Compiler, Some(OptionName::Compiler)) => true,
+            (Kind::Rule, Some(OptionName::Allow | OptionName::Deny)) => true,
+            _ => false,
+        }
+    }
 }
 
 // The option that a word names.

@@ -1,10 +1,7 @@
 //! What the options say.
 
 ghost use Rattle.std.specs.Prelude.{◌≡◌, unwrap_or};
-ghost use Rattle.daemon_words.specs.Options as says;
-ghost use Rattle.daemon_words.specs.Options.{nothing_given, is_given, book_bound};
-
-use crate::name::{OptionName, parse_option};
+ghost use Rattle.daemon_words.specs.Options.{book_bound};
 
 /// The port where none is given.
 const PORT: u16 = 3632;
@@ -33,21 +30,6 @@ pub struct Options {
 }
 
 impl Options {
-    // No option stood yet.
-    pub(crate) fn nothing() -> Options
-        ensures { result ≡ nothing_given }
-    {
-        Options {
-            port: None,
-            listen: None,
-            jobs: None,
-            serve: None,
-            cache: None,
-            compilers: 0,
-            rules: 0,
-        }
-    }
-
     /// The port: 3632 where none is given.
     pub fn port(&self) -> u16
         ensures { result ≡ unwrap_or self.now.port 3632 }
@@ -83,34 +65,6 @@ impl Options {
         match self.cache {
             Some(mebibytes) => Some(u64::from(mebibytes) * MEBIBYTE),
             None => None,
-        }
-    }
-
-    // Whether an option stood already that may stand once.
-    fn is_given(&self, option: OptionName) -> bool
-        ensures { result ≡ is_given self.now option }
-    {
-        match option {
-            OptionName::Port => self.port.is_some(),
-            OptionName::Listen => self.listen.is_some(),
-            OptionName::Jobs => self.jobs.is_some(),
-            OptionName::Serve => self.serve.is_some(),
-            OptionName::Cache => self.cache.is_some(),
-            OptionName::Compiler | OptionName::Allow | OptionName::Deny => false,
-        }
-    }
-
-    // The option that a word names, where it may stand here.
-    pub(crate) fn option_here(&self, word: &str) -> Option<OptionName>
-        ensures { result ≡ says.option_here self.now word.now }
-    {
-        let Some(option) = parse_option(word) else {
-            return None;
-        };
-        if self.is_given(option) {
-            None
-        } else {
-            Some(option)
         }
     }
 }

@@ -1,34 +1,119 @@
 //! The words that are options.
 
-ghost use Rattle.std.specs.Prelude.{◌≤◌, [], map, length, string_bytes, IfErr};
-ghost use Rattle.daemon_words.specs.Options.{Reads, nothing_given};
+ghost use Rattle.std.specs.Prelude.{◌≡◌, ◌≤◌, List, map, length, string_bytes, IfErr};
+ghost use Rattle.std.specs.Option.{option_copied};
+ghost use Rattle.option_words.specs.Items.{Item};
+ghost use Rattle.option_words.specs.Readings.{AreOptions};
+ghost use Rattle.daemon_words.specs.declared.name.OptionName.TheVariants as names;
+ghost use Rattle.daemon_words.specs.Options as says;
+ghost use Rattle.daemon_words.specs.Options.{GivenBy, Reads, Says, row_of};
 
+use crate::name::{Kind, OptionName, parse_option};
 use crate::options::Options;
-use crate::setting::set_option;
+use crate::setting::{
+    count_in, is_value, read_cache, read_jobs, read_listen, read_port, read_serve,
+};
+use option_words::{OptionTable, Row, check_options, value_of};
+
+/// The options of `farmd`.
+struct DaemonOptions;
+
+// What is known of an option.
+fn row_of(option: Option<OptionName>) -> Option<Row>
+    ensures { result ≡ row_of option }
+{
+    match option {
+        Some(option) => Some(Row {
+            takes_value: true,
+            repeats: option.repeats(),
+        }),
+        None => None,
+    }
+}
+
+impl OptionTable for DaemonOptions {
+    ghost use Rattle.daemon_words.specs.Options.{options};
+
+    ghost table = { λ _. options };
+
+    fn row(&self, word: &str) -> Option<Row> {
+        row_of(parse_option(word))
+    }
+
+    fn fits(&self, before: &[String], name: &str, value: &str) -> bool {
+        is_value(parse_option(name), before, value.as_bytes())
+    }
+}
+
+fn port_in(value: Option<&str>) -> Option<u16>
+    ensures { GivenBy names.Port (option_copied value.entry) result }
+{
+    match value {
+        Some(word) => read_port(word.as_bytes()),
+        None => None,
+    }
+}
+
+fn listen_in(value: Option<&str>) -> Option<u32>
+    ensures { GivenBy names.Listen (option_copied value.entry) result }
+{
+    match value {
+        Some(word) => read_listen(word.as_bytes()),
+        None => None,
+    }
+}
+
+fn jobs_in(value: Option<&str>) -> Option<u8>
+    ensures { GivenBy names.Jobs (option_copied value.entry) result }
+{
+    match value {
+        Some(word) => read_jobs(word.as_bytes()),
+        None => None,
+    }
+}
+
+fn serve_in(value: Option<&str>) -> Option<u32>
+    ensures { GivenBy names.Serve (option_copied value.entry) result }
+{
+    match value {
+        Some(word) => read_serve(word.as_bytes()),
+        None => None,
+    }
+}
+
+fn cache_in(value: Option<&str>) -> Option<u8>
+    ensures { GivenBy names.Cache (option_copied value.entry) result }
+{
+    match value {
+        Some(word) => read_cache(word.as_bytes()),
+        None => None,
+    }
+}
+
+// What options say.
+fn options_in(words: &[String]) -> Options
+    requires { (items : List Item) × AreOptions says.options (map string_bytes words.now) items }
+    ensures { (items : List Item) → AreOptions says.options (map string_bytes words.now) items → Says (map string_bytes words.now) items result }
+{
+    Options {
+        port: port_in(value_of(&DaemonOptions, words, "--port")),
+        listen: listen_in(value_of(&DaemonOptions, words, "--listen")),
+        jobs: jobs_in(value_of(&DaemonOptions, words, "--jobs")),
+        serve: serve_in(value_of(&DaemonOptions, words, "--serve")),
+        cache: cache_in(value_of(&DaemonOptions, words, "--cache")),
+        compilers: count_in(Kind::Compiler, words) as u32,
+        rules: count_in(Kind::Rule, words) as u32,
+    }
+}
 
 /// What options say, or the place of the first word that isn't right; that of a missing word is the number of words. It takes
 /// no memory.
 pub(crate) fn read_options(words: &[String]) -> Result<Options, usize>
-    ensures read { Reads [] nothing_given (map string_bytes words.now) result }
+    ensures read { Reads (map string_bytes words.now) result }
     ensures within { IfErr result (λ place. place ≤ length words.now) }
 {
-    let mut options = Options::nothing();
-    let mut at = 0;
-    let mut rest = words;
-    'reading: while let [word, ..] = rest {
-        let Some(option) = options.option_here(word.as_str()) else {
-            return Err(at);
-        };
-        let [_, value, after @ ..] = rest else {
-            return Err(at + 1);
-        };
-        let value = value.as_str().as_bytes();
-        let Some(next) = set_option(&options, &words[..at], option, value) else {
-            return Err(at + 1);
-        };
-        options = next;
-        at += 2;
-        rest = after;
+    match check_options(&DaemonOptions, words) {
+        Ok(_) => Ok(options_in(words)),
+        Err(place) => Err(place),
     }
-    Ok(options)
 }

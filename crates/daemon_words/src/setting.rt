@@ -1,17 +1,16 @@
-//! One option more.
+//! The values of options.
 
-ghost use Rattle.std.specs.Prelude.{◌≡◌, ◌≤◌, ◌&&◌, ℕ, [], true, false, map, string_bytes, bytes_eq, codes, IfSome, IfNone};
+ghost use Rattle.std.specs.Prelude.{◌≡◌, ◌≤◌, ◌&&◌, ℕ, true, false, map, length, string_bytes, bytes_eq, codes, IfSome, IfNone};
 ghost use Rattle.daemon_words.specs.declared.name.OptionName.TheVariants as names;
-ghost use Rattle.daemon_words.specs.declared.options.Options.{Options as Given};
+ghost use Rattle.daemon_words.specs.Names.{option_named};
 ghost use Rattle.daemon_words.specs.Options as says;
-ghost use Rattle.daemon_words.specs.Options.{AddsCompiler, AddsRule, IsCompiler, IsPositive, IsWrong, Sets, named_in};
+ghost use Rattle.daemon_words.specs.Options.{AddsCompiler, AddsRule, IsCompiler, IsPositive, IsSpelled, ValueFits, named_in};
 
-use crate::name::OptionName;
-use crate::options::Options;
+use crate::name::{Kind, OptionName, parse_option};
 use access_list::{parse_rule, place_of, read_address, read_number};
 
 /// The most compilers, and the most rules.
-const MOST: u32 = 64;
+const MOST: usize = 64;
 
 // The number from 1 that the digits spell.
 fn read_positive(digits: &[u8], most: usize, greatest: u32) -> Option<u32>
@@ -62,117 +61,115 @@ fn is_named(before: &[String], name: &[u8]) -> bool
     false
 }
 
-// With one compiler more.
-fn add_compiler(options: &Options, before: &[String], value: &[u8]) -> Option<Options>
-    ensures found { IfSome result (AddsCompiler value.now (map string_bytes before.now) options.now) }
-    ensures none { IfNone result ((next : Given) → AddsCompiler value.now (map string_bytes before.now) options.now next → ⊥) }
+// How many of these options are of this kind.
+pub(crate) fn count_in(kind: Kind, words: &[String]) -> usize
+    ensures count { result ≡ says.count_in kind (map string_bytes words.now) }
+    ensures few { result ≤ length words.now }
 {
-    if MOST <= options.compilers || !is_compiler(value) || is_named(before, name_in(value)) {
-        return None;
+    let mut count = 0;
+    let mut rest = words;
+    'counting: while let [word, _, more @ ..] = rest {
+        rest = more;
+        if kind.has(parse_option(word.as_str())) {
+            count += 1;
+        }
     }
-    Some(Options {
-        compilers: options.compilers + 1,
-        ..*options
-    })
+    count
 }
 
-// With one rule more.
-fn add_rule(options: &Options, allow: bool, value: &[u8]) -> Option<Options>
-    ensures found { IfSome result (AddsRule allow value.now options.now) }
-    ensures none { IfNone result ((next : Given) → AddsRule allow value.now options.now next → ⊥) }
+// Whether a value is one compiler more.
+fn adds_compiler(before: &[String], value: &[u8]) -> bool
+    ensures yes { result ≡ true → AddsCompiler (map string_bytes before.now) value.now }
+    ensures no { result ≡ false → AddsCompiler (map string_bytes before.now) value.now → ⊥ }
 {
-    if MOST <= options.rules || parse_rule(allow, value).is_err() {
-        return None;
+    if MOST <= count_in(Kind::Compiler, before) || !is_compiler(value) {
+        return false;
     }
-    Some(Options {
-        rules: options.rules + 1,
-        ..*options
-    })
+    !is_named(before, name_in(value))
 }
 
-fn set_port(options: &Options, value: &[u8]) -> Option<Options>
-    ensures found { IfSome result (Sets names.Port value.now [] options.now) }
-    ensures none { IfNone result (IsWrong names.Port value.now [] options.now) }
+// Whether a value is one rule more.
+fn adds_rule(before: &[String], allow: bool, value: &[u8]) -> bool
+    ensures yes { result ≡ true → AddsRule allow (map string_bytes before.now) value.now }
+    ensures no { result ≡ false → AddsRule allow (map string_bytes before.now) value.now → ⊥ }
 {
-    let Some(port) = read_positive(value, 5, 65_535) else {
-        return None;
-    };
-    Some(Options {
-        port: Some(port as u16),
-        ..*options
-    })
+    if MOST <= count_in(Kind::Rule, before) {
+        return false;
+    }
+    parse_rule(allow, value).is_ok()
 }
 
-fn set_listen(options: &Options, value: &[u8]) -> Option<Options>
-    ensures found { IfSome result (Sets names.Listen value.now [] options.now) }
-    ensures none { IfNone result (IsWrong names.Listen value.now [] options.now) }
+/// The port that a value spells.
+pub(crate) fn read_port(value: &[u8]) -> Option<u16>
+    ensures found { IfSome result (IsSpelled names.Port value.now) }
+    ensures none { IfNone result ((n : ℕ) → IsSpelled names.Port value.now n → ⊥) }
 {
-    let Some(address) = read_address(value) else {
-        return None;
-    };
-    Some(Options {
-        listen: Some(address),
-        ..*options
-    })
+    match read_positive(value, 5, 65_535) {
+        Some(port) => Some(port as u16),
+        None => None,
+    }
 }
 
-fn set_jobs(options: &Options, value: &[u8]) -> Option<Options>
-    ensures found { IfSome result (Sets names.Jobs value.now [] options.now) }
-    ensures none { IfNone result (IsWrong names.Jobs value.now [] options.now) }
+/// The address that a value spells.
+pub(crate) fn read_listen(value: &[u8]) -> Option<u32>
+    ensures found { IfSome result (IsSpelled names.Listen value.now) }
+    ensures none { IfNone result ((n : ℕ) → IsSpelled names.Listen value.now n → ⊥) }
 {
-    let Some(jobs) = read_positive(value, 2, 16) else {
-        return None;
-    };
-    Some(Options {
-        jobs: Some(jobs as u8),
-        ..*options
-    })
+    read_address(value)
 }
 
-fn set_serve(options: &Options, value: &[u8]) -> Option<Options>
-    ensures found { IfSome result (Sets names.Serve value.now [] options.now) }
-    ensures none { IfNone result (IsWrong names.Serve value.now [] options.now) }
+// Whether a value spells an address.
+fn is_listen(value: &[u8]) -> bool
+    ensures yes { result ≡ true → (n : ℕ) × IsSpelled names.Listen value.now n }
+    ensures no { result ≡ false → (n : ℕ) × IsSpelled names.Listen value.now n → ⊥ }
 {
-    let Some(serve) = read_positive(value, 6, 100_000) else {
-        return None;
-    };
-    Some(Options {
-        serve: Some(serve),
-        ..*options
-    })
+    read_listen(value).is_some()
 }
 
-fn set_cache(options: &Options, value: &[u8]) -> Option<Options>
-    ensures found { IfSome result (Sets names.Cache value.now [] options.now) }
-    ensures none { IfNone result (IsWrong names.Cache value.now [] options.now) }
+/// The number of doors that a value spells.
+pub(crate) fn read_jobs(value: &[u8]) -> Option<u8>
+    ensures found { IfSome result (IsSpelled names.Jobs value.now) }
+    ensures none { IfNone result ((n : ℕ) → IsSpelled names.Jobs value.now n → ⊥) }
 {
-    let Some(mebibytes) = read_positive(value, 3, 128) else {
-        return None;
-    };
-    Some(Options {
-        cache: Some(mebibytes as u8),
-        ..*options
-    })
+    match read_positive(value, 2, 16) {
+        Some(jobs) => Some(jobs as u8),
+        None => None,
+    }
 }
 
-/// What the options say with one more behind these words. None where its value isn't right.
-pub(crate) fn set_option(
-    options: &Options,
-    before: &[String],
-    option: OptionName,
-    value: &[u8],
-) -> Option<Options>
-    ensures found { IfSome result (Sets option value.now (map string_bytes before.now) options.now) }
-    ensures none { IfNone result (IsWrong option value.now (map string_bytes before.now) options.now) }
+/// The number of connections that a value spells.
+pub(crate) fn read_serve(value: &[u8]) -> Option<u32>
+    ensures found { IfSome result (IsSpelled names.Serve value.now) }
+    ensures none { IfNone result ((n : ℕ) → IsSpelled names.Serve value.now n → ⊥) }
+{
+    read_positive(value, 6, 100_000)
+}
+
+/// The number of MiB that a value spells.
+pub(crate) fn read_cache(value: &[u8]) -> Option<u8>
+    ensures found { IfSome result (IsSpelled names.Cache value.now) }
+    ensures none { IfNone result ((n : ℕ) → IsSpelled names.Cache value.now n → ⊥) }
+{
+    match read_positive(value, 3, 128) {
+        Some(mebibytes) => Some(mebibytes as u8),
+        None => None,
+    }
+}
+
+/// Whether a word may be the value of an option behind these words.
+pub(crate) fn is_value(option: Option<OptionName>, before: &[String], value: &[u8]) -> bool
+    ensures yes { result ≡ true → ValueFits option (map string_bytes before.now) value.now }
+    ensures no { result ≡ false → ValueFits option (map string_bytes before.now) value.now → ⊥ }
 {
     match option {
-        OptionName::Compiler => add_compiler(options, before, value),
-        OptionName::Port => set_port(options, value),
-        OptionName::Listen => set_listen(options, value),
-        OptionName::Jobs => set_jobs(options, value),
-        OptionName::Serve => set_serve(options, value),
-        OptionName::Cache => set_cache(options, value),
-        OptionName::Allow => add_rule(options, true, value),
-        OptionName::Deny => add_rule(options, false, value),
+        Some(OptionName::Compiler) => adds_compiler(before, value),
+        Some(OptionName::Port) => read_port(value).is_some(),
+        Some(OptionName::Listen) => is_listen(value),
+        Some(OptionName::Jobs) => read_jobs(value).is_some(),
+        Some(OptionName::Serve) => read_serve(value).is_some(),
+        Some(OptionName::Cache) => read_cache(value).is_some(),
+        Some(OptionName::Allow) => adds_rule(before, true, value),
+        Some(OptionName::Deny) => adds_rule(before, false, value),
+        None => false,
     }
 }

@@ -1,7 +1,4 @@
-mod Cutting
 mod NumberLemmas
-mod Walk
-mod Items
 mod OptionReading
 mod CommandLemmas
 pub mod Periods

@@ -8,16 +8,15 @@ use Rattle.farm_words.specs.declared.name.FirstWord.TheVariants as first
 use Rattle.farm_words.specs.Names.{first_word}
 use Rattle.farm_words.specs.Options.{Given}
 use Rattle.farm_words.specs.Commands.{BadAt, IsCommand, Meaning, Build, Watch, Graph, Cc, Hosts, Scan, Help, Version, at_most, at_least_one, rehearse_words, with_options, asks_help, NamedCommand, ByFirstWord, WordsRead}
-use Rattle.farm_words.proofs.Walk.{options_of}
-use Rattle.farm_words.proofs.OptionReading.{walk_reads, walk_says}
+use Rattle.farm_words.proofs.OptionReading.{options_read, all_read, read_once}
 
 -- a command by the words behind its name
 abbrev command_words : CommandName → List (List ℕ) → Result Meaning ℕ
-command_words name.Build words = with_options Build (options_of name.Build words)
-command_words name.Watch words = with_options Watch (options_of name.Watch words)
-command_words name.Graph words = with_options Graph (options_of name.Graph words)
+command_words name.Build words = with_options Build (options_read name.Build words)
+command_words name.Watch words = with_options Watch (options_read name.Watch words)
+command_words name.Graph words = with_options Graph (options_read name.Graph words)
 command_words name.Cc words = at_least_one (Cc words) words
-command_words name.Hosts words = with_options (λ options. Hosts options.hosts) (options_of name.Hosts words)
+command_words name.Hosts words = with_options (λ options. Hosts options.hosts) (options_read name.Hosts words)
 command_words name.Scan words = at_least_one (Scan words) words
 command_words name.Rehearse words = rehearse_words words
 
@@ -34,20 +33,20 @@ read_words [] = Err 0
 read_words (word ∷ words) = by_first_word (first_word word) words
 
 named_some : (name : CommandName) (words : List (List ℕ)) → NamedCommand name words (command_words name words)
-named_some name.Build words = (options_of name.Build words, walk_reads name.Build words, refl)
-named_some name.Watch words = (options_of name.Watch words, walk_reads name.Watch words, refl)
-named_some name.Graph words = (options_of name.Graph words, walk_reads name.Graph words, refl)
+named_some name.Build words = (options_read name.Build words, all_read name.Build words, refl)
+named_some name.Watch words = (options_read name.Watch words, all_read name.Watch words, refl)
+named_some name.Graph words = (options_read name.Graph words, all_read name.Graph words, refl)
 named_some name.Cc words = refl
-named_some name.Hosts words = (options_of name.Hosts words, walk_reads name.Hosts words, refl)
+named_some name.Hosts words = (options_read name.Hosts words, all_read name.Hosts words, refl)
 named_some name.Scan words = refl
 named_some name.Rehearse words = refl
 
 named_one : (name : CommandName) (words : List (List ℕ)) (answer : Result Meaning ℕ) → NamedCommand name words answer → answer ≡ command_words name words
-named_one name.Build words answer read = read.2 ∙ ap (with_options Build) (walk_says name.Build words read.0 read.1)
-named_one name.Watch words answer read = read.2 ∙ ap (with_options Watch) (walk_says name.Watch words read.0 read.1)
-named_one name.Graph words answer read = read.2 ∙ ap (with_options Graph) (walk_says name.Graph words read.0 read.1)
+named_one name.Build words answer read = read.2 ∙ ap (with_options Build) (read_once name.Build words read.0 read.1)
+named_one name.Watch words answer read = read.2 ∙ ap (with_options Watch) (read_once name.Watch words read.0 read.1)
+named_one name.Graph words answer read = read.2 ∙ ap (with_options Graph) (read_once name.Graph words read.0 read.1)
 named_one name.Cc words answer is = is
-named_one name.Hosts words answer read = read.2 ∙ ap (with_options (λ (options : Given). Hosts options.hosts)) (walk_says name.Hosts words read.0 read.1)
+named_one name.Hosts words answer read = read.2 ∙ ap (with_options (λ (options : Given). Hosts options.hosts)) (read_once name.Hosts words read.0 read.1)
 named_one name.Scan words answer is = is
 named_one name.Rehearse words answer is = is
 

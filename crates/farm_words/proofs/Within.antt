@@ -1,5 +1,5 @@
 -- What the words of a command say is within its limits.
-use Rattle.std.proofs.Common.{◌≡◌, ◌<◌, ◌≤◌, ℕ, Bool, true, false, cond, ◌&&◌, List, [], ◌∷◌, length, map, Option, Some, None, Result, Ok, Err, nat_le, refl, sym, ap, subst, arith}
+use Rattle.std.proofs.Common.{◌≡◌, ◌≤◌, ℕ, Bool, true, false, ◌&&◌, List, [], ◌∷◌, length, Option, Some, None, Result, Ok, Err, nat_le, refl, sym, subst, arith}
 use Rattle.std.specs.Prelude.{unwrap_or, ◌==◌, if◌then◌else◌, MatchBool}
 use Rattle.std.specs.Option.{option_and_then}
 use Rattle.std.specs.Str.Parse.{digits_value}
@@ -10,10 +10,11 @@ use Rattle.farm_words.specs.declared.name.FirstWord.{FirstWord}
 use Rattle.farm_words.specs.declared.name.FirstWord.TheVariants as first
 use Rattle.farm_words.specs.declared.name.OptionName.TheVariants as option
 use Rattle.farm_words.specs.Limits.{count_digits, workers_max, jobs_max, tries_digits, tries_max, lines_max}
-use Rattle.farm_words.specs.Names.{first_word}
-use Rattle.farm_words.specs.Numbers.{is_short_number, number_of, workers_of, tries_of, lines_of, jobs_of}
-use Rattle.farm_words.specs.Commands.{Meaning, Build, Watch, Graph, Cc, Hosts, Scan, Rehearse, Help, Version, IsCommand, WordsRead, ByFirstWord, NamedCommand, asks_help, at_most, at_least_one, counted, rehearse_words, with_options}
-use Rattle.farm_words.specs.Options.{Given, Item, value_in, given_by, OptionsRead, AreOptions, worker_count, try_count, line_count}
+use Rattle.farm_words.specs.Numbers.{is_short_number, number_of, jobs_of}
+use Rattle.farm_words.specs.Commands.{Meaning, Cc, Scan, Rehearse, Help, Version, IsCommand, ByFirstWord, NamedCommand, asks_help, at_most, counted, rehearse_words}
+use Rattle.farm_words.specs.Options.{given_by}
+use Rattle.farm_words.specs.Names.{first_word, option_text}
+use Rattle.option_words.specs.Items.{Item, value_in}
 use Rattle.farm_words.specs.Within.{AreWithin, IsWithin}
 
 -- a number that is read is within its limits
@@ -35,14 +36,14 @@ within-or digits greatest default (Some word) known = go (number_of digits 1 gre
     go None is = known
     go (Some m) is = number-within digits 1 greatest word m is
 
-options-within : (command : CommandName) (words : List (List ℕ)) (says : Given) → AreOptions command words says → AreWithin says
-options-within command words says are = subst AreWithin (sym are.said) (record {
-  some_workers = (within-or count_digits workers_max 4 (value_in option.Workers are.items) (omega arith, omega arith)).0;
-  some_tries = (within-or tries_digits tries_max 1 (value_in option.Tries are.items) (omega arith, omega arith)).0;
-  most_tries = (within-or tries_digits tries_max 1 (value_in option.Tries are.items) (omega arith, omega arith)).1;
-  some_lines = (within-or count_digits lines_max 10 (value_in option.Lines are.items) (omega arith, omega arith)).0;
-  most_lines = (within-or count_digits lines_max 10 (value_in option.Lines are.items) (omega arith, omega arith)).1;
-})
+items-within : (items : List Item) → AreWithin (given_by items)
+items-within items = record {
+  some_workers = (within-or count_digits workers_max 4 (value_in (option_text option.Workers) items) (omega arith, omega arith)).0;
+  some_tries = (within-or tries_digits tries_max 1 (value_in (option_text option.Tries) items) (omega arith, omega arith)).0;
+  most_tries = (within-or tries_digits tries_max 1 (value_in (option_text option.Tries) items) (omega arith, omega arith)).1;
+  some_lines = (within-or count_digits lines_max 10 (value_in (option_text option.Lines) items) (omega arith, omega arith)).0;
+  most_lines = (within-or count_digits lines_max 10 (value_in (option_text option.Lines) items) (omega arith, omega arith)).1;
+}
 
 abbrev ResultWithin : Result Meaning ℕ → Type 0
 ResultWithin (Ok meant) = IsWithin meant
@@ -70,11 +71,11 @@ rehearsed (word ∷ words) = go (jobs_of word) refl
     go (Some jobs) is = let few = number-within count_digits 1 jobs_max word jobs is in either (nat_le (length (word ∷ words)) 1) (Rehearse jobs) 2 (record { some = few.0; most = few.1 })
 
 named : (command : CommandName) (words : List (List ℕ)) (answer : Result Meaning ℕ) → NamedCommand command words answer → ResultWithin answer
-named name.Build words answer (Ok says, read, is) = subst ResultWithin (sym is) (options-within name.Build words says read)
+named name.Build words answer (Ok says, read, is) = subst ResultWithin (sym is) (subst AreWithin (sym read.2) (items-within read.0))
 named name.Build words answer (Err place, read, is) = subst ResultWithin (sym is) tt
-named name.Watch words answer (Ok says, read, is) = subst ResultWithin (sym is) (options-within name.Watch words says read)
+named name.Watch words answer (Ok says, read, is) = subst ResultWithin (sym is) (subst AreWithin (sym read.2) (items-within read.0))
 named name.Watch words answer (Err place, read, is) = subst ResultWithin (sym is) tt
-named name.Graph words answer (Ok says, read, is) = subst ResultWithin (sym is) (options-within name.Graph words says read)
+named name.Graph words answer (Ok says, read, is) = subst ResultWithin (sym is) (subst AreWithin (sym read.2) (items-within read.0))
 named name.Graph words answer (Err place, read, is) = subst ResultWithin (sym is) tt
 named name.Cc words answer is = subst ResultWithin (sym is) (some-words words (length words == 0) refl)
 named name.Hosts words answer (Ok says, read, is) = subst ResultWithin (sym is) tt

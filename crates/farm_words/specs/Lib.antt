@@ -2,7 +2,6 @@ pub mod Limits
 pub mod Numbers
 pub mod Names
 pub mod Options
-pub mod Steps
 pub mod Commands
 pub mod Environment
 pub mod Help

@@ -47,15 +47,6 @@ takes_value option.NoFallback = false
 takes_value option.NoRetry = false
 takes_value _ = true
 
-abbrev pub same_option : OptionName → OptionName → Bool
-same_option option.Hosts option.Hosts = true
-same_option option.Workers option.Workers = true
-same_option option.Tries option.Tries = true
-same_option option.Lines option.Lines = true
-same_option option.NoFallback option.NoFallback = true
-same_option option.NoRetry option.NoRetry = true
-same_option _ _ = false
-
 -- `watch` has all options, `build` and `graph` all but `--lines`, and `hosts` has `--hosts`
 abbrev pub has_option : CommandName → OptionName → Bool
 has_option command.Watch name = true

@@ -1,6 +1,6 @@
 -- What the words of a command say is within its limits.
-use Rattle.std.specs.Prelude.{ℕ, ◌<◌, ◌≤◌, List, length}
-use Rattle.farm_words.specs.Commands.{Meaning, Build, Watch, Graph, Cc, Hosts, Scan, Rehearse, Help, Version}
+use Rattle.std.specs.Prelude.{ℕ, ◌<◌, ◌≤◌, length}
+use Rattle.farm_words.specs.Commands.{Meaning, Build, Watch, Graph, Cc, Rehearse}
 use Rattle.farm_words.specs.Limits.{tries_max, lines_max, jobs_max}
 use Rattle.farm_words.specs.Options.{Given, worker_count, try_count, line_count}
 

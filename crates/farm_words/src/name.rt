@@ -1,7 +1,7 @@
 //! The names of commands and of options.
 
 ghost use Rattle.std.specs.Prelude.{◌≡◌, bytes_eq, codes};
-ghost use Rattle.farm_words.specs.Names.{first_word, has_option, option_named, takes_any_words};
+ghost use Rattle.farm_words.specs.Names.{first_word, has_option, option_named, takes_any_words, takes_value};
 
 /// The name of a command.
 #[derive(Clone, Copy, Debug, PartialEq, Eq)]
@@ -59,6 +59,15 @@ impl CommandName {
         ensures { result ≡ takes_any_words self }
     {
         matches!(self, CommandName::Cc | CommandName::Scan)
+    }
+}
+
+impl OptionName {
+    // Whether the word behind the option's name is its value.
+    pub(crate) fn takes_value(self) -> bool
+        ensures { result ≡ takes_value self }
+    {
+        !matches!(self, OptionName::NoFallback | OptionName::NoRetry)
     }
 }
 

@@ -1,13 +1,17 @@
 //! The options of a command.
 
-ghost use Rattle.std.specs.Prelude.{◌≡◌, map, string_bytes};
-ghost use Rattle.std.specs.Option.{option_map};
-ghost use Rattle.farm_words.specs.Options.{OptionsRead, given, line_count, options_meant, try_count, worker_count};
-ghost use Rattle.farm_words.specs.Steps.{after_word, at_end, begin_option, is_given, state};
+ghost use Rattle.std.specs.Prelude.{◌≡◌, List, map, string_bytes};
+ghost use Rattle.std.specs.Option.{option_and_then, option_copied};
+ghost use Rattle.option_words.specs.Items.{Item};
+ghost use Rattle.option_words.specs.Readings.{AreOptions};
+ghost use Rattle.farm_words.specs.Numbers.{lines_of, tries_of, workers_of};
+ghost use Rattle.farm_words.specs.Options.{OptionsRead, given, given_by, line_count, options_meant, options_of, row_of, try_count, value_fits, worker_count};
+ghost use Rattle.farm_words.specs.Names.{option_named};
 
 use crate::name::{CommandName, OptionName, parse_option_name};
 use crate::number::{parse_lines, parse_tries, parse_workers};
 use farm_types::limits::WORKERS_DEFAULT;
+use option_words::{OptionTable, Row, check_options, stands, value_of};
 
 /// What the options of a command say.
 #[derive(Clone, Copy, Debug, PartialEq, Eq)]
@@ -55,168 +59,100 @@ impl Options<'_> {
     }
 }
 
-// What the next word has to be.
-#[derive(Clone, Copy, Debug, PartialEq, Eq)]
-pub(crate) enum Expected {
-    Option,
-    HostList,
-    WorkerCount,
-    TryCount,
-    LineCount,
-}
-
-// What the words so far say.
-#[derive(Clone, Copy)]
-pub(crate) struct Reading<'a> {
-    pub options: Options<'a>,
-    pub expected: Expected,
-}
-
-// Whether an option stood already.
-fn is_option_given(options: &Options<'_>, option: OptionName) -> bool
-    ensures { result ≡ is_given (given options.now) option }
+// What is known of an option of the command.
+fn row_of(command: CommandName, option: Option<OptionName>) -> Option<Row>
+    ensures { result ≡ row_of command option }
 {
     match option {
-        OptionName::Hosts => options.hosts.is_some(),
-        OptionName::Workers => options.workers.is_some(),
-        OptionName::Tries => options.tries.is_some(),
-        OptionName::Lines => options.lines.is_some(),
-        OptionName::NoFallback => !options.fallback,
-        OptionName::NoRetry => !options.retry,
-    }
-}
-
-// What the words say with the name of this option.
-fn with_option(options: Options<'_>, option: OptionName) -> Reading<'_>
-    ensures { state result ≡ begin_option (given options.entry) option }
-{
-    match option {
-        OptionName::Hosts => Reading {
-            options,
-            expected: Expected::HostList,
-        },
-        OptionName::Workers => Reading {
-            options,
-            expected: Expected::WorkerCount,
-        },
-        OptionName::Tries => Reading {
-            options,
-            expected: Expected::TryCount,
-        },
-        OptionName::Lines => Reading {
-            options,
-            expected: Expected::LineCount,
-        },
-        OptionName::NoFallback => Reading {
-            options: Options {
-                fallback: false,
-                ..options
-            },
-            expected: Expected::Option,
-        },
-        OptionName::NoRetry => Reading {
-            options: Options {
-                retry: false,
-                ..options
-            },
-            expected: Expected::Option,
-        },
-    }
-}
-
-// What the words say with one more: None where it doesn't fit.
-fn with_word<'a>(
-    command: CommandName,
-    options: Options<'a>,
-    expected: Expected,
-    word: &'a str,
-) -> Option<Reading<'a>>
-    ensures { option_map state result ≡ after_word command (given options.entry) expected word.now }
-{
-    match expected {
-        Expected::Option => {
-            let option = parse_option_name(word)?;
-            if !command.has_option(option) || is_option_given(&options, option) {
-                return None;
-            }
-            Some(with_option(options, option))
-        }
-        Expected::HostList => Some(Reading {
-            options: Options {
-                hosts: Some(word),
-                ..options
-            },
-            expected: Expected::Option,
+        Some(option) if command.has_option(option) => Some(Row {
+            takes_value: option.takes_value(),
+            repeats: false,
         }),
-        Expected::WorkerCount => {
-            let workers = parse_workers(word)?;
-            Some(Reading {
-                options: Options {
-                    workers: Some(workers),
-                    ..options
-                },
-                expected: Expected::Option,
-            })
-        }
-        Expected::TryCount => {
-            let tries = parse_tries(word)?;
-            Some(Reading {
-                options: Options {
-                    tries: Some(tries),
-                    ..options
-                },
-                expected: Expected::Option,
-            })
-        }
-        Expected::LineCount => {
-            let lines = parse_lines(word)?;
-            Some(Reading {
-                options: Options {
-                    lines: Some(lines),
-                    ..options
-                },
-                expected: Expected::Option,
-            })
-        }
+        Some(_) => None,
+        None => None,
     }
 }
 
-// What the words say behind the last, which is followed by this place.
-fn finish(options: Options<'_>, expected: Expected, place: usize) -> Result<Options<'_>, usize>
-    ensures { options_meant result ≡ at_end (given options.entry) expected place }
+// Whether a word may be the value of an option.
+fn is_value(option: Option<OptionName>, word: &str) -> bool
+    ensures { result ≡ value_fits option word.now }
 {
-    match expected {
-        Expected::Option => Ok(options),
-        Expected::HostList | Expected::WorkerCount | Expected::TryCount | Expected::LineCount => {
-            Err(place)
-        }
+    match option {
+        Some(OptionName::Hosts) => true,
+        Some(OptionName::Workers) => parse_workers(word).is_some(),
+        Some(OptionName::Tries) => parse_tries(word).is_some(),
+        Some(OptionName::Lines) => parse_lines(word).is_some(),
+        Some(OptionName::NoFallback) => false,
+        Some(OptionName::NoRetry) => false,
+        None => false,
+    }
+}
+
+impl OptionTable for CommandName {
+    ghost use Rattle.farm_words.specs.Options.{options_of};
+
+    ghost table = { options_of };
+
+    fn row(&self, word: &str) -> Option<Row> {
+        row_of(*self, parse_option_name(word))
+    }
+
+    fn fits(&self, _before: &[String], name: &str, value: &str) -> bool {
+        is_value(parse_option_name(name), value)
+    }
+}
+
+// The number of workers that the value of an option spells.
+fn workers_in(value: Option<&str>) -> Option<u8>
+    ensures { result ≡ option_and_then workers_of (option_copied value.entry) }
+{
+    match value {
+        Some(word) => parse_workers(word),
+        None => None,
+    }
+}
+
+// The number of tries that the value of an option spells.
+fn tries_in(value: Option<&str>) -> Option<u8>
+    ensures { result ≡ option_and_then tries_of (option_copied value.entry) }
+{
+    match value {
+        Some(word) => parse_tries(word),
+        None => None,
+    }
+}
+
+// The number of lines that the value of an option spells.
+fn lines_in(value: Option<&str>) -> Option<u8>
+    ensures { result ≡ option_and_then lines_of (option_copied value.entry) }
+{
+    match value {
+        Some(word) => parse_lines(word),
+        None => None,
+    }
+}
+
+// What options say.
+fn options_in(command: CommandName, words: &[String]) -> Options<'_>
+    ensures { (items : List Item) → AreOptions (options_of command) (map string_bytes words.now) items → given result ≡ given_by items }
+{
+    Options {
+        hosts: value_of(&command, words, "--hosts"),
+        workers: workers_in(value_of(&command, words, "--workers")),
+        tries: tries_in(value_of(&command, words, "--tries")),
+        lines: lines_in(value_of(&command, words, "--lines")),
+        fallback: !stands(&command, words, "--no-fallback"),
+        retry: !stands(&command, words, "--no-retry"),
     }
 }
 
 // What the options of a command say, or the place of the first word that doesn't fit. The first of these words stands at
 // place 1 of the command line.
-pub(crate) fn parse_options<'a>(
-    command: CommandName,
-    words: &'a [String],
-) -> Result<Options<'a>, usize>
+pub(crate) fn parse_options(command: CommandName, words: &[String]) -> Result<Options<'_>, usize>
     ensures { OptionsRead command (map string_bytes words.now) (options_meant result) }
 {
-    let mut reading = Reading {
-        options: Options {
-            hosts: None,
-            workers: None,
-            tries: None,
-            lines: None,
-            fallback: true,
-            retry: true,
-        },
-        expected: Expected::Option,
-    };
-    'each: for (at, word) in words.iter().enumerate() {
-        match with_word(command, reading.options, reading.expected, word.as_str()) {
-            Some(next) => reading = next,
-            None => return Err(1 + at),
-        }
+    match check_options(&command, words) {
+        Ok(_) => Ok(options_in(command, words)),
+        Err(place) => Err(1 + place),
     }
-    finish(reading.options, reading.expected, 1 + words.len())
 }
