@@ -12,6 +12,3 @@ mod words;
 
 pub use cell::{Cell, Pass, Passes};
 pub use held::Held;
-
-#[cfg(test)]
-mod tests;

@@ -12,7 +12,7 @@ use Rattle.slot_table.specs.declared.calls.SlotReply.TheVariants.{Drawn, Got, Fu
 use Rattle.slot_table.specs.Limits.{is_local}
 use Rattle.slot_table.specs.Step.{slot_step}
 use Rattle.slot_table.specs.History.{Holding, holding, host_eq, without, has, Change, Keeps, Takes as Taking, Gives as Giving, change, changed, outstanding_then, outstanding_from, outstanding, state_from, may_call, IsLegalFrom}
-use Rattle.slot_table.specs.Laws.{Agrees as SlotsAgree}
+use Rattle.slot_table.specs.Laws.{SlotsAgree}
 use Rattle.slot_table.proofs.Keeps.{state-agrees}
 use Rattle.slot_table.proofs.Draws.{draws-in-order}
 use Rattle.slot_table.proofs.Holdings.{host_eq-refl}

@@ -9,3 +9,9 @@ pub mod Grants
 pub mod Kept
 pub mod Farms
 pub mod Up
+pub mod Worker
+pub mod Drivers
+pub mod Reported
+mod ExampleCalls
+mod ExampleCourses
+mod ExampleWorkers

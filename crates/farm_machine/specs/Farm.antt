@@ -8,7 +8,7 @@ use Rattle.slot_table.specs.Limits.{is_local}
 use Rattle.slot_table.specs.Mask.{in_mask}
 use Rattle.slot_table.specs.Step.{entries}
 use Rattle.slot_table.specs.History.{Holding, holding_eq, host_eq, IsLegal, state_after, outstanding, jobs_drawn}
-use Rattle.slot_table.specs.Laws.{Agrees as SlotsAgree}
+use Rattle.slot_table.specs.Laws.{SlotsAgree}
 use Rattle.farm_machine.specs.declared.reports.End.{End}
 use Rattle.farm_machine.specs.Acts.{SlotEvent, Act, slots_of, took, Loan, loan_of}
 use Rattle.farm_machine.specs.Jobs.{Job, host_count, is_local_host}

@@ -11,8 +11,6 @@ pub mod Reading
 pub mod Own
 pub mod Farm
 pub mod Driver
-pub mod Example
-pub mod ExampleRun
 pub mod Causes
 pub mod CheckRuns
 pub mod Checking

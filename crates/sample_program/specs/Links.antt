@@ -9,7 +9,7 @@ use Rattle.edge_traits.specs.Told.{Grew}
 use Rattle.edge_traits.specs.Causes.{Still}
 use Rattle.edge_traits.specs.Keepers.{KeeperView}
 use Rattle.stream_print.specs.Prints.{SinksView}
-use Rattle.stream_print.specs.Ends.{Ends, WantOf}
+use Rattle.stream_print.specs.Printing.{Printing, WantOf}
 use Rattle.sample_compiler.specs.Samples.{printed, bad_words}
 use Rattle.sample_linker.specs.declared.faults.LinkFault.{LinkFault}
 use Rattle.sample_linker.specs.declared.faults.LinkFault.TheVariants.{BadObject, Doubled, Unresolved, Circular}
@@ -27,7 +27,7 @@ use Rattle.sample_program.specs.declared.running.RunStop.{RunStop}
 use Rattle.sample_program.specs.declared.running.RunStop.TheVariants.{File, Memory}
 use Rattle.sample_program.specs.Fetches.{files_max, entries_with, Took, TookAll, Missed, MissedOne}
 use Rattle.sample_program.specs.Puts.{PutBy, PutStop, NoneFetched, no_memory_text, file_fault_text, printed_by}
-use Rattle.stream_print.specs.Ends.{complaint}
+use Rattle.stream_print.specs.Printing.{complaint}
 
 -- ---- what is printed
 
@@ -136,8 +136,8 @@ pub data DidRunImage (image : List ℕ) (old new : KeeperView) (ran : Ran) : Typ
 
 -- what a run left was printed; or what there is to print where there was none
 abbrev pub PrintsRan : Result Ran RunStop → SinksView → SinksView → ℕ → Type 0
-PrintsRan (Ok ran) sinks sinks_now answer = Ends no_memory_text (printed_by ran) (exit_code_of ran.status) sinks sinks_now answer
-PrintsRan (Err File) sinks sinks_now answer = Ends no_memory_text (complaint file_fault_text ∷ []) 107 sinks sinks_now answer
+PrintsRan (Ok ran) sinks sinks_now answer = Printing no_memory_text (printed_by ran) (exit_code_of ran.status) sinks sinks_now answer
+PrintsRan (Err File) sinks sinks_now answer = Printing no_memory_text (complaint file_fault_text ∷ []) 107 sinks sinks_now answer
 PrintsRan (Err Memory) sinks sinks_now answer = WantOf no_memory_text [] sinks sinks_now answer
 
 -- the message for words that aren't right, unless memory was wanting

@@ -8,7 +8,7 @@ use Rattle.edge_traits.specs.Causes.{Rose, Still, IsRemoval}
 use Rattle.file_map.specs.FileMaps.{Files}
 use Rattle.edge_traits.specs.Keepers.{KeeperView}
 use Rattle.stream_print.specs.Prints.{SinksView}
-use Rattle.stream_print.specs.Ends.{Ends, WantOf, complaint}
+use Rattle.stream_print.specs.Printing.{Printing, WantOf, complaint}
 use Rattle.sample_compiler.specs.Tasks.{task_of}
 use Rattle.sample_compiler.specs.Samples.{SampleOf}
 use Rattle.sample_compiler.specs.Loads.{unstaged, entries_at, names_for, FetchedFront, HasAbsent, LongNamed, WasTooLong}
@@ -86,16 +86,16 @@ pub record StoppedRun (words : List (List ℕ)) (old new : KeeperView) (stop : R
 
 -- The compiler ran, and what it left was printed; or the files failed; or memory was wanting before anything was put or printed.
 pub data Compiled (words : List (List ℕ)) (old new : KeeperView) (sinks sinks_now : SinksView) (answer : ℕ) : Type 0 where
-  ran_so : (ran : Ran) → DidRun words old new ran → Ends no_memory_text (printed_by ran) (exit_code_of ran.status) sinks sinks_now answer
+  ran_so : (ran : Ran) → DidRun words old new ran → Printing no_memory_text (printed_by ran) (exit_code_of ran.status) sinks sinks_now answer
       → Compiled words old new sinks sinks_now answer
-  files_failed : StoppedRun words old new File → Ends no_memory_text (complaint file_fault_text ∷ []) 107 sinks sinks_now answer
+  files_failed : StoppedRun words old new File → Printing no_memory_text (complaint file_fault_text ∷ []) 107 sinks sinks_now answer
       → Compiled words old new sinks sinks_now answer
   memory_wanted : StoppedRun words old new Memory → WantOf no_memory_text [] sinks sinks_now answer
       → Compiled words old new sinks sinks_now answer
 
 -- the text was printed, or memory was wanting before
 abbrev pub Told : List ℕ → SinksView → SinksView → ℕ → Type 0
-Told text sinks sinks_now answer = Ends no_memory_text (output text ∷ []) 0 sinks sinks_now answer
+Told text sinks sinks_now answer = Printing no_memory_text (output text ∷ []) 0 sinks sinks_now answer
     ⊎ WantOf no_memory_text [] sinks sinks_now answer
 
 -- what is done by the words, of which the first may name another form

@@ -9,7 +9,7 @@ use Rattle.file_map.specs.FileMaps.{Files}
 use Rattle.edge_traits.specs.Keepers.{KeeperView, IsIdle}
 use Rattle.stream_print.specs.declared.pieces.SinkKind.TheVariants.{Out}
 use Rattle.stream_print.specs.declared.pieces.Piece.{Piece}
-use Rattle.stream_print.specs.Ends.{complaint}
+use Rattle.stream_print.specs.Printing.{complaint}
 use Rattle.sample_compiler.specs.declared.task.Product.{Product}
 use Rattle.sample_compiler.specs.declared.task.Product.TheVariants.{Text, Object}
 use Rattle.sample_compiler.specs.declared.task.Task.{Task}

@@ -3,7 +3,7 @@
 ghost use Rattle.std.specs.Prelude.{◌≡◌, false, map, string_bytes, Err};
 ghost use Rattle.edge_traits.specs.Keepers.{IsIdle};
 ghost use Rattle.stream_print.specs.Prints.{sinks_view};
-ghost use Rattle.stream_print.specs.Ends.{Ends};
+ghost use Rattle.stream_print.specs.Printing.{Printing};
 ghost use Rattle.sample_program.specs.Forms as forms;
 ghost use Rattle.sample_program.specs.Links.{DoesLink, DoesRun, PrintsRan, RefusedWords};
 ghost use Rattle.sample_program.specs.Programs.{Compiled, Does, DoesWords, Told};
@@ -31,7 +31,7 @@ const NO_MEMORY_TEXT: &[u8] = b"scc: no memory\n";
 
 // Prints what a run left: its messages, and then its output.
 fn print_run<O: Sink, E: Sink>(ran: Ran, out: &mut O, err: &mut E) -> u8
-    ensures { Ends no_memory_text (printed_by ran) (exit_code_of ran.status)
+    ensures { Printing no_memory_text (printed_by ran) (exit_code_of ran.status)
         (sinks_view O.shows E.shows out.old err.old)
         (sinks_view O.shows E.shows out.new err.new) result }
 {

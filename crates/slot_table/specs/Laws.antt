@@ -16,7 +16,7 @@ use Rattle.slot_table.specs.History.{entry, Holding, has, count_at, IsLegal, may
 
 -- A state agrees with the outstanding grants: each entry's slots that are given out are its grants, never more than its limit, and
 -- the same for local slots. Each grant is of an entry, a local entry is never left alone, and no number past the last job is drawn
-pub record Agrees {h : ℕ} (l : Limits h) (s : SlotState h) (out : List Holding) : Type 0 where
+pub record SlotsAgree {h : ℕ} (l : Limits h) (s : SlotState h) (out : List Holding) : Type 0 where
   pub held : (i : ℕ) → i < l.count → slice_index s.held i ≡ count_at (Some i) out
   pub limit : (i : ℕ) → i < l.count → slice_index s.held i ≤ slice_index l.limit i
   pub local_held : s.local_held ≡ count_at None out
@@ -27,7 +27,7 @@ pub record Agrees {h : ℕ} (l : Limits h) (s : SlotState h) (out : List Holding
 
 -- the state after a legal history agrees with the grants that are outstanding then
 abbrev pub StateAgrees : Type 0
-StateAgrees = (h : ℕ) (l : Limits h) (es : List CallEntry) → l.count ≤ h → IsLegal l es → Agrees l (state_after l es) (outstanding es)
+StateAgrees = (h : ℕ) (l : Limits h) (es : List CallEntry) → l.count ≤ h → IsLegal l es → SlotsAgree l (state_after l es) (outstanding es)
 
 -- the jobs drawn are 0 to next - 1, in order, each once
 abbrev pub DrawsInOrder : Type 0

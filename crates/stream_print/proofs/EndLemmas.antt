@@ -8,7 +8,7 @@ use Rattle.stream_print.specs.declared.pieces.SinkKind.TheVariants.{Err as ErrSi
 use Rattle.stream_print.specs.declared.pieces.Piece.{Piece}
 use Rattle.stream_print.specs.Prints.{SinksView, Printed, PrintedPart, GoesOn, BothGoOn, DidStop, cut}
 use Rattle.stream_print.proofs.PrintLemmas.{Printed-join, Printed-err, goes-same, goes-later, GoesOn-join, part_of_one, DidStopOn-after}
-use Rattle.stream_print.specs.Ends.{complaint, stopped_status, memory_status, WantTold, told_whole, told_stopped, told_wanted, WantOf, Ends, PrintedFront, all_printed, memory_wanted}
+use Rattle.stream_print.specs.Printing.{complaint, stopped_status, memory_status, WantTold, told_whole, told_stopped, told_wanted, WantOf, Printing, PrintedFront, all_printed, memory_wanted}
 
 -- the text for want of memory was printed whole
 pub want_whole : (notice : List ℕ) (out old new : SinkView) → Grew old.written new.written notice → GoesOn old new → WantOf notice [] (record { out = out; err = old }) (record { out = out; err = new }) memory_status
@@ -37,7 +37,7 @@ want_then a b c answer printed goes want = record {
 }
 
 -- memory was wanting after a part of the texts
-pub want_after : {notice : List ℕ} {stop : PrintStop} (pieces : List Piece) (status : ℕ) (a b c : SinksView) (answer : ℕ) → PrintedPart pieces stop a b → stop ≡ Memory → WantOf notice [] b c answer → Ends notice pieces status a c answer
+pub want_after : {notice : List ℕ} {stop : PrintStop} (pieces : List Piece) (status : ℕ) (a b c : SinksView) (answer : ℕ) → PrintedPart pieces stop a b → stop ≡ Memory → WantOf notice [] b c answer → Printing notice pieces status a c answer
 want_after pieces status a b c answer part is want =
     memory_wanted (inr (part.next, part.part)) (want_then a b c answer part.printed (part.memory is) want)
 
@@ -45,15 +45,15 @@ want_after pieces status a b c answer part is want =
 pub complaint_part : (text : List ℕ) (stop : PrintStop) (out old new : SinkView) → (n : ℕ) × (n < length text) × Grew old.written new.written (take n text) → (stop ≡ Stopped → DidStop old new) → (stop ≡ Memory → GoesOn old new) → PrintedPart (complaint text ∷ []) stop (record { out = out; err = old }) (record { out = out; err = new })
 complaint_part text stop out old new part stopped memory = record { done = complaint (take part.0 text) ∷ []; next = complaint text; part = part_of_one (complaint text) part.0 part.1; printed = Printed-err part.2 refl; stopped = stopped; other = λ _. goes-same out; memory = λ is. record { out = goes-same out; err = memory is } }
 
-pub complaint_whole : {notice : List ℕ} (text : List ℕ) (status : ℕ) (out old new : SinkView) → Grew old.written new.written text → GoesOn old new → Ends notice (complaint text ∷ []) status (record { out = out; err = old }) (record { out = out; err = new }) status
+pub complaint_whole : {notice : List ℕ} (text : List ℕ) (status : ℕ) (out old new : SinkView) → Grew old.written new.written text → GoesOn old new → Printing notice (complaint text ∷ []) status (record { out = out; err = old }) (record { out = out; err = new }) status
 complaint_whole text status out old new grew goes = all_printed (Printed-err grew refl) (record { out = goes-same out; err = goes }) refl
 
 -- memory was wanting before anything was printed
-pub want_first : {notice : List ℕ} (next : Piece) (rest : List Piece) (status : ℕ) (a b : SinksView) (answer : ℕ) → WantOf notice [] a b answer → Ends notice (next ∷ rest) status a b answer
+pub want_first : {notice : List ℕ} (next : Piece) (rest : List Piece) (status : ℕ) (a b : SinksView) (answer : ℕ) → WantOf notice [] a b answer → Printing notice (next ∷ rest) status a b answer
 want_first next rest status a b answer want = memory_wanted (inl (next, rest, refl)) want
 
 -- memory was wanting after some first texts
-pub want_front : {notice : List ℕ} {stop : PrintStop} (pieces : List Piece) (status : ℕ) (a b c : SinksView) (answer : ℕ) → PrintedFront pieces stop a b → stop ≡ Memory → WantOf notice [] b c answer → Ends notice pieces status a c answer
+pub want_front : {notice : List ℕ} {stop : PrintStop} (pieces : List Piece) (status : ℕ) (a b c : SinksView) (answer : ℕ) → PrintedFront pieces stop a b → stop ≡ Memory → WantOf notice [] b c answer → Printing notice pieces status a c answer
 want_front pieces status a b c answer front is want =
     memory_wanted front.front (want_then a b c answer front.printed (front.memory is) want)
 

@@ -1,2 +1,3 @@
 pub mod Prints
-pub mod Ends
+pub mod Printing
+pub mod Reads

@@ -2,7 +2,7 @@
 
 ghost use Rattle.std.specs.Prelude.{[], ◌∷◌};
 ghost use Rattle.stream_print.specs.Prints.{sinks_view};
-ghost use Rattle.stream_print.specs.Ends.{Ends, WantOf, complaint};
+ghost use Rattle.stream_print.specs.Printing.{Printing, WantOf, complaint};
 
 use crate::{Piece, PrintStop, print, print_all};
 use edge_traits::Sink;
@@ -35,7 +35,7 @@ pub fn finish<O: Sink, E: Sink>(
     out: &mut O,
     err: &mut E,
 ) -> u8
-    ensures { Ends notice.now pieces.now status (sinks_view O.shows E.shows out.old err.old)
+    ensures { Printing notice.now pieces.now status (sinks_view O.shows E.shows out.old err.old)
         (sinks_view O.shows E.shows out.new err.new) result }
 {
     match print_all(pieces, out, err) {
@@ -53,7 +53,7 @@ pub fn complain<O: Sink, E: Sink>(
     out: &mut O,
     err: &mut E,
 ) -> u8
-    ensures { Ends notice.now (complaint text.now ∷ []) status
+    ensures { Printing notice.now (complaint text.now ∷ []) status
         (sinks_view O.shows E.shows out.old err.old)
         (sinks_view O.shows E.shows out.new err.new) result }
 {

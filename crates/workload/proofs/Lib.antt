@@ -1,1 +1,6 @@
 mod Filing
+mod Plain
+mod Names
+mod Expands
+mod Tasks
+mod Runs

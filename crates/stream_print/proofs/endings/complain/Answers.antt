@@ -1,5 +1,5 @@
 use Rattle.std.proofs.Common.{◌∷◌, [], refl, Err, ap}
-use Rattle.stream_print.specs.Ends.{complaint, sink_stopped}
+use Rattle.stream_print.specs.Printing.{complaint, sink_stopped}
 use Rattle.stream_print.proofs.EndLemmas.{want_after, complaint_whole, complaint_part}
 use Rattle.stream_print.specs.declared.one.PrintStop.TheVariants.{Stopped}
 use Rattle.stream_print.proofs.endings.complain.Goals as goal

@@ -1,0 +1,171 @@
+//! Calls of three callers in a given order, by one thread and by three.
+ghost use Rattle.std.specs.Prelude.{◌≡◌, [], IfSome, All};
+ghost use Rattle.slot_table.specs.History.{outstanding};
+ghost use Rattle.farm_cell.specs.Passes.{callers_of, seen_of, mine_of};
+ghost use Rattle.farm_cell.specs.Ends.{IsNumbered, AreAllOf};
+
+use crate::cell_calls::{draw, give, limits_of, take, take_in_vain};
+use farm_cell::{Cell, Pass, Passes};
+use slot_table::SlotState;
+use std::alloc::{AllocError, Global};
+use std::process::Abort;
+use std::sync::Wait;
+use std::sync::atomic::{AtomicU64, Ordering};
+use std::test::Fail;
+use std::thread;
+
+/// The passes of three callers.
+fn apart(cell: &Cell<16, 34>, passes: Passes) -> Option<(Pass, Pass, Pass)>
+    requires passes { AreAllOf cell.now passes.items }
+    requires blank { All (λ p. (seen_of p ≡ []) × (mine_of p ≡ [])) passes.items }
+    requires three { callers_of cell.now ≡ 3 }
+    ensures first { IfSome result (λ p. IsNumbered cell.now 0 p.0 × (mine_of p.0 ≡ [])) }
+    ensures second { IfSome result (λ p. IsNumbered cell.now 1 p.1 × (mine_of p.1 ≡ [])) }
+    ensures third { IfSome result (λ p. IsNumbered cell.now 2 p.2 × (mine_of p.2 ≡ [])) }
+{
+    let mut rest = passes.into_iter();
+    let first = rest.next()?;
+    let second = rest.next()?;
+    let third = rest.next()?;
+    Some((first, second, third))
+}
+
+/// Closes a cell of three callers.
+fn close<R: Wait>(
+    rt: &R,
+    alloc: Global,
+    cell: Cell<16, 34>,
+    first: Pass,
+    second: Pass,
+    third: Pass,
+) -> Result<SlotState<16>, AllocError>
+    requires three { callers_of cell ≡ 3 }
+    requires first { IsNumbered cell 0 first }
+    requires first_none { outstanding (mine_of first) ≡ [] }
+    requires second { IsNumbered cell 1 second }
+    requires second_none { outstanding (mine_of second) ≡ [] }
+    requires third { IsNumbered cell 2 third }
+    requires third_none { outstanding (mine_of third) ≡ [] }
+{
+    let mut passes = Vec::with_capacity(alloc, 3)?;
+    passes.push(first)?;
+    passes.push(second)?;
+    passes.push(third)?;
+    let (slots, _pass) = cell.close(rt, passes);
+    Ok(slots.state)
+}
+
+/// One slot, three jobs and three callers.
+fn play<R: Wait + Abort>(
+    rt: &R,
+    alloc: Global,
+    cell: Cell<16, 34>,
+    mut first: Pass,
+    mut second: Pass,
+    mut third: Pass,
+) -> Result<SlotState<16>, AllocError>
+    requires three { callers_of cell ≡ 3 }
+    requires first { IsNumbered cell 0 first }
+    requires first_none { outstanding (mine_of first) ≡ [] }
+    requires second { IsNumbered cell 1 second }
+    requires second_none { outstanding (mine_of second) ≡ [] }
+    requires third { IsNumbered cell 2 third }
+    requires third_none { outstanding (mine_of third) ≡ [] }
+{
+    assert_eq!(rt; draw(rt, &cell, &mut first, 0), Some(0));
+    assert_eq!(rt; draw(rt, &cell, &mut second, 1), Some(1));
+    assert_eq!(rt; draw(rt, &cell, &mut third, 2), Some(2));
+    let grant = take(rt, &cell, &mut first, 0, 0, 0);
+    take_in_vain(rt, &cell, &mut second, 1, 1);
+    take_in_vain(rt, &cell, &mut third, 2, 2);
+    give(rt, &cell, &mut first, 0, grant);
+    let grant = take(rt, &cell, &mut third, 2, 2, 0);
+    give(rt, &cell, &mut third, 2, grant);
+    let grant = take(rt, &cell, &mut second, 1, 1, 0);
+    give(rt, &cell, &mut second, 1, grant);
+    assert_eq!(rt; draw(rt, &cell, &mut third, 2), None);
+    assert_eq!(rt; draw(rt, &cell, &mut first, 0), None);
+    assert_eq!(rt; draw(rt, &cell, &mut second, 1), None);
+    close(rt, alloc, cell, first, second, third)
+}
+
+#[test]
+fn one_shared_slot_serves_three_callers(rt: HostRuntime) -> Result<(), Fail> {
+    let limits = limits_of(1, 1, 3);
+    assert!(rt; limits.are_valid());
+    let (cell, passes) = Cell::new(&rt, rt.alloc(), limits, 3)?;
+    let Some((first, second, third)) = apart(&cell, passes) else {
+        panic!(rt; "too few passes");
+    };
+    let state = play(&rt, rt.alloc(), cell, first, second, third)?;
+    assert_eq!(rt; state.held, [0; 16]);
+    assert_eq!(rt; state.next, 3);
+    Ok(())
+}
+
+/// Waits until so many calls of all callers are made.
+fn wait_for<R: Wait>(rt: &R, made: &AtomicU64, calls: u64) {
+    for _ in rt.forever() {
+        if made.load(Ordering::SeqCst) == calls {
+            return;
+        }
+        thread::yield_now();
+    }
+    unreachable!()
+}
+
+/// One caller's part in the calls of three that have one slot for three jobs.
+fn play_part<R: Wait + Abort>(
+    rt: &R,
+    cell: &Cell<16, 34>,
+    pass: &mut Pass,
+    caller: u32,
+    made: &AtomicU64,
+)
+    requires pass { IsNumbered cell.now caller pass.old }
+    requires none { outstanding (mine_of pass.old) ≡ [] }
+    ensures pass { IsNumbered cell.now caller pass.new }
+    ensures none { outstanding (mine_of pass.new) ≡ [] }
+{
+    let (in_vain, taken, given, last) = match caller {
+        0 => (None, 3, 6, 12),
+        1 => (Some(4), 9, 10, 13),
+        _ => (Some(5), 7, 8, 11),
+    };
+    wait_for(rt, made, u64::from(caller));
+    assert_eq!(rt; draw(rt, cell, pass, caller), Some(caller));
+    made.fetch_add(1, Ordering::SeqCst);
+    if let Some(calls) = in_vain {
+        wait_for(rt, made, calls);
+        take_in_vain(rt, cell, pass, caller, caller);
+        made.fetch_add(1, Ordering::SeqCst);
+    }
+    wait_for(rt, made, taken);
+    let grant = take(rt, cell, pass, caller, caller, 0);
+    made.fetch_add(1, Ordering::SeqCst);
+    wait_for(rt, made, given);
+    give(rt, cell, pass, caller, grant);
+    made.fetch_add(1, Ordering::SeqCst);
+    wait_for(rt, made, last);
+    assert_eq!(rt; draw(rt, cell, pass, caller), None);
+    made.fetch_add(1, Ordering::SeqCst);
+}
+
+#[test]
+fn one_slot_serves_three_threads(rt: HostRuntime) -> Result<(), Fail> {
+    let limits = limits_of(1, 1, 3);
+    assert!(rt; limits.are_valid());
+    let (cell, mut passes) = Cell::new(&rt, rt.alloc(), limits, 3)?;
+    let made = AtomicU64::new(0);
+    thread::for_each_mut(
+        &rt,
+        passes.as_mut_slice(),
+        3,
+        &|caller, pass| { play_part(&rt, &cell, pass, caller as u32, &made) },
+    );
+    let (slots, _pass) = cell.close(&rt, passes);
+    let state = slots.state;
+    assert_eq!(rt; state.held, [0; 16]);
+    assert_eq!(rt; state.next, 3);
+    Ok(())
+}

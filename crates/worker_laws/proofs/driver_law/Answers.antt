@@ -1,9 +1,0 @@
-use Rattle.worker_laws.proofs.Drivers.{driver}
-use Rattle.worker_laws.proofs.Reported.{workers-run}
-use Rattle.worker_laws.proofs.driver_law.Goals as goal
-
-pub returns-clause-agree : goal.returns-clause-agree
-returns-clause-agree c = driver
-
-pub returns-clause-run : goal.returns-clause-run
-returns-clause-run c = workers-run

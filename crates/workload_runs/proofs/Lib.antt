@@ -1,5 +1,0 @@
-mod Plain
-mod Names
-mod Expands
-mod Tasks
-mod Runs
