@@ -28,8 +28,8 @@ gate:
 
 # The map of the crates and the list of what has to be believed. Then farm with a real distccd, in an odd environment, objects on a real disk, faults of a
 # real machine, runs with an allocation refused, real clients of farmd, mutated requests for it, the options that it lets through and those that it doesn't,
-# its cache, whole projects, dependency files, two hosts in turn, sources that become a program, the manual pages and the installation; each is skipped
-# where what it needs isn't installed.
+# its cache, whole projects, dependency files, two hosts in turn, sources that become a program, the manual pages, the installation and the demonstration;
+# each is skipped where what it needs isn't installed.
 checks:
 	tools/layers
 	tools/believed
@@ -49,6 +49,7 @@ checks:
 	tests/programs
 	tests/manual
 	tests/install
+	tests/demo
 
 # The same, with each allocation refused and not some of them, and with a host that is silent for 10 minutes.
 test-all: test
@@ -100,8 +101,8 @@ bench:
 
 # How many times as long writing and reading 32 MiB takes as a plain copy of as many bytes.
 bench-wire:
-	cd crates/wire_bench && rt run -- measure
+	cd crates/text_bench && rt run -- wire
 
 # How many times as long reading a job list of 16 MiB takes as a plain copy of it.
 bench-jobs:
-	cd crates/job_bench && rt run -- measure
+	cd crates/text_bench && rt run -- jobs
