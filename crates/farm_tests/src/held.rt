@@ -15,9 +15,10 @@ use std::sync::Wait;
 use std::test::Fail;
 use std::{str, thread};
 
-// A station whose second run waits until the other end of its gate is asked.
+// A station whose second run tells that it has begun, and waits until the other end of its gate is asked.
 #[derive(Drop)]
 struct HeldStation<'a, R> {
+    begun: GateStation<'a, R>,
     gate: GateStation<'a, R>,
     runs: u32,
 }
@@ -39,6 +40,7 @@ impl<'a, R: Wait> Station for HeldStation<'a, R> {
             self.runs = 1;
             return Ok(Ran::nothing(alloc));
         }
+        let _ = self.begun.run(alloc, words, input, bounds);
         self.gate.run(alloc, words, input, bounds)
     }
 }
@@ -69,16 +71,15 @@ impl<'a, R: Wait> Sink for AskingSink<'a, R> {
     }
 }
 
-/// How often a pause lets other threads run.
-const TURNS: u32 = 10_000;
-
-// A clock that lets other threads run in a pause.
+// A clock whose pauses wait until a worker's second run has begun, so many times at most.
 #[derive(Drop)]
-struct YieldingClock<'a, R> {
-    rt: &'a R,
+struct WaitingClock<'a, R> {
+    begun: GateStation<'a, R>,
+    alloc: Global,
+    waits: u32,
 }
 
-impl<'a, R: Wait> Clock for YieldingClock<'a, R> {
+impl<'a, R: Wait> Clock for WaitingClock<'a, R> {
     ghost shows = { λ clock. record { moments = untold [] } };
 
     fn now(&mut self) -> u64 {
@@ -86,37 +87,74 @@ impl<'a, R: Wait> Clock for YieldingClock<'a, R> {
     }
 
     fn pause(&mut self) {
-        for _ in 0..TURNS {
-            thread::yield_now();
+        thread::yield_now();
+        if self.waits == 0 {
+            return;
+        }
+        self.waits -= 1;
+        if self.begun.run(self.alloc, &[], &[], &NOTHING).is_ok() {
+            self.waits = 0;
         }
     }
 }
 
-type HeldKit<'a, R> = Kit<MemDialer, HeldStation<'a, R>, MemKeeper, YieldingClock<'a, R>>;
+type HeldKit<'a, R> = Kit<MemDialer, HeldStation<'a, R>, MemKeeper, WaitingClock<'a, R>>;
 
-fn kit<'a, R>(rt: &'a R, alloc: Global, gate: GateStation<'a, R>, runs: u32) -> HeldKit<'a, R>
+fn kit<'a, R>(
+    alloc: Global,
+    station: HeldStation<'a, R>,
+    clock: WaitingClock<'a, R>,
+) -> HeldKit<'a, R>
     ensures { IsIdle (keeper_shows (keeper_state result.keeper)) }
 {
     Kit {
         dialer: MemDialer::new(LinkScripts::new(alloc), CallNumbers::new(alloc)),
-        station: HeldStation { gate, runs },
+        station,
         keeper: empty_keeper(alloc),
-        clock: YieldingClock { rt },
+        clock,
     }
 }
 
+/// How many pauses may wait.
+const WAITS: u32 = 100;
+
+fn clock<'a, R>(alloc: Global, begun: GateStation<'a, R>, waits: u32) -> WaitingClock<'a, R> {
+    WaitingClock {
+        begun,
+        alloc,
+        waits,
+    }
+}
+
+// A station whose other end nobody has.
+fn alone<'a, R: Wait>(rt: &'a R, alloc: Global) -> Result<GateStation<'a, R>, AllocError> {
+    let (first, _) = GateStation::pair(rt, alloc)?;
+    Ok(first)
+}
+
+// The kit of a worker whose second run waits for `gate`, and a kit whose clock waits for that run.
 fn two_kits<'a, R: Wait>(
     rt: &'a R,
     alloc: Global,
-    held: GateStation<'a, R>,
+    gate: GateStation<'a, R>,
 ) -> Result<Vec<HeldKit<'a, R>>, AllocError>
     ensures two { IfOk result (λ kits. length kits.items ≡ 2) }
     ensures idle { IfOk result (λ kits. All (λ kit. IsIdle (keeper_shows (keeper_state kit.keeper))) kits.items) }
 {
-    let (other, _) = GateStation::pair(rt, alloc)?;
+    let (awaits, begun) = GateStation::pair(rt, alloc)?;
+    let held = HeldStation {
+        begun,
+        gate,
+        runs: 0,
+    };
+    let idle = HeldStation {
+        begun: alone(rt, alloc)?,
+        gate: alone(rt, alloc)?,
+        runs: 0,
+    };
     let mut kits = Vec::new(alloc);
-    kits.push(kit(rt, alloc, held, 0))?;
-    kits.push(kit(rt, alloc, other, 0))?;
+    kits.push(kit(alloc, held, clock(alloc, alone(rt, alloc)?, 0)))?;
+    kits.push(kit(alloc, idle, clock(alloc, awaits, WAITS)))?;
     Ok(kits)
 }
 
