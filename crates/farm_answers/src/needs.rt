@@ -2,7 +2,7 @@
 
 ghost use Rattle.std.specs.Prelude.{◌≡◌, ◌++◌, [], ◌∷◌, IfOk, OnOk};
 ghost use Rattle.stream_print.specs.Prints.{sinks_view};
-ghost use Rattle.stream_print.specs.Ends.{Ends, complaint};
+ghost use Rattle.stream_print.specs.Printing.{Printing, complaint};
 ghost use Rattle.farm_answers.specs.Texts.{bad_jobs_status, cycle_text, job_text, needs_fault_text, no_memory_text};
 
 use crate::refuse::{BAD_JOBS, NO_MEMORY_TEXT, want_memory};
@@ -20,7 +20,7 @@ pub fn refuse_needs<O: Sink, E: Sink>(
     out: &mut O,
     err: &mut E,
 ) -> u8
-    ensures { Ends no_memory_text (complaint (needs_fault_text line fault) ∷ []) bad_jobs_status
+    ensures { Printing no_memory_text (complaint (needs_fault_text line fault) ∷ []) bad_jobs_status
         (sinks_view O.shows E.shows out.old err.old)
         (sinks_view O.shows E.shows out.new err.new) result }
 {
@@ -59,7 +59,7 @@ pub fn refuse_cycle<O: Sink, E: Sink>(
     out: &mut O,
     err: &mut E,
 ) -> u8
-    ensures { Ends no_memory_text (complaint (cycle_text cycle.now) ∷ []) bad_jobs_status
+    ensures { Printing no_memory_text (complaint (cycle_text cycle.now) ∷ []) bad_jobs_status
         (sinks_view O.shows E.shows out.old err.old)
         (sinks_view O.shows E.shows out.new err.new) result }
 {

@@ -2,7 +2,7 @@
 
 ghost use Rattle.std.specs.Prelude.{[], ◌∷◌};
 ghost use Rattle.stream_print.specs.Prints.{sinks_view};
-ghost use Rattle.stream_print.specs.Ends.{Ends, WantOf, complaint};
+ghost use Rattle.stream_print.specs.Printing.{Printing, WantOf, complaint};
 ghost use Rattle.farm_answers.specs.Texts.{bad_hosts_status, bad_jobs_status, bad_period_text, bad_words_status, bad_words_text, cannot_read_status, cannot_read_text, host_fault_text, job_fault_text, no_memory_text};
 
 use edge_traits::Sink;
@@ -36,7 +36,7 @@ pub fn want_memory<O: Sink, E: Sink>(out: &mut O, err: &mut E) -> u8
 
 /// Refuses a back-off period that the environment names and that isn't right.
 pub fn refuse_period<O: Sink, E: Sink>(out: &mut O, err: &mut E) -> u8
-    ensures { Ends no_memory_text (complaint bad_period_text ∷ []) bad_words_status
+    ensures { Printing no_memory_text (complaint bad_period_text ∷ []) bad_words_status
         (sinks_view O.shows E.shows out.old err.old)
         (sinks_view O.shows E.shows out.new err.new) result }
 {
@@ -51,7 +51,7 @@ pub fn refuse_period<O: Sink, E: Sink>(out: &mut O, err: &mut E) -> u8
 
 /// Refuses an input that could not be read.
 pub fn refuse_unread<O: Sink, E: Sink>(out: &mut O, err: &mut E) -> u8
-    ensures { Ends no_memory_text (complaint cannot_read_text ∷ []) cannot_read_status
+    ensures { Printing no_memory_text (complaint cannot_read_text ∷ []) cannot_read_status
         (sinks_view O.shows E.shows out.old err.old)
         (sinks_view O.shows E.shows out.new err.new) result }
 {
@@ -66,7 +66,7 @@ pub fn refuse_unread<O: Sink, E: Sink>(out: &mut O, err: &mut E) -> u8
 
 /// Refuses words of which the one at this place is the first that doesn't fit.
 pub fn refuse_words<O: Sink, E: Sink>(alloc: Global, place: usize, out: &mut O, err: &mut E) -> u8
-    ensures { Ends no_memory_text (complaint (bad_words_text place) ∷ []) bad_words_status
+    ensures { Printing no_memory_text (complaint (bad_words_text place) ∷ []) bad_words_status
         (sinks_view O.shows E.shows out.old err.old)
         (sinks_view O.shows E.shows out.new err.new) result }
 {
@@ -84,7 +84,7 @@ pub fn refuse_host_list<O: Sink, E: Sink>(
     out: &mut O,
     err: &mut E,
 ) -> u8
-    ensures { Ends no_memory_text (complaint (host_fault_text at fault) ∷ []) bad_hosts_status
+    ensures { Printing no_memory_text (complaint (host_fault_text at fault) ∷ []) bad_hosts_status
         (sinks_view O.shows E.shows out.old err.old)
         (sinks_view O.shows E.shows out.new err.new) result }
 {
@@ -103,7 +103,7 @@ pub fn refuse_job_list<O: Sink, E: Sink>(
     out: &mut O,
     err: &mut E,
 ) -> u8
-    ensures { Ends no_memory_text (complaint (job_fault_text line fault) ∷ []) bad_jobs_status
+    ensures { Printing no_memory_text (complaint (job_fault_text line fault) ∷ []) bad_jobs_status
         (sinks_view O.shows E.shows out.old err.old)
         (sinks_view O.shows E.shows out.new err.new) result }
 {

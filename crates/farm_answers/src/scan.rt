@@ -4,7 +4,7 @@ ghost use Rattle.std.specs.Prelude.{◌≡◌, [], ◌∷◌, ◌++◌, IfOk, co
 ghost use Rattle.std.specs.Fmt.{decimal};
 ghost use Rattle.arg_scan.specs.Roles.{word_at};
 ghost use Rattle.stream_print.specs.Prints.{sinks_view};
-ghost use Rattle.stream_print.specs.Ends.{Ends};
+ghost use Rattle.stream_print.specs.Printing.{Printing};
 ghost use Rattle.farm_answers.specs.Texts.{no_memory_text, output};
 ghost use Rattle.farm_answers.specs.Lines.{action_text, class_line, number_of};
 
@@ -105,7 +105,7 @@ pub fn answer_scan<O: Sink, E: Sink>(
     out: &mut O,
     err: &mut E,
 ) -> u8
-    ensures { Ends no_memory_text (output (class_line (map string_bytes words.now)) ∷ []) 0
+    ensures { Printing no_memory_text (output (class_line (map string_bytes words.now)) ∷ []) 0
         (sinks_view O.shows E.shows out.old err.old)
         (sinks_view O.shows E.shows out.new err.new) result }
 {

@@ -2,7 +2,7 @@
 
 ghost use Rattle.std.specs.Prelude.{[], ◌∷◌};
 ghost use Rattle.stream_print.specs.Prints.{sinks_view};
-ghost use Rattle.stream_print.specs.Ends.{Ends};
+ghost use Rattle.stream_print.specs.Printing.{Printing};
 ghost use Rattle.farm_words.specs.Help.{help_of};
 ghost use Rattle.farm_answers.specs.Texts.{no_memory_text, output, rehearsal_text, version_text};
 
@@ -17,7 +17,7 @@ const DONE: u8 = 0;
 
 // Prints a text on the output, and answers status 0.
 pub(crate) fn tell<O: Sink, E: Sink>(text: &[u8], out: &mut O, err: &mut E) -> u8
-    ensures { Ends no_memory_text (output text.now ∷ []) 0
+    ensures { Printing no_memory_text (output text.now ∷ []) 0
         (sinks_view O.shows E.shows out.old err.old)
         (sinks_view O.shows E.shows out.new err.new) result }
 {
@@ -30,7 +30,7 @@ pub(crate) fn tell<O: Sink, E: Sink>(text: &[u8], out: &mut O, err: &mut E) -> u
 
 /// Prints the help of a command, or of the program where no command is named.
 pub fn answer_help<O: Sink, E: Sink>(name: Option<CommandName>, out: &mut O, err: &mut E) -> u8
-    ensures { Ends no_memory_text (output (help_of name) ∷ []) 0
+    ensures { Printing no_memory_text (output (help_of name) ∷ []) 0
         (sinks_view O.shows E.shows out.old err.old)
         (sinks_view O.shows E.shows out.new err.new) result }
 {
@@ -39,7 +39,7 @@ pub fn answer_help<O: Sink, E: Sink>(name: Option<CommandName>, out: &mut O, err
 
 /// Prints the program's version.
 pub fn answer_version<O: Sink, E: Sink>(out: &mut O, err: &mut E) -> u8
-    ensures { Ends no_memory_text (output version_text ∷ []) 0
+    ensures { Printing no_memory_text (output version_text ∷ []) 0
         (sinks_view O.shows E.shows out.old err.old)
         (sinks_view O.shows E.shows out.new err.new) result }
 {
@@ -56,7 +56,7 @@ pub fn answer_rehearsal<O: Sink, E: Sink>(
     out: &mut O,
     err: &mut E,
 ) -> u8
-    ensures { Ends no_memory_text (output (rehearsal_text jobs done bytes) ∷ []) 0
+    ensures { Printing no_memory_text (output (rehearsal_text jobs done bytes) ∷ []) 0
         (sinks_view O.shows E.shows out.old err.old)
         (sinks_view O.shows E.shows out.new err.new) result }
 {

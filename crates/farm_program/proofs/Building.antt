@@ -8,7 +8,7 @@ use Rattle.farm_types.specs.declared.jobs.JobConfig.{JobConfig}
 use Rattle.host_list.specs.HostLists.{IsHost, AreHosts}
 use Rattle.edge_traits.specs.Sources.{SourceView}
 use Rattle.farm_machine.specs.declared.reports.Report.{Report}
-use Rattle.input_read.specs.Reads.{HasReadSome}
+use Rattle.stream_print.specs.Reads.{HasReadSome}
 use Rattle.job_driver.specs.declared.driver.Built.{Built}
 use Rattle.farm_machine.specs.Devices.{Devices}
 use Rattle.job_driver.specs.Driven.{JobsRan}
@@ -22,7 +22,7 @@ use Rattle.farm_machine.specs.declared.reports.End.{End}
 use Rattle.report_text.specs.Pieces.{command_pieces, err_messages, failure_text, out_messages, pieces}
 use Rattle.report_text.specs.Numbers.{number}
 use Rattle.stream_print.specs.Prints.{SinksView}
-use Rattle.stream_print.specs.Ends.{Ends, WantOf}
+use Rattle.stream_print.specs.Printing.{Printing, WantOf}
 use Rattle.farm_answers.specs.Texts.{no_memory_text}
 use Rattle.farm_program.specs.Builds.{JobsDone, input_limit, Builds, built, none_ran, wanted, JobsEnd, jobs_ran, jobs_wanted}
 use Rattle.farm_program.specs.Inputs.{HasJobs}
@@ -66,15 +66,15 @@ read_and_run has some (jobs_wanted undone none want) =
     none_ran (wanted (record {
       read = some;
       still = has.read.still;
-      idle = record { undone = undone; none_built = none };
+      without_jobs = record { undone = undone; none_built = none };
       want = want;
     }))
 
 -- the status by another name
 pub status_as : {notice : List ℕ} {texts : List Piece} {status answer other : ℕ} {old new : SinksView} → other ≡ answer
-    → Ends notice texts status old new answer → Ends notice texts status old new other
+    → Printing notice texts status old new answer → Printing notice texts status old new other
 status_as {notice = notice} {texts = texts} {status = status} {old = old} {new = new} same ends = subst
-    (λ (a : ℕ). Ends notice texts status old new a) (sym same) ends
+    (λ (a : ℕ). Printing notice texts status old new a) (sym same) ends
 
 pub want_as : {notice : List ℕ} {answer other : ℕ} {old new : SinksView} → other ≡ answer → WantOf notice [] old new answer
     → WantOf notice [] old new other
@@ -90,10 +90,10 @@ one-of (x ∷ []) long = (x, refl)
 one-of (x ∷ (y ∷ xs)) long = absurd (omega (arith, long))
 
 pub reports_as : (hosts : List Host) {reports reports' : List Report} {old new : SinksView} {answer : ℕ} → reports ≡ reports'
-    → Ends no_memory_text (pieces hosts reports) (number reports) old new answer
-    → Ends no_memory_text (pieces hosts reports') (number reports') old new answer
+    → Printing no_memory_text (pieces hosts reports) (number reports) old new answer
+    → Printing no_memory_text (pieces hosts reports') (number reports') old new answer
 reports_as hosts {old = old} {new = new} {answer = answer} same ends = subst
-    (λ (rs : List Report). Ends no_memory_text (pieces hosts rs) (number rs) old new answer) same ends
+    (λ (rs : List Report). Printing no_memory_text (pieces hosts rs) (number rs) old new answer) same ends
 
 pub jobs_as : {K : Type 0} {d : Devices K} {config : JobConfig} {jobs jobs' : List (List (List ℕ))} {workers workers' : ℕ}
     {made : List Built} {old new : List K} → jobs ≡ jobs' → workers ≡ workers'
@@ -117,12 +117,13 @@ jobs_as {d = d} {config = config} {jobs = jobs} {workers = workers} {workers' = 
 -- what a single command prints, by other names
 pub command_ends : (hosts : List Host) (end : End) {err out : List ℕ} {status status' answer : ℕ} {notice : List ℕ} {old new : SinksView}
     → err ≡ err_messages end ++ failure_text hosts end → out ≡ out_messages end → status ≡ status'
-    → Ends notice (record { sink = ErrSink; bytes = err } ∷ record { sink = OutSink; bytes = out } ∷ []) status old new answer
-    → Ends notice (command_pieces hosts end) status' old new answer
+    → Printing notice (record { sink = ErrSink; bytes = err } ∷ record { sink = OutSink; bytes = out } ∷ []) status old new answer
+    → Printing notice (command_pieces hosts end) status' old new answer
 command_ends hosts end {out = out} {status = status} {answer = answer} {notice = notice} {old = old} {new = new} same_err same_out same
     ends =
-    subst (λ (s : ℕ). Ends notice (command_pieces hosts end) s old new answer) same
-    (subst (λ (t : List ℕ). Ends notice (record { sink = ErrSink; bytes = err_messages end ++ failure_text hosts end } ∷ record
+    subst (λ (s : ℕ). Printing notice (command_pieces hosts end) s old new answer) same
+    (subst (λ (t : List ℕ). Printing notice (record { sink = ErrSink; bytes = err_messages end ++ failure_text hosts end } ∷ record
     { sink = OutSink; bytes = t } ∷ []) status old new answer) same_out
-    (subst (λ (t : List ℕ). Ends notice (record { sink = ErrSink; bytes = t } ∷ record { sink = OutSink; bytes = out } ∷ []) status old new
+    (subst (λ (t : List ℕ). Printing notice (record { sink = ErrSink; bytes = t } ∷ record { sink = OutSink; bytes = out } ∷ [])
+    status old new
     answer) same_err ends))

@@ -8,9 +8,10 @@ use Rattle.stream_print.specs.declared.pieces.SinkKind.{SinkKind}
 use Rattle.stream_print.specs.declared.pieces.SinkKind.TheVariants.{Out, Err as ErrSink}
 use Rattle.stream_print.specs.declared.pieces.Piece.{Piece}
 use Rattle.stream_print.specs.Prints.{SinksView, DidStop, DidStopOn, Printed}
-use Rattle.stream_print.specs.Ends.{Ends, all_printed, sink_stopped, memory_wanted, memory_status, WantTold, told_whole, told_stopped}
-use Rattle.stream_print.specs.Ends.{told_wanted}
-use Rattle.input_read.specs.Reads.{AllRead}
+use Rattle.stream_print.specs.Printing.{Printing, all_printed, sink_stopped, memory_wanted, memory_status}
+use Rattle.stream_print.specs.Printing.{WantTold, told_whole, told_stopped}
+use Rattle.stream_print.specs.Printing.{told_wanted}
+use Rattle.stream_print.specs.Reads.{AllRead}
 use Rattle.host_list.proofs.TextReading.{one_hosts, no_both}
 use Rattle.farm_machine.specs.Devices.{Devices}
 use Rattle.job_list.specs.declared.fault.JobFault.{JobFault}
@@ -22,7 +23,7 @@ use Rattle.farm_words.specs.Options.{Given, worker_count}
 use Rattle.farm_words.proofs.Periods.{one_period, no_bad_period}
 use Rattle.farm_program.specs.Worlds.{World}
 use Rattle.farm_program.specs.Builds.{Builds, built, none_ran, NoneRan, faulty, unread, wanted, HasListFault, whole_text, long_text}
-use Rattle.farm_program.specs.Commands.{Answers, OnHosts, on_hosts, bad_period, bad_hosts, no_hosts, IsBuildBy}
+use Rattle.farm_program.specs.Commands.{Does, OnHosts, on_hosts, bad_period, bad_hosts, no_hosts, IsBuildBy}
 use Rattle.farm_program.specs.Settings.{IsConfigOf, build_config}
 use Rattle.farm_program.specs.Smooth.{IsSmooth, Completed}
 
@@ -39,7 +40,7 @@ want_answer old new answer err (told_wanted part goes is) = is
 
 -- so all was printed and the status is answered, or that for want of memory
 pub printed_or_wanted : {notice : List ℕ} (texts : List Piece) (status : ℕ) (old new : SinksView) (answer : ℕ) → ¬ (DidStop old.out new.out)
-    → ¬ (DidStop old.err new.err) → Ends notice texts status old new answer
+    → ¬ (DidStop old.err new.err) → Printing notice texts status old new answer
     → (Printed old new texts × (answer ≡ status)) ⊎ (answer ≡ memory_status)
 printed_or_wanted texts status old new answer out err (all_printed printed go is) = inl (printed, is)
 printed_or_wanted texts status old new answer out err (sink_stopped part is) =
@@ -112,7 +113,7 @@ module _ {K : Type 0} {d : Devices K} {config : JobConfig} {most : ℕ} {jobs : 
   completes (none_ran none) = inr (none_wanted smooth (no_list_fault old new known jobs asks) none)
 
   pub completes_on : {variables : List (List ℕ × List ℕ)} {words : List (List ℕ)} (build : IsBuildBy words variables config most)
-      → Answers d variables old new answer (Build build.options) → Completed d config most jobs old new answer ⊎ (answer ≡ memory_status)
+      → Does d variables old new answer (Build build.options) → Completed d config most jobs old new answer ⊎ (answer ≡ memory_status)
   completes_on build answers =
       on_config (λ (c : JobConfig). Builds d c (worker_count build.options) old new answer) build.configured smooth.err
       (λ builds. completes (subst (λ (n : ℕ). Builds d config n old new answer) (sym build.workers) builds)) answers

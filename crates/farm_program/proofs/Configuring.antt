@@ -5,13 +5,16 @@ use Rattle.farm_types.specs.declared.jobs.JobConfig.{JobConfig}
 use Rattle.edge_traits.specs.Sources.{SourceView}
 use Rattle.farm_words.specs.Environment.{host_text_of}
 use Rattle.farm_words.specs.Options.{Given}
+use Rattle.farm_words.specs.Commands.{Meaning, Build, Graph, Watch}
 use Rattle.stream_print.specs.Prints.{SinksView}
 use Rattle.job_driver.specs.declared.driver.Built.{Built}
 use Rattle.farm_program.specs.declared.settings.ConfigError.{ConfigError}
 use Rattle.farm_program.specs.declared.settings.ConfigError.TheVariants as config_error
 use Rattle.farm_program.specs.Worlds.{World}
 use Rattle.farm_program.specs.Settings.{IsConfigOf, ConfigFaultStands, ConfigRefused, build_config}
-use Rattle.farm_program.specs.Commands.{OnHosts, on_hosts, bad_period, bad_hosts, no_hosts}
+use Rattle.farm_program.specs.Commands.{meant_by, OnHosts, on_hosts, bad_period, bad_hosts, no_hosts}
+use Rattle.farm_program.specs.declared.by_hosts.BuildWay.{BuildWay}
+use Rattle.farm_program.specs.declared.by_hosts.BuildWay.TheVariants as way
 use Rattle.farm_program.proofs.Commanding.{printed_alone}
 
 -- what was done by the configuration
@@ -32,3 +35,10 @@ unconfigured options variables Rest config_error.Period bad none ends = bad_peri
 unconfigured options variables Rest (config_error.Hosts at fault) stands none ends = bad_hosts stands.0 stands.1 stands.2
     (record { untouched = printed_alone none; ends = ends })
 unconfigured options variables Rest config_error.Memory stands none want = no_hosts (printed_alone none) want
+
+-- what holds of each command that builds holds of what is built either way
+pub each_way : (P : Meaning → Type 0) (options : Given) (by : BuildWay) → P (Build options) → P (Graph options) → P (Watch options)
+    → P (meant_by by options)
+each_way P options way.List list graph watched = list
+each_way P options way.Graph list graph watched = graph
+each_way P options way.Watched list graph watched = watched

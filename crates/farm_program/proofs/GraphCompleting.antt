@@ -2,8 +2,8 @@
 use Rattle.std.proofs.Common.{◌≡◌, ◌⊎◌, ◌≤◌, ℕ, IsTrue, List, [], ◌++◌, length, sym, ap, subst, inl, inr, arith, Ok, Err}
 use Rattle.std.proofs.lemmas.List.{length-append}
 use Rattle.farm_types.specs.declared.jobs.JobConfig.{JobConfig}
-use Rattle.stream_print.specs.Ends.{memory_status}
-use Rattle.input_read.specs.Reads.{AllRead}
+use Rattle.stream_print.specs.Printing.{memory_status}
+use Rattle.stream_print.specs.Reads.{AllRead}
 use Rattle.farm_machine.specs.Devices.{Devices}
 use Rattle.job_list.specs.declared.fault.JobFault.{JobFault}
 use Rattle.job_graph.specs.declared.graph.Graph.{Graph}
@@ -20,7 +20,7 @@ use Rattle.farm_program.specs.Outcomes.{graph_number}
 use Rattle.farm_program.specs.Builds.{whole_text, long_text}
 use Rattle.farm_program.specs.GraphBuilds.{BuildsGraph, graph_built, none_ran, needs_faulty, cyclic, cut_short}
 use Rattle.farm_program.specs.GraphBuilds.{HasJobsFault, GraphCompleted, LevelsDone}
-use Rattle.farm_program.specs.Commands.{Answers, IsGraphBy}
+use Rattle.farm_program.specs.Commands.{Does, IsGraphBy}
 use Rattle.farm_program.specs.Smooth.{IsSmooth}
 use Rattle.farm_program.proofs.Completing.{want_answer, all_left, none_wanted, on_config, printed_or_wanted}
 
@@ -81,7 +81,7 @@ module _ {K : Type 0} (d : Devices K) (config : JobConfig) (most : ℕ) (old new
 pub graph_completes_on : {K : Type 0} {d : Devices K} {variables : List (List ℕ × List ℕ)} {words : List (List ℕ)} {config : JobConfig}
     {most : ℕ} {graph : Graph} {old new : World K} {answer : ℕ} (build : IsGraphBy words variables config most)
     → IsTrue new.source.left.known → IsSmooth old new → GraphOf old.source.left.value graph
-    → Answers d variables old new answer (GraphCommand build.options)
+    → Does d variables old new answer (GraphCommand build.options)
     → GraphCompleted d config most graph old new answer ⊎ (answer ≡ memory_status)
 graph_completes_on {d = d} {config = config} {most = most} {graph = graph} {old = old} {new = new} {answer = answer} build known smooth
     asks answers =

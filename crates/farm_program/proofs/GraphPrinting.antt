@@ -6,7 +6,7 @@ use Rattle.farm_types.specs.declared.hosts.Host.{Host}
 use Rattle.stream_print.specs.declared.pieces.Piece.{Piece}
 use Rattle.stream_print.specs.declared.one.PrintStop.{PrintStop}
 use Rattle.stream_print.specs.Prints.{SinksView, Printed, BothGoOn}
-use Rattle.stream_print.specs.Ends.{PrintedFront}
+use Rattle.stream_print.specs.Printing.{PrintedFront}
 use Rattle.stream_print.proofs.PrintLemmas.{Printed-join, Printed-nothing, goes-same}
 use Rattle.farm_program.specs.Outcomes.{Outcome, outcome_pieces, pieces_from, graph_total, graph_pieces}
 use Rattle.farm_program.proofs.ReportLemmas.{PrintedFront-after}

@@ -5,7 +5,7 @@ use Rattle.std.proofs.lemmas.List.Elements.{All-weaker}
 use Rattle.farm_types.specs.declared.hosts.Host.{Host}
 use Rattle.farm_types.specs.declared.jobs.JobConfig.{JobConfig}
 use Rattle.edge_traits.specs.Sources.{SourceView}
-use Rattle.input_read.specs.Reads.{AllRead, HasReadSome}
+use Rattle.stream_print.specs.Reads.{AllRead, HasReadSome}
 use Rattle.job_driver.specs.declared.driver.Built.{Built}
 use Rattle.farm_machine.specs.Devices.{Devices}
 use Rattle.farm_machine.specs.Usable.{IsUsable}
@@ -13,7 +13,7 @@ use Rattle.job_list.specs.Prints.{AreJobWords}
 use Rattle.job_graph.specs.declared.graph.Graph.{Graph}
 use Rattle.job_graph.specs.Graphs.{IsGraph, GraphOf}
 use Rattle.stream_print.specs.Prints.{SinksView}
-use Rattle.stream_print.specs.Ends.{Ends, WantOf}
+use Rattle.stream_print.specs.Printing.{Printing, WantOf}
 use Rattle.farm_answers.specs.Texts.{no_memory_text}
 use Rattle.farm_program.specs.Builds.{input_limit, faulty, wanted, whole_text}
 use Rattle.farm_program.specs.Outcomes.{outcomes_in, graph_pieces, graph_number}
@@ -38,13 +38,13 @@ planned graph config most is words usable some = record {
 -- what was printed, by other names of the builds and the states
 pub printed_as : (hosts : List Host) {built built' : List Built} {states states' : List State} {old new : SinksView} {answer : ℕ}
     → built' ≡ built → states' ≡ states
-    → Ends no_memory_text (graph_pieces hosts (outcomes_in built' states')) (graph_number (outcomes_in built' states')) old new answer
-    → Ends no_memory_text (graph_pieces hosts (outcomes_in built states)) (graph_number (outcomes_in built states)) old new answer
+    → Printing no_memory_text (graph_pieces hosts (outcomes_in built' states')) (graph_number (outcomes_in built' states')) old new answer
+    → Printing no_memory_text (graph_pieces hosts (outcomes_in built states)) (graph_number (outcomes_in built states)) old new answer
 printed_as hosts {built = built} {states' = states'} {old = old} {new = new} {answer = answer} same_built same_states ends =
-    subst (λ (s : List State). Ends no_memory_text (graph_pieces hosts (outcomes_in built s))
+    subst (λ (s : List State). Printing no_memory_text (graph_pieces hosts (outcomes_in built s))
     (graph_number (outcomes_in built s)) old new answer)
     same_states
-    (subst (λ (b : List Built). Ends no_memory_text (graph_pieces hosts (outcomes_in b states'))
+    (subst (λ (b : List Built). Printing no_memory_text (graph_pieces hosts (outcomes_in b states'))
     (graph_number (outcomes_in b states')) old new answer)
     same_built ends)
 
@@ -54,7 +54,7 @@ module _ {K : Type 0} {d : Devices K} {config : JobConfig} {most : ℕ} where
       {old new : SinksView} {answer : ℕ}
       → IsGraph graph → made ≡ built → count ≤ level_count graph.depths → level_count graph.depths ≤ count
       → Stands d config most graph count states built old_kits new_kits
-      → Ends no_memory_text (graph_pieces config.hosts.list (outcomes_in built states)) (graph_number (outcomes_in built states)) old
+      → Printing no_memory_text (graph_pieces config.hosts.list (outcomes_in built states)) (graph_number (outcomes_in built states)) old
       new answer
       → LevelsEnd d config most graph old_kits new_kits made old new answer
   levels_done {graph = graph} {count = count} {states = states} {built = built} {made = made} {old_kits = old_kits}
@@ -110,16 +110,17 @@ module _ {K : Type 0} {d : Devices K} {config : JobConfig} {most : ℕ} where
       cut_short (record { text = text; graph = graph; read = read; asks = asks; cut = cut })
   read_and_level text read some (text_jobs {line = line} {fault = fault} stands undone none ends) =
       none_ran (faulty {line = line} {fault = fault} (whole_text read stands)
-      (record { idle = record { undone = undone; none_built = none }; ends = ends }))
+      (record { without_jobs = record { undone = undone; none_built = none }; ends = ends }))
   read_and_level text read some (text_needs {line = line} {fault = fault} stands undone none ends) =
       needs_faulty {text = text} {line = line} {fault = fault} read stands
-      (record { idle = record { undone = undone; none_built = none }; ends = ends })
+      (record { without_jobs = record { undone = undone; none_built = none }; ends = ends })
   read_and_level text read some (text_cycle {cycle = cycle} stands undone none ends) =
-      cyclic {text = text} {cycle = cycle} read stands (record { idle = record { undone = undone; none_built = none }; ends = ends })
+      cyclic {text = text} {cycle = cycle} read stands
+      (record { without_jobs = record { undone = undone; none_built = none }; ends = ends })
   read_and_level text read some (text_wanted undone none want) =
       none_ran (wanted (record {
         read = some;
         still = read.still;
-        idle = record { undone = undone; none_built = none };
+        without_jobs = record { undone = undone; none_built = none };
         want = want;
       }))

@@ -1,7 +1,7 @@
 -- From what was read of an input, or from its refusal, to what a command does.
 use Rattle.std.proofs.Common.{◌≡◌, ℕ, List, [], refl, sym, ap, ◌∙◌, inl, arith, length}
 use Rattle.edge_traits.specs.Sources.{SourceView}
-use Rattle.input_read.specs.Reads.{HasReadSome}
+use Rattle.stream_print.specs.Reads.{HasReadSome}
 use Rattle.job_list.specs.declared.fault.JobFault.{JobFault}
 use Rattle.job_list.specs.declared.fault.JobFault.TheVariants.{TooLong}
 use Rattle.job_list.specs.Jobs.{JobFaultStands}
@@ -44,7 +44,8 @@ pub refused : {K : Type 0} (HasFault : ℕ → JobFault → Type 0) {a b : Sourc
     → NoneRan HasFault (record { source = a; kits = kits; sinks = old; built = [] })
     (record { source = b; kits = kits; sinks = new; built = made }) answer
 refused HasFault (Jobs line fault) has some none ends =
-    faulty {line = line} {fault = fault} has (record { idle = record { undone = refl; none_built = none }; ends = ends })
-refused HasFault Unread broke some none ends = unread broke (record { idle = record { undone = refl; none_built = none }; ends = ends })
+    faulty {line = line} {fault = fault} has (record { without_jobs = record { undone = refl; none_built = none }; ends = ends })
+refused HasFault Unread broke some none ends =
+    unread broke (record { without_jobs = record { undone = refl; none_built = none }; ends = ends })
 refused HasFault Memory still some none want =
-    wanted (record { read = some; still = still; idle = record { undone = refl; none_built = none }; want = want })
+    wanted (record { read = some; still = still; without_jobs = record { undone = refl; none_built = none }; want = want })

@@ -8,7 +8,7 @@ use Rattle.farm_machine.specs.declared.reports.Report.{Report}
 use Rattle.stream_print.specs.declared.pieces.Piece.{Piece}
 use Rattle.stream_print.specs.declared.one.PrintStop.{PrintStop}
 use Rattle.stream_print.specs.Prints.{SinksView, Printed, IsPart, BothGoOn}
-use Rattle.stream_print.specs.Ends.{IsFront, PrintedFront}
+use Rattle.stream_print.specs.Printing.{IsFront, PrintedFront}
 use Rattle.stream_print.proofs.PrintLemmas.{Printed-join, Printed-nothing, PrintedPart-after, IsPart-after, goes-join, goes-same}
 use Rattle.report_text.specs.Pieces.{job_pieces, jobs_pieces, total_piece, pieces}
 

@@ -1,13 +1,13 @@
 -- Where source and sinks do nothing wrong, the jobs of a watched build are run and all its lines printed, or memory was wanting.
 use Rattle.std.proofs.Common.{◌≡◌, ◌⊎◌, ℕ, IsTrue, List, sym, subst, inl, inr}
 use Rattle.farm_types.specs.declared.jobs.JobConfig.{JobConfig}
-use Rattle.stream_print.specs.Ends.{memory_status}
+use Rattle.stream_print.specs.Printing.{memory_status}
 use Rattle.farm_machine.specs.Devices.{Devices}
 use Rattle.job_list.specs.Jobs.{JobsOf}
 use Rattle.farm_words.specs.Commands.{Watch}
 use Rattle.farm_words.specs.Options.{line_count, worker_count}
 use Rattle.farm_program.specs.Worlds.{World}
-use Rattle.farm_program.specs.Commands.{Answers, IsWatchBy}
+use Rattle.farm_program.specs.Commands.{Does, IsWatchBy}
 use Rattle.farm_program.specs.Smooth.{IsSmooth, ToldWhole, WatchCompleted, by_one_kit, by_more}
 use Rattle.farm_program.specs.WatchBuilds.{BuildsWatched, watched, none_ran, Watches, alone, beside}
 use Rattle.farm_program.proofs.Completing.{completes, list_read, no_list_fault, none_wanted, on_config, printed_or_wanted}
@@ -45,7 +45,7 @@ module _ {K : Type 0} {d : Devices K} {config : JobConfig} {most lines : ℕ} {j
   ]
 
   pub watch_completes_on : {variables : List (List ℕ × List ℕ)} {words : List (List ℕ)}
-      (build : IsWatchBy words variables config most lines) → Answers d variables old new answer (Watch build.by.options)
+      (build : IsWatchBy words variables config most lines) → Does d variables old new answer (Watch build.by.options)
       → WatchCompleted d config most lines jobs old new answer ⊎ (answer ≡ memory_status)
   watch_completes_on build answers =
       let options = build.by.options in

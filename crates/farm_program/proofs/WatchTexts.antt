@@ -3,7 +3,7 @@ use Rattle.std.proofs.Common.{◌≡◌, ℕ, Bool, List, [], subst}
 use Rattle.farm_types.specs.declared.jobs.JobConfig.{JobConfig}
 use Rattle.edge_traits.specs.Sinks.{SinkView}
 use Rattle.edge_traits.specs.Sources.{SourceView}
-use Rattle.input_read.specs.Reads.{HasReadSome}
+use Rattle.stream_print.specs.Reads.{HasReadSome}
 use Rattle.job_driver.specs.declared.driver.Built.{Built}
 use Rattle.job_driver.specs.Watching.{WatchPrinted}
 use Rattle.farm_machine.specs.Devices.{Devices}
@@ -35,7 +35,7 @@ read_and_watch has some (jobs_wanted undone none want) =
     none_ran (wanted (record {
       read = some;
       still = has.read.still;
-      idle = record { undone = undone; none_built = none };
+      without_jobs = record { undone = undone; none_built = none };
       want = want;
     }))
 

@@ -2,7 +2,7 @@
 use Rattle.std.proofs.Common.{◌≡◌, ◌+◌, ◌-◌, ◌&&◌, ◌==◌, ℕ, zero, suc, Bool, true, false, not, nat_le, if◌then◌else◌}
 use Rattle.std.proofs.Common.{List, [], ◌∷◌, ◌++◌, length, take, refl, sym, ap, ◌∙◌, subst, inl, inr, arith}
 use Rattle.std.proofs.lemmas.Bool.{and_from, and_parts, cases_Bool, le-leb, or_right}
-use Rattle.std.proofs.lemmas.List.{append-nil, length-append}
+use Rattle.std.proofs.lemmas.List.{append-nil}
 use Rattle.std.proofs.lemmas.Grind.{common_steps}
 use Rattle.farm_types.specs.declared.hosts.Host.{Host}
 use Rattle.edge_traits.specs.Told.{Grew}
@@ -15,8 +15,9 @@ use Rattle.stream_print.specs.declared.one.PrintStop.{PrintStop}
 use Rattle.stream_print.specs.declared.one.PrintStop.TheVariants.{Stopped, Memory as WantsMemory}
 use Rattle.stream_print.specs.declared.pieces.Piece.{Piece}
 use Rattle.stream_print.specs.Prints.{SinksView, Printed, PrintedPart, IsPart, GoesOn, BothGoOn, DidStop, out_bytes, err_bytes}
-use Rattle.stream_print.specs.Ends.{complaint, Ends, all_printed, sink_stopped, memory_wanted, WantOf, WantTold, told_whole, told_stopped}
-use Rattle.stream_print.specs.Ends.{told_wanted}
+use Rattle.stream_print.specs.Printing.{complaint, Printing, all_printed, sink_stopped, memory_wanted, WantOf}
+use Rattle.stream_print.specs.Printing.{WantTold, told_whole, told_stopped}
+use Rattle.stream_print.specs.Printing.{told_wanted}
 use Rattle.stream_print.proofs.PrintLemmas.{err_bytes-append, Printed-join, Printed-nothing, Printed-err, PrintedPart-after, GoesOn-join}
 use Rattle.stream_print.proofs.PrintLemmas.{goes-same, goes-join, goes-later, DidStopOn-after}
 use Rattle.stream_print.proofs.EndLemmas.{complaint_part, want_after}
@@ -290,7 +291,7 @@ want_more {notice = notice} {done = done} {a = a} {b = b} {c = c} {answer = answ
 
 -- texts were printed, and then others were to be printed
 ends_after : {notice : List ℕ} {status answer : ℕ} {a b c : SinksView} (before ps : List Piece) → Printed a b before → BothGoOn a b
-    → Ends notice ps status b c answer → Ends notice (before ++ ps) status a c answer
+    → Printing notice ps status b c answer → Printing notice (before ++ ps) status a c answer
 ends_after before ps printed goes (all_printed rest on is) = all_printed (Printed-join printed rest) (goes-join goes on) is
 ends_after before ps printed goes (sink_stopped part is) =
     sink_stopped (PrintedPart-after before [] (before ++ ps) (ap (λ qs. before ++ qs) (append-nil ps)) printed goes part) is
@@ -307,7 +308,7 @@ pub record WatchEnd (jobs workers lines : ℕ) (hosts : List Host) (reports : Li
   pub counts : List Count
   pub told : Bool
   pub tell : AreCounts jobs workers lines counts
-  pub prints : Ends no_memory_text (watch_pieces jobs counts told ++ pieces hosts reports) (number reports) a c answer
+  pub prints : Printing no_memory_text (watch_pieces jobs counts told ++ pieces hosts reports) (number reports) a c answer
 
 end_by : {jobs workers lines : ℕ} (hosts : List Host) (reports : List Report) (a b c : SinksView) (answer : ℕ) (end : LineEnd)
     → LinesEnd jobs workers lines end a b → AfterLines end hosts reports b c answer → WatchEnd jobs workers lines hosts reports a c answer
@@ -321,7 +322,7 @@ end_by {jobs = jobs} hosts reports a b c answer SinkFault l after = record {
   counts = l.counts;
   told = l.told;
   tell = l.tell;
-  prints = subst (λ s. Ends no_memory_text (watch_pieces jobs l.counts l.told ++ pieces hosts reports) (number reports) a s answer)
+  prints = subst (λ s. Printing no_memory_text (watch_pieces jobs l.counts l.told ++ pieces hosts reports) (number reports) a s answer)
       (sym after.0)
       (sink_stopped (part_before (watch_pieces jobs l.counts l.told) (pieces hosts reports) l.got) after.1);
 }

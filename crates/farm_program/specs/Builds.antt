@@ -7,7 +7,7 @@ use Rattle.edge_traits.specs.Sources.{SourceView}
 use Rattle.farm_cell.specs.Passes.{seen_of}
 use Rattle.farm_machine.specs.declared.reports.Report.{Report}
 use Rattle.farm_machine.specs.Jobs.{AreLimitsOf}
-use Rattle.input_read.specs.Reads.{AllRead, ReadTo, BrokeOff, HasReadSome}
+use Rattle.stream_print.specs.Reads.{AllRead, ReadTo, BrokeOff, HasReadSome}
 use Rattle.job_driver.specs.declared.driver.Built.{Built}
 use Rattle.farm_machine.specs.Devices.{Devices}
 use Rattle.job_driver.specs.Driven.{JobsRan}
@@ -17,9 +17,9 @@ use Rattle.job_list.specs.Jobs.{JobsOf, JobFaultStands}
 use Rattle.report_text.specs.Pieces.{pieces, command_pieces}
 use Rattle.report_text.specs.Numbers.{number}
 use Rattle.stream_print.specs.Prints.{SinksView}
-use Rattle.stream_print.specs.Ends.{Ends, WantOf}
+use Rattle.stream_print.specs.Printing.{Printing, WantOf}
 use Rattle.farm_answers.specs.Texts.{bad_jobs_status, cannot_read_status, cannot_read_text, job_fault_text, no_memory_text}
-use Rattle.farm_program.specs.Worlds.{World, Idle, Refused}
+use Rattle.farm_program.specs.Worlds.{World, WithoutJobs, Refused}
 
 -- how jobs are run
 abbrev pub config_of : Hosts → Bool → Bool → ℕ → ℕ → JobConfig
@@ -48,7 +48,7 @@ pub record ListBuilt {K : Type 0} (d : Devices K) (config : JobConfig) (most : �
   pub read : AllRead old.source new.source text
   pub asks : JobsOf text jobs
   pub done : JobsDone d config jobs (worker_number most old.kits jobs) new.built old.kits new.kits
-  pub prints : Ends no_memory_text (pieces config.hosts.list done.one.reports) (number done.one.reports) old.sinks new.sinks answer
+  pub prints : Printing no_memory_text (pieces config.hosts.list done.one.reports) (number done.one.reports) old.sinks new.sinks answer
 
 -- what was read of the input, to its end or to the limit, has this fault, by what it is for one to stand in a text
 pub data HasFaultOf (Stands : List ℕ → ℕ → JobFault → Type 0) (old new : SourceView) (line : ℕ) (fault : JobFault) : Type 0 where
@@ -64,7 +64,7 @@ HasListFault = HasFaultOf JobFaultStands
 pub record Wanted {K : Type 0} (old new : World K) (answer : ℕ) : Type 0 where
   pub read : HasReadSome input_limit old.source new.source
   pub still : Still old.source.faults new.source.faults
-  pub idle : Idle old new
+  pub without_jobs : WithoutJobs old new
   pub want : WantOf no_memory_text [] old.sinks new.sinks answer
 
 -- No job was run: what was read of the input has a fault of a job list, or it couldn't be read, or memory was wanting. What the input is
@@ -85,7 +85,7 @@ pub data Builds {K : Type 0} (d : Devices K) (config : JobConfig) (most : ℕ) (
 pub data JobsEnd {K : Type 0} (d : Devices K) (config : JobConfig) (most : ℕ) (jobs : List (List (List ℕ))) (old_kits new_kits : List K)
     (made : List Built) (old new : SinksView) (answer : ℕ) : Type 0 where
   jobs_ran : (done : JobsDone d config jobs (worker_number most old_kits jobs) made old_kits new_kits)
-      → Ends no_memory_text (pieces config.hosts.list done.one.reports) (number done.one.reports) old new answer
+      → Printing no_memory_text (pieces config.hosts.list done.one.reports) (number done.one.reports) old new answer
       → JobsEnd d config most jobs old_kits new_kits made old new answer
   jobs_wanted : new_kits ≡ old_kits → made ≡ [] → WantOf no_memory_text [] old new answer
       → JobsEnd d config most jobs old_kits new_kits made old new answer
@@ -96,9 +96,9 @@ pub record CommandRan {K : Type 0} (d : Devices K) (config : JobConfig) (words :
   pub done : JobsDone d config (words ∷ []) 1 new.built old.kits new.kits
   pub report : Report
   pub alone : done.one.reports ≡ report ∷ []
-  pub prints : Ends no_memory_text (command_pieces config.hosts.list report.end) (number (report ∷ [])) old.sinks new.sinks answer
+  pub prints : Printing no_memory_text (command_pieces config.hosts.list report.end) (number (report ∷ [])) old.sinks new.sinks answer
 
 -- a single command by this configuration; want of memory before it began is free
 pub data RunsCommand {K : Type 0} (d : Devices K) (config : JobConfig) (words : List (List ℕ)) (old new : World K) (answer : ℕ) : Type 0 where
   command_ran : CommandRan d config words old new answer → RunsCommand d config words old new answer
-  command_wanted : new.source ≡ old.source → Idle old new → WantOf no_memory_text [] old.sinks new.sinks answer → RunsCommand d config words old new answer
+  command_wanted : new.source ≡ old.source → WithoutJobs old new → WantOf no_memory_text [] old.sinks new.sinks answer → RunsCommand d config words old new answer

@@ -9,11 +9,13 @@ use Rattle.farm_words.specs.Options.{Given, worker_count, line_count}
 use Rattle.farm_words.specs.Environment.{host_text_of, is_fallback_on, PeriodOf, HasBadPeriod}
 use Rattle.farm_words.specs.Help.{help_of}
 use Rattle.farm_machine.specs.Devices.{Devices}
-use Rattle.stream_print.specs.Ends.{complaint, Ends, WantOf}
+use Rattle.stream_print.specs.Printing.{complaint, Printing, WantOf}
 use Rattle.farm_answers.specs.Texts.{bad_hosts_status, bad_period_text, bad_words_status, host_fault_text, no_memory_text, output, version_text}
 use Rattle.farm_answers.specs.Lines.{class_line}
 use Rattle.farm_answers.specs.ByHosts.{ByHosts}
-use Rattle.farm_program.specs.Worlds.{World, Untouched, Answered}
+use Rattle.farm_program.specs.Worlds.{World, Untouched, OnlyPrinted}
+use Rattle.farm_program.specs.declared.by_hosts.BuildWay.{BuildWay}
+use Rattle.farm_program.specs.declared.by_hosts.BuildWay.TheVariants as way
 use Rattle.farm_program.specs.Builds.{Builds, RunsCommand, config_of}
 use Rattle.farm_program.specs.GraphBuilds.{BuildsGraph}
 use Rattle.farm_program.specs.WatchBuilds.{Watches}
@@ -25,34 +27,34 @@ use Rattle.farm_program.specs.Settings.{IsConfigOf, build_config}
 -- and the text are tells the first three apart; the last is free.
 pub data OnHosts {K : Type 0} (text : List ℕ) (variables : List (List ℕ × List ℕ)) (Rest : Hosts → ℕ → Type 0) (old new : World K) (answer : ℕ) : Type 0 where
   on_hosts : {hosts : Hosts} {period : ℕ} → PeriodOf variables period → HostListOf text hosts → Rest hosts period → OnHosts text variables Rest old new answer
-  bad_period : HasBadPeriod variables → Answered (complaint bad_period_text) bad_words_status old new answer → OnHosts text variables Rest old new answer
-  bad_hosts : {at : ℕ} {fault : HostFault} (period : ℕ) → PeriodOf variables period → HostFaultStands text at fault → Answered (complaint (host_fault_text at fault)) bad_hosts_status old new answer → OnHosts text variables Rest old new answer
+  bad_period : HasBadPeriod variables → OnlyPrinted (complaint bad_period_text) bad_words_status old new answer → OnHosts text variables Rest old new answer
+  bad_hosts : {at : ℕ} {fault : HostFault} (period : ℕ) → PeriodOf variables period → HostFaultStands text at fault → OnlyPrinted (complaint (host_fault_text at fault)) bad_hosts_status old new answer → OnHosts text variables Rest old new answer
   no_hosts : Untouched old new → WantOf no_memory_text [] old.sinks new.sinks answer → OnHosts text variables Rest old new answer
 
 -- The host list is printed as it is read, or refused by its fault.
 pub record ListsHosts {K : Type 0} (text : List ℕ) (old new : World K) (answer : ℕ) : Type 0 where
   pub untouched : Untouched old new
-  pub lists : ByHosts text (λ hosts. Ends no_memory_text (output (printed hosts) ∷ []) 0 old.sinks new.sinks answer) old.sinks new.sinks answer
+  pub lists : ByHosts text (λ hosts. Printing no_memory_text (output (printed hosts) ∷ []) 0 old.sinks new.sinks answer) old.sinks new.sinks answer
 
 -- how a single command is run: with retry, and at one host
 abbrev pub command_config : List (List ℕ × List ℕ) → Hosts → ℕ → JobConfig
 command_config variables hosts period = config_of hosts (is_fallback_on true variables) true period 1
 
 -- What each command does, by the variables of the environment.
-abbrev pub Answers : {K : Type 0} → Devices K → List (List ℕ × List ℕ) → World K → World K → ℕ → Meaning → Type 0
-Answers d variables old new answer (Build options) =
+abbrev pub Does : {K : Type 0} → Devices K → List (List ℕ × List ℕ) → World K → World K → ℕ → Meaning → Type 0
+Does d variables old new answer (Build options) =
     OnHosts (host_text_of options.hosts variables) variables (λ hosts period. Builds d (build_config options variables hosts period) (worker_count options) old new answer) old new answer
-Answers d variables old new answer (Watch options) =
+Does d variables old new answer (Watch options) =
     OnHosts (host_text_of options.hosts variables) variables (λ hosts period. Watches d (build_config options variables hosts period) (worker_count options) (line_count options) old new answer) old new answer
-Answers d variables old new answer (Graph options) =
+Does d variables old new answer (Graph options) =
     OnHosts (host_text_of options.hosts variables) variables (λ hosts period. BuildsGraph d (build_config options variables hosts period) (worker_count options) old new answer) old new answer
-Answers d variables old new answer (Cc words) =
+Does d variables old new answer (Cc words) =
     OnHosts (host_text_of None variables) variables (λ hosts period. RunsCommand d (command_config variables hosts period) words old new answer) old new answer
-Answers d variables old new answer (HostsCommand text) = ListsHosts (host_text_of text variables) old new answer
-Answers d variables old new answer (Scan words) = Answered (output (class_line words)) 0 old new answer
-Answers d variables old new answer (Rehearse jobs) = DidRehearse jobs old new answer
-Answers d variables old new answer (Help name) = Answered (output (help_of name)) 0 old new answer
-Answers d variables old new answer Version = Answered (output version_text) 0 old new answer
+Does d variables old new answer (HostsCommand text) = ListsHosts (host_text_of text variables) old new answer
+Does d variables old new answer (Scan words) = OnlyPrinted (output (class_line words)) 0 old new answer
+Does d variables old new answer (Rehearse jobs) = DidRehearse jobs old new answer
+Does d variables old new answer (Help name) = OnlyPrinted (output (help_of name)) 0 old new answer
+Does d variables old new answer Version = OnlyPrinted (output version_text) 0 old new answer
 
 -- the words are this command with some options, which give this configuration and this many workers at most
 pub record IsBy (named : Given → Meaning) (words : List (List ℕ)) (variables : List (List ℕ × List ℕ)) (config : JobConfig) (most : ℕ)
@@ -74,3 +76,9 @@ pub record IsWatchBy (words : List (List ℕ)) (variables : List (List ℕ × Li
 -- it is `graph`
 abbrev pub IsGraphBy : List (List ℕ) → List (List ℕ × List ℕ) → JobConfig → ℕ → Type 0
 IsGraphBy = IsBy Graph
+
+-- the command of a build with these options
+abbrev pub meant_by : BuildWay → Given → Meaning
+meant_by way.List options = Build options
+meant_by way.Graph options = Graph options
+meant_by way.Watched options = Watch options

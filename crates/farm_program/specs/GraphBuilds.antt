@@ -2,7 +2,7 @@
 use Rattle.std.specs.Prelude.{◌≡◌, ℕ, ◌<◌, List, [], ◌∷◌, All}
 use Rattle.farm_types.specs.declared.jobs.JobConfig.{JobConfig}
 use Rattle.edge_traits.specs.Sources.{SourceView}
-use Rattle.input_read.specs.Reads.{AllRead}
+use Rattle.stream_print.specs.Reads.{AllRead}
 use Rattle.job_driver.specs.declared.driver.Built.{Built}
 use Rattle.farm_machine.specs.Devices.{Devices}
 use Rattle.job_list.specs.declared.fault.JobFault.{JobFault}
@@ -12,7 +12,7 @@ use Rattle.job_graph.specs.declared.fault.GraphFault.{GraphFault}
 use Rattle.job_graph.specs.Lines.{cut_text}
 use Rattle.job_graph.specs.Graphs.{GraphOf, NeedsFaultStands, CycleStands}
 use Rattle.stream_print.specs.Prints.{SinksView}
-use Rattle.stream_print.specs.Ends.{complaint, Ends, WantOf}
+use Rattle.stream_print.specs.Printing.{complaint, Printing, WantOf}
 use Rattle.farm_answers.specs.Texts.{bad_jobs_status, cycle_text, job_fault_text}
 use Rattle.farm_answers.specs.Texts.{needs_fault_text, no_memory_text}
 use Rattle.farm_program.specs.Worlds.{World, Refused}
@@ -29,7 +29,7 @@ pub record LevelsDone {K : Type 0} (d : Devices K) (config : JobConfig) (most : 
   pub levels : LevelsRan d config most graph (level_count graph.depths) outcomes made old_kits new_kits
   pub ended : All HasEnded outcomes
   pub needs_done : NeedsWereDone graph outcomes
-  pub prints : Ends no_memory_text (graph_pieces config.hosts.list outcomes) (graph_number outcomes) old new answer
+  pub prints : Printing no_memory_text (graph_pieces config.hosts.list outcomes) (graph_number outcomes) old new answer
 
 -- Memory was wanting before this level: the levels below it stand, none of the others was begun, and nothing but the notice was printed.
 pub record LevelsCut {K : Type 0} (d : Devices K) (config : JobConfig) (most : ℕ) (graph : Graph) (old_kits new_kits : List K)
@@ -91,13 +91,13 @@ pub data RunsGraph {K : Type 0} (d : Devices K) (config : JobConfig) (most : ℕ
   text_cut : {graph : Graph} → GraphOf text graph → LevelsCut d config most graph old_kits new_kits made old new answer
       → RunsGraph d config most text old_kits new_kits made old new answer
   text_jobs : {line : ℕ} {fault : JobFault} → JobFaultStands (cut_text text) line fault → new_kits ≡ old_kits → made ≡ []
-      → Ends no_memory_text (complaint (job_fault_text line fault) ∷ []) bad_jobs_status old new answer
+      → Printing no_memory_text (complaint (job_fault_text line fault) ∷ []) bad_jobs_status old new answer
       → RunsGraph d config most text old_kits new_kits made old new answer
   text_needs : {line : ℕ} {fault : GraphFault} → NeedsFaultStands text line fault → new_kits ≡ old_kits → made ≡ []
-      → Ends no_memory_text (complaint (needs_fault_text line fault) ∷ []) bad_jobs_status old new answer
+      → Printing no_memory_text (complaint (needs_fault_text line fault) ∷ []) bad_jobs_status old new answer
       → RunsGraph d config most text old_kits new_kits made old new answer
   text_cycle : {cycle : List ℕ} → CycleStands text cycle → new_kits ≡ old_kits → made ≡ []
-      → Ends no_memory_text (complaint (cycle_text cycle) ∷ []) bad_jobs_status old new answer
+      → Printing no_memory_text (complaint (cycle_text cycle) ∷ []) bad_jobs_status old new answer
       → RunsGraph d config most text old_kits new_kits made old new answer
   text_wanted : new_kits ≡ old_kits → made ≡ [] → WantOf no_memory_text [] old new answer
       → RunsGraph d config most text old_kits new_kits made old new answer

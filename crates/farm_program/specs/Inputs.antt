@@ -2,12 +2,12 @@
 use Rattle.std.specs.Prelude.{◌≡◌, ℕ, List, [], ◌∷◌}
 use Rattle.edge_traits.specs.Causes.{Still}
 use Rattle.edge_traits.specs.Sources.{SourceView}
-use Rattle.input_read.specs.Reads.{AllRead, ReadTo, BrokeOff}
+use Rattle.stream_print.specs.Reads.{AllRead, ReadTo, BrokeOff}
 use Rattle.job_list.specs.declared.fault.JobFault.{JobFault}
 use Rattle.job_list.specs.declared.fault.JobFault.TheVariants.{TooLong}
 use Rattle.job_list.specs.Jobs.{JobsOf}
 use Rattle.stream_print.specs.Prints.{SinksView}
-use Rattle.stream_print.specs.Ends.{complaint, Ends, WantOf}
+use Rattle.stream_print.specs.Printing.{complaint, Printing, WantOf}
 use Rattle.farm_answers.specs.Texts.{bad_jobs_status, cannot_read_status, cannot_read_text, job_fault_text, no_memory_text}
 use Rattle.farm_program.specs.declared.input.InputError.{InputError}
 use Rattle.farm_program.specs.declared.input.InputError.TheVariants.{Jobs, Unread, Memory}
@@ -34,6 +34,6 @@ pub record IsTooLong (old new : SourceView) (line : ℕ) (fault : JobFault) : Ty
 -- what was to be printed of it, and the status
 abbrev pub InputRefused : InputError → SinksView → SinksView → ℕ → Type 0
 InputRefused (Jobs line fault) old new answer =
-    Ends no_memory_text (complaint (job_fault_text line fault) ∷ []) bad_jobs_status old new answer
-InputRefused Unread old new answer = Ends no_memory_text (complaint cannot_read_text ∷ []) cannot_read_status old new answer
+    Printing no_memory_text (complaint (job_fault_text line fault) ∷ []) bad_jobs_status old new answer
+InputRefused Unread old new answer = Printing no_memory_text (complaint cannot_read_text ∷ []) cannot_read_status old new answer
 InputRefused Memory old new answer = WantOf no_memory_text [] old new answer

@@ -80,12 +80,6 @@ pub record IsPlan (graph : Graph) (config : JobConfig) (most : ℕ) : Type 0 whe
   pub usable : IsUsable config
   pub workers : 1 ≤ most
 
--- 1 to 16 kits that can be used
-pub record AreReady {K : Type 0} (IsReady : K → Type 0) (kits : List K) : Type 0 where
-  pub some : 1 ≤ length kits
-  pub most : length kits ≤ 16
-  pub ready : All IsReady kits
-
 -- the run of jobs that a state names is among so many
 abbrev pub IsPlaced : ℕ → State → Type 0
 IsPlaced runs state.Waits = Unit {0}

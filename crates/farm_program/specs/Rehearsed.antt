@@ -4,13 +4,13 @@ use Rattle.job_driver.specs.declared.driver.Built.{Built}
 use Rattle.rehearsal.specs.declared.numbers.Count.{Count}
 use Rattle.rehearsal.specs.Rehearsals.{IsRehearsal}
 use Rattle.stream_print.specs.Prints.{SinksView}
-use Rattle.stream_print.specs.Ends.{Ends, WantOf}
+use Rattle.stream_print.specs.Printing.{Printing, WantOf}
 use Rattle.farm_answers.specs.Texts.{no_memory_text, output, rehearsal_text}
 use Rattle.farm_program.specs.Worlds.{World}
 
 -- the line with the two numbers was to be printed; or a job wanted memory, and the notice for it was
 abbrev pub PrintsCount : ℕ → Option Count → SinksView → SinksView → ℕ → Type 0
-PrintsCount n (Some count) old new answer = Ends no_memory_text (output (rehearsal_text n count.done count.bytes) ∷ []) 0 old new answer
+PrintsCount n (Some count) old new answer = Printing no_memory_text (output (rehearsal_text n count.done count.bytes) ∷ []) 0 old new answer
 PrintsCount n None old new answer = WantOf no_memory_text [] old new answer
 
 -- The jobs were run, and what they came to was to be printed.

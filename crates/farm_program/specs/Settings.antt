@@ -6,7 +6,7 @@ use Rattle.host_list.specs.HostLists.{HostListOf, HostFaultStands}
 use Rattle.farm_words.specs.Options.{Given, try_count}
 use Rattle.farm_words.specs.Environment.{host_text_of, is_fallback_on, PeriodOf, HasBadPeriod}
 use Rattle.stream_print.specs.Prints.{SinksView}
-use Rattle.stream_print.specs.Ends.{complaint, Ends, WantOf}
+use Rattle.stream_print.specs.Printing.{complaint, Printing, WantOf}
 use Rattle.farm_answers.specs.Texts.{bad_hosts_status, bad_period_text, bad_words_status, host_fault_text, no_memory_text}
 use Rattle.farm_program.specs.declared.settings.ConfigError.{ConfigError}
 use Rattle.farm_program.specs.declared.settings.ConfigError.TheVariants as config_error
@@ -35,7 +35,7 @@ ConfigFaultStands options variables config_error.Memory = Unit {0}
 
 -- what was to be printed of it, and the status
 abbrev pub ConfigRefused : ConfigError → SinksView → SinksView → ℕ → Type 0
-ConfigRefused config_error.Period old new answer = Ends no_memory_text (complaint bad_period_text ∷ []) bad_words_status old new answer
+ConfigRefused config_error.Period old new answer = Printing no_memory_text (complaint bad_period_text ∷ []) bad_words_status old new answer
 ConfigRefused (config_error.Hosts at fault) old new answer =
-    Ends no_memory_text (complaint (host_fault_text at fault) ∷ []) bad_hosts_status old new answer
+    Printing no_memory_text (complaint (host_fault_text at fault) ∷ []) bad_hosts_status old new answer
 ConfigRefused config_error.Memory old new answer = WantOf no_memory_text [] old new answer

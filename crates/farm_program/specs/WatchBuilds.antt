@@ -7,7 +7,7 @@ use Rattle.farm_machine.specs.declared.reports.Report.{Report}
 use Rattle.farm_machine.specs.Devices.{Devices}
 use Rattle.farm_machine.specs.Jobs.{AreLimitsOf}
 use Rattle.farm_machine.specs.Usable.{job_at}
-use Rattle.input_read.specs.Reads.{AllRead}
+use Rattle.stream_print.specs.Reads.{AllRead}
 use Rattle.job_driver.specs.declared.driver.Built.{Built}
 use Rattle.job_driver.specs.Watching.{WatchedRan}
 use Rattle.job_list.specs.Jobs.{JobsOf}
@@ -15,7 +15,7 @@ use Rattle.report_text.specs.Pieces.{pieces}
 use Rattle.report_text.specs.Numbers.{number}
 use Rattle.stream_print.specs.declared.pieces.Piece.{Piece}
 use Rattle.stream_print.specs.Prints.{SinksView}
-use Rattle.stream_print.specs.Ends.{complaint, stopped_status, Ends, WantOf}
+use Rattle.stream_print.specs.Printing.{complaint, stopped_status, Printing, WantOf}
 use Rattle.watch_lines.specs.declared.count.Count.{Count}
 use Rattle.watch_lines.specs.declared.line_end.LineEnd.{LineEnd}
 use Rattle.watch_lines.specs.declared.line_end.LineEnd.TheVariants.{Whole, SinkFault, Memory}
@@ -69,7 +69,7 @@ pub record ListWatched {K : Type 0} (d : Devices K) (config : JobConfig) (most l
   pub counts : List Count
   pub told : Bool
   pub tell : AreCounts (length jobs) (watched_workers most old.kits jobs) lines counts
-  pub prints : Ends no_memory_text (watch_pieces (length jobs) counts told ++ pieces config.hosts.list done.one.reports)
+  pub prints : Printing no_memory_text (watch_pieces (length jobs) counts told ++ pieces config.hosts.list done.one.reports)
       (number done.one.reports) old.sinks new.sinks answer
 
 -- A watched build: what is refused is refused as in a build that nobody watches.
@@ -87,7 +87,7 @@ pub data Watches {K : Type 0} (d : Devices K) (config : JobConfig) (most lines :
 -- what follows the lines, by how their printing ended: the reports; or nothing, since the sink stopped; or the notice that memory was
 -- wanting
 abbrev pub AfterLines : LineEnd → List Host → List Report → SinksView → SinksView → ℕ → Type 0
-AfterLines Whole hosts reports old new answer = Ends no_memory_text (pieces hosts reports) (number reports) old new answer
+AfterLines Whole hosts reports old new answer = Printing no_memory_text (pieces hosts reports) (number reports) old new answer
 AfterLines SinkFault hosts reports old new answer = (new ≡ old) × (answer ≡ stopped_status)
 AfterLines Memory hosts reports old new answer = WantOf no_memory_text [] old new answer
 
@@ -97,7 +97,7 @@ pub data WatchEnd {K : Type 0} (d : Devices K) (config : JobConfig) (most lines 
   jobs_watched : {counts : List Count} (told : Bool)
       → (done : JobsWatched d config jobs (watched_workers most old_kits jobs) made old_kits new_kits)
       → AreCounts (length jobs) (watched_workers most old_kits jobs) lines counts
-      → Ends no_memory_text (watch_pieces (length jobs) counts told ++ pieces config.hosts.list done.one.reports)
+      → Printing no_memory_text (watch_pieces (length jobs) counts told ++ pieces config.hosts.list done.one.reports)
       (number done.one.reports) old new answer
       → WatchEnd d config most lines jobs old_kits new_kits made old new answer
   jobs_wanted : new_kits ≡ old_kits → made ≡ [] → WantOf no_memory_text [] old new answer

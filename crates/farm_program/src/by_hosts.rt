@@ -1,13 +1,13 @@
 //! The commands that run jobs, by the environment and their host list.
-ghost use Rattle.std.specs.Prelude.{◌≡◌, ◌<◌, ◌≤◌, [], false, All, length, map, string_bytes};
+ghost use Rattle.std.specs.Prelude.{◌≡◌, ◌<◌, [], false, All, length, map, string_bytes};
 ghost use Rattle.edge_traits.specs.Keepers.{IsIdle};
 ghost use Rattle.farm_words.specs.Options.{given};
 ghost use Rattle.farm_words.specs.Commands as commands;
 ghost use Rattle.farm_machine.specs.Devices.{devices};
 ghost use Rattle.edge_traits.specs.Sources.{SourceView};
 ghost use Rattle.stream_print.specs.Prints.{sinks_view};
-ghost use Rattle.farm_program.specs.Worlds.{world};
-ghost use Rattle.farm_program.specs.Commands.{Answers};
+ghost use Rattle.farm_program.specs.Worlds.{AreReady, world};
+ghost use Rattle.farm_program.specs.Commands.{Does, meant_by};
 ghost use Rattle.farm_words.specs.Within.{AreWithin};
 
 use crate::graph::build_graph;
@@ -32,96 +32,27 @@ const NO_OPTIONS: Options<'static> = Options {
     retry: true,
 };
 
+/// What a build is told to do.
+#[derive(Clone, Copy)]
+pub enum BuildWay {
+    /// All jobs of a list.
+    List,
+    /// All jobs of a graph, level by level.
+    Graph,
+    /// All jobs of a list, while lines tell of them.
+    Watched,
+}
+
+/// A build: what it does, its options, and the environment.
+#[derive(Clone, Copy)]
+pub struct BuildCall<'a> {
+    pub way: BuildWay,
+    pub options: Options<'a>,
+    pub env: &'a [(String, String)],
+}
+
 /// Builds by these settings, or refuses them.
 pub fn build_by<
-    T: Threads + Wait + Sync,
-    D: Dialer + Send + Drop,
-    S: Station + Send + Drop,
-    K: Keeper + Send + Drop,
-    C: Clock + Send + Drop,
-    R: Source,
-    O: Sink,
-    E: Sink,
->(
-    rt: &T,
-    alloc: Global,
-    settings: Settings<'_>,
-    input: &mut R,
-    kits: &mut Vec<Kit<D, S, K, C>>,
-    out: &mut O,
-    err: &mut E,
-) -> Ended
-where
-    D::Link: Send,
-    requires within { AreWithin (given settings.options) }
-    requires input { (R.shows input.old).ended ≡ false }
-    requires some { 1 ≤ length kits.old.items }
-    requires most { length kits.old.items ≤ 16 }
-    requires idle { All (λ kit. IsIdle (K.shows kit.keeper)) kits.old.items }
-    ensures { Answers (devices D.shows S.shows K.shows C.shows D.may_give S.ran)
-        (map (λ v. (string_bytes v.0, string_bytes v.1)) settings.entry.env.now)
-        (world R.shows O.shows E.shows input.old kits.old.items out.old err.old [])
-        (world R.shows O.shows E.shows input.new kits.new.items out.new err.new result.built) result.status
-        (commands.Build (given settings.entry.options)) }
-{
-    match configure(alloc, &settings) {
-        Ok(config) => {
-            let plan = BuildPlan {
-                config: &config,
-                most: settings.options.worker_count(),
-            };
-            build_list(rt, alloc, plan, input, kits, out, err)
-        }
-        Err(error) => refuse_config(alloc, error, out, err),
-    }
-}
-
-/// Builds a job graph by these settings, or refuses them.
-pub fn graph_by<
-    T: Threads + Wait + Sync,
-    D: Dialer + Send + Drop,
-    S: Station + Send + Drop,
-    K: Keeper + Send + Drop,
-    C: Clock + Send + Drop,
-    R: Source,
-    O: Sink,
-    E: Sink,
->(
-    rt: &T,
-    alloc: Global,
-    settings: Settings<'_>,
-    input: &mut R,
-    kits: &mut Vec<Kit<D, S, K, C>>,
-    out: &mut O,
-    err: &mut E,
-) -> Ended
-where
-    D::Link: Send,
-    requires within { AreWithin (given settings.options) }
-    requires input { (R.shows input.old).ended ≡ false }
-    requires some { 1 ≤ length kits.old.items }
-    requires most { length kits.old.items ≤ 16 }
-    requires idle { All (λ kit. IsIdle (K.shows kit.keeper)) kits.old.items }
-    ensures { Answers (devices D.shows S.shows K.shows C.shows D.may_give S.ran)
-        (map (λ v. (string_bytes v.0, string_bytes v.1)) settings.entry.env.now)
-        (world R.shows O.shows E.shows input.old kits.old.items out.old err.old [])
-        (world R.shows O.shows E.shows input.new kits.new.items out.new err.new result.built) result.status
-        (commands.Graph (given settings.entry.options)) }
-{
-    match configure(alloc, &settings) {
-        Ok(config) => {
-            let plan = BuildPlan {
-                config: &config,
-                most: settings.options.worker_count(),
-            };
-            build_graph(rt, alloc, plan, input, kits, out, err)
-        }
-        Err(error) => refuse_config(alloc, error, out, err),
-    }
-}
-
-/// Builds by these settings while lines tell of it, or refuses them.
-pub fn watch_by<
     T: Threads + Wait + Sync,
     D: Dialer + Send + Drop,
     S: Station + Send + Drop,
@@ -133,7 +64,7 @@ pub fn watch_by<
 >(
     rt: &T,
     alloc: Global,
-    settings: Settings<'_>,
+    call: BuildCall<'_>,
     input: &mut R,
     kits: &mut Vec<Kit<D, S, K, C>>,
     out: &mut O,
@@ -141,27 +72,36 @@ pub fn watch_by<
 ) -> Ended
 where
     D::Link: Send,
-    requires within { AreWithin (given settings.options) }
+    requires within { AreWithin (given call.options) }
     requires input { (R.shows input.old).ended ≡ false }
-    requires some { 1 ≤ length kits.old.items }
-    requires most { length kits.old.items ≤ 16 }
-    requires idle { All (λ kit. IsIdle (K.shows kit.keeper)) kits.old.items }
-    ensures { Answers (devices D.shows S.shows K.shows C.shows D.may_give S.ran)
-        (map (λ v. (string_bytes v.0, string_bytes v.1)) settings.entry.env.now)
+    requires kits { AreReady 1 (λ kit. IsIdle (K.shows kit.keeper)) kits.old.items }
+    ensures { Does (devices D.shows S.shows K.shows C.shows D.may_give S.ran)
+        (map (λ v. (string_bytes v.0, string_bytes v.1)) call.entry.env.now)
         (world R.shows O.shows E.shows input.old kits.old.items out.old err.old [])
         (world R.shows O.shows E.shows input.new kits.new.items out.new err.new result.built) result.status
-        (commands.Watch (given settings.entry.options)) }
+        (meant_by call.entry.way (given call.entry.options)) }
 {
-    match configure(alloc, &settings) {
-        Ok(config) => {
+    let BuildCall { way, options, env } = call;
+    let settings = Settings { options, env };
+    let config = match configure(alloc, &settings) {
+        Ok(config) => config,
+        Err(error) => return refuse_config(alloc, error, out, err),
+    };
+    let plan = BuildPlan {
+        config: &config,
+        most: options.worker_count(),
+    };
+    match way {
+        BuildWay::List => build_list(rt, alloc, plan, input, kits, out, err),
+        BuildWay::Graph => build_graph(rt, alloc, plan, input, kits, out, err),
+        BuildWay::Watched => {
             let plan = WatchPlan {
-                config: &config,
-                most: settings.options.worker_count(),
-                lines: settings.options.line_count(),
+                config: plan.config,
+                most: plan.most,
+                lines: options.line_count(),
             };
             watch_list(rt, alloc, plan, input, kits, out, err)
         }
-        Err(error) => refuse_config(alloc, error, out, err),
     }
 }
 
@@ -186,10 +126,8 @@ pub fn command_by<
 where
     D::Link: Send,
     requires word { 0 < length words.now }
-    requires some { 1 ≤ length kits.old.items }
-    requires most { length kits.old.items ≤ 16 }
-    requires idle { All (λ kit. IsIdle (K.shows kit.keeper)) kits.old.items }
-    ensures { (source : SourceView) → Answers (devices D.shows S.shows K.shows C.shows D.may_give S.ran)
+    requires kits { AreReady 1 (λ kit. IsIdle (K.shows kit.keeper)) kits.old.items }
+    ensures { (source : SourceView) → Does (devices D.shows S.shows K.shows C.shows D.may_give S.ran)
         (map (λ v. (string_bytes v.0, string_bytes v.1)) env.now)
         (record { source = source; kits = kits.old.items; sinks = sinks_view O.shows E.shows out.old err.old; built = [] })
         (record { source = source; kits = kits.new.items; sinks = sinks_view O.shows E.shows out.new err.new; built = result.built })

@@ -1,11 +1,11 @@
 //! A build of a job graph.
-ghost use Rattle.std.specs.Prelude.{◌≡◌, ◌≤◌, [], false, All, length};
+ghost use Rattle.std.specs.Prelude.{◌≡◌, ◌≤◌, [], false};
 ghost use Rattle.edge_traits.specs.Keepers.{IsIdle};
 ghost use Rattle.farm_machine.specs.Devices.{devices};
 ghost use Rattle.farm_machine.specs.Usable.{IsUsable};
 ghost use Rattle.stream_print.specs.Prints.{sinks_view};
-ghost use Rattle.farm_program.specs.Worlds.{world};
-ghost use Rattle.farm_program.specs.Levels.{AreReady, IsPlan};
+ghost use Rattle.farm_program.specs.Worlds.{AreReady, world};
+ghost use Rattle.farm_program.specs.Levels.{IsPlan};
 ghost use Rattle.farm_program.specs.GraphBuilds.{BuildsGraph, LevelsEnd, RunsGraph};
 
 use crate::graph_print::finish_graph;
@@ -40,7 +40,7 @@ fn build_levels<
 where
     D::Link: Send,
     requires plan { IsPlan plan.graph.now plan.config.now plan.most }
-    requires kits { AreReady (λ kit. IsIdle (K.shows kit.keeper)) kits.old.items }
+    requires kits { AreReady 1 (λ kit. IsIdle (K.shows kit.keeper)) kits.old.items }
     ensures { LevelsEnd (devices D.shows S.shows K.shows C.shows D.may_give S.ran) plan.entry.config.now plan.entry.most plan.entry.graph.now
         kits.old.items kits.new.items result.built
         (sinks_view O.shows E.shows out.old err.old)
@@ -48,7 +48,7 @@ where
 {
     let levels = match run_levels(rt, alloc, plan, kits) {
         Ok(levels) => levels,
-        Err(_) => return Ended::idle(alloc, want_memory(out, err)),
+        Err(_) => return Ended::without_jobs(alloc, want_memory(out, err)),
     };
     let Progress { states, built } = levels.progress;
     if levels.count < level_count(plan.graph.depths.as_slice()) {
@@ -85,7 +85,7 @@ where
     D::Link: Send,
     requires config { IsUsable plan.config.now }
     requires workers { 1 ≤ plan.most }
-    requires kits { AreReady (λ kit. IsIdle (K.shows kit.keeper)) kits.old.items }
+    requires kits { AreReady 1 (λ kit. IsIdle (K.shows kit.keeper)) kits.old.items }
     ensures { RunsGraph (devices D.shows S.shows K.shows C.shows D.may_give S.ran) plan.entry.config.now plan.entry.most text.now
         kits.old.items kits.new.items result.built
         (sinks_view O.shows E.shows out.old err.old)
@@ -101,15 +101,15 @@ where
             build_levels(rt, alloc, plan, kits, out, err)
         }
         Err(GraphError::Jobs { line, fault }) => {
-            Ended::idle(alloc, refuse_job_list(alloc, line, fault, out, err))
+            Ended::without_jobs(alloc, refuse_job_list(alloc, line, fault, out, err))
         }
         Err(GraphError::Fault { line, fault }) => {
-            Ended::idle(alloc, refuse_needs(alloc, line, fault, out, err))
+            Ended::without_jobs(alloc, refuse_needs(alloc, line, fault, out, err))
         }
         Err(GraphError::Cycle(cycle)) => {
-            Ended::idle(alloc, refuse_cycle(alloc, &cycle, out, err))
+            Ended::without_jobs(alloc, refuse_cycle(alloc, &cycle, out, err))
         }
-        Err(GraphError::Memory) => Ended::idle(alloc, want_memory(out, err)),
+        Err(GraphError::Memory) => Ended::without_jobs(alloc, want_memory(out, err)),
     }
 }
 
@@ -137,7 +137,7 @@ where
     requires config { IsUsable plan.config.now }
     requires workers { 1 ≤ plan.most }
     requires input { (R.shows input.old).ended ≡ false }
-    requires kits { AreReady (λ kit. IsIdle (K.shows kit.keeper)) kits.old.items }
+    requires kits { AreReady 1 (λ kit. IsIdle (K.shows kit.keeper)) kits.old.items }
     ensures { BuildsGraph (devices D.shows S.shows K.shows C.shows D.may_give S.ran) plan.entry.config.now plan.entry.most
         (world R.shows O.shows E.shows input.old kits.old.items out.old err.old [])
         (world R.shows O.shows E.shows input.new kits.new.items out.new err.new result.built) result.status }

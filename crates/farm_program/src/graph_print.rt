@@ -2,7 +2,7 @@
 
 ghost use Rattle.std.specs.Prelude.{◌≡◌, ◌≤◌, ◌∷◌, [], length, OnOk, IfErr};
 ghost use Rattle.stream_print.specs.Prints.{sinks_view, Printed, BothGoOn};
-ghost use Rattle.stream_print.specs.Ends.{Ends, PrintedFront};
+ghost use Rattle.stream_print.specs.Printing.{Printing, PrintedFront};
 ghost use Rattle.farm_answers.specs.Texts.{no_memory_text};
 ghost use Rattle.farm_program.specs.Outcomes.{graph_number, graph_pieces, graph_total, left_out, outcome_in, outcome_pieces, outcomes_in, pieces_from};
 
@@ -172,7 +172,7 @@ pub fn finish_graph<O: Sink, E: Sink>(
     err: &mut E,
 ) -> u8
     requires few { length states.now ≤ 512 }
-    ensures { Ends no_memory_text (graph_pieces hosts.now.list (outcomes_in built.now states.now))
+    ensures { Printing no_memory_text (graph_pieces hosts.now.list (outcomes_in built.now states.now))
         (graph_number (outcomes_in built.now states.now))
         (sinks_view O.shows E.shows out.old err.old)
         (sinks_view O.shows E.shows out.new err.new) result }

@@ -1,6 +1,6 @@
 //! The input of a command that runs jobs.
 ghost use Rattle.std.specs.Prelude.{◌≡◌, [], false, IfErr, IfOk};
-ghost use Rattle.input_read.specs.Reads.{AllRead, HasReadSome};
+ghost use Rattle.stream_print.specs.Reads.{AllRead, HasReadSome};
 ghost use Rattle.farm_machine.specs.Usable.{AreDoable};
 ghost use Rattle.stream_print.specs.Prints.{sinks_view};
 ghost use Rattle.farm_program.specs.Builds.{HasListFault, input_limit};
@@ -10,9 +10,9 @@ use crate::jobs::Ended;
 use edge_traits::{Sink, Source};
 use farm_answers::{refuse_job_list, refuse_unread, want_memory};
 use farm_types::{Bytes, Jobs};
-use input_read::{Input, read_input};
 use job_list::{JobError, JobFault, parse};
 use std::alloc::Global;
+use stream_print::{Input, read_input};
 
 /// The most bytes of an input that are read: one more than a job list may have.
 const INPUT_MAX: usize = 16_777_217;
@@ -82,9 +82,9 @@ pub fn refuse_input<O: Sink, E: Sink>(
 {
     match error {
         InputError::Jobs { line, fault } => {
-            Ended::idle(alloc, refuse_job_list(alloc, line, fault, out, err))
+            Ended::without_jobs(alloc, refuse_job_list(alloc, line, fault, out, err))
         }
-        InputError::Unread => Ended::idle(alloc, refuse_unread(out, err)),
-        InputError::Memory => Ended::idle(alloc, want_memory(out, err)),
+        InputError::Unread => Ended::without_jobs(alloc, refuse_unread(out, err)),
+        InputError::Memory => Ended::without_jobs(alloc, want_memory(out, err)),
     }
 }

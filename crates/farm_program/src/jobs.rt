@@ -1,8 +1,9 @@
 //! The jobs of one command, and what the program hands back.
-ghost use Rattle.std.specs.Prelude.{◌≡◌, ◌≤◌, [], All, IfOk, OnErr, length};
+ghost use Rattle.std.specs.Prelude.{◌≡◌, ◌≤◌, [], IfOk, OnErr};
 ghost use Rattle.edge_traits.specs.Keepers.{IsIdle};
 ghost use Rattle.farm_machine.specs.Devices.{devices};
 ghost use Rattle.farm_machine.specs.Usable.{AreDoable, IsUsable};
+ghost use Rattle.farm_program.specs.Worlds.{AreReady};
 ghost use Rattle.farm_program.specs.Builds.{JobsDone};
 
 use edge_traits::{Clock, Dialer, Keeper, Kit, Station};
@@ -24,7 +25,7 @@ pub struct Ended {
 
 impl Ended {
     /// Nothing was built.
-    pub fn idle(alloc: Global, status: u8) -> Ended
+    pub fn without_jobs(alloc: Global, status: u8) -> Ended
         ensures status { result.status ≡ status }
         ensures none { result.built ≡ [] }
     {
@@ -62,9 +63,7 @@ where
     requires jobs { AreDoable jobs.now }
     requires config { IsUsable config.now }
     requires some { 1 ≤ workers }
-    requires kits { workers ≤ length kits.old.items }
-    requires most { length kits.old.items ≤ 16 }
-    requires idle { All (λ kit. IsIdle (K.shows kit.keeper)) kits.old.items }
+    requires kits { AreReady workers (λ kit. IsIdle (K.shows kit.keeper)) kits.old.items }
     ensures done { IfOk result (λ built. JobsDone (devices D.shows S.shows K.shows C.shows D.may_give S.ran)
         config.now jobs.now workers built kits.old.items kits.new.items) }
     ensures undone { OnErr result (kits.new.items ≡ kits.old.items) }

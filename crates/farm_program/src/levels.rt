@@ -4,7 +4,8 @@ ghost use Rattle.std.specs.Prelude.{◌≡◌, ◌+◌, ◌<◌, ◌≤◌, [], 
 ghost use Rattle.edge_traits.specs.Keepers.{IsIdle};
 ghost use Rattle.edge_traits.specs.declared.kit.Kit.{Kit};
 ghost use Rattle.farm_machine.specs.Devices.{devices};
-ghost use Rattle.farm_program.specs.Levels.{AreReady, IsPlan, SameSoFar, Stands, WaveRan, level_count, picked};
+ghost use Rattle.farm_program.specs.Worlds.{AreReady};
+ghost use Rattle.farm_program.specs.Levels.{IsPlan, SameSoFar, Stands, WaveRan, level_count, picked};
 
 use crate::jobs::run_jobs;
 use crate::outcomes::{State, fates_in, set_run, set_skips};
@@ -94,13 +95,13 @@ where
     requires within { All (λ job. job < length plan.graph.now.jobs) run.now }
     requires few { length run.now ≤ 512 }
     requires long { length progress.old.states.items ≡ length plan.graph.now.jobs }
-    requires kits { AreReady (λ kit. IsIdle (K.shows kit.keeper)) kits.old.items }
+    requires kits { AreReady 1 (λ kit. IsIdle (K.shows kit.keeper)) kits.old.items }
     ensures ran { OnOk result (WaveRan (devices D.shows S.shows K.shows C.shows D.may_give S.ran)
         plan.entry.config.now plan.entry.most plan.entry.graph.now run.now progress.old.states.items progress.new.states.items
         progress.old.built.items progress.new.built.items kits.old.items kits.new.items) }
     ensures kept { OnErr result (SameSoFar progress.old.states.items progress.new.states.items
         progress.old.built.items progress.new.built.items kits.old.items kits.new.items) }
-    ensures kits { AreReady (λ kit. IsIdle (K.shows kit.keeper)) kits.new.items }
+    ensures kits { AreReady 1 (λ kit. IsIdle (K.shows kit.keeper)) kits.new.items }
 {
     if run.is_empty() {
         return Ok(());
@@ -135,7 +136,7 @@ where
     D::Link: Send,
     requires plan { IsPlan plan.graph.now plan.config.now plan.most }
     requires long { length progress.old.states.items ≡ length plan.graph.now.jobs }
-    requires kits { AreReady (λ kit. IsIdle (K.shows kit.keeper)) kits.old.items }
+    requires kits { AreReady 1 (λ kit. IsIdle (K.shows kit.keeper)) kits.old.items }
     ensures next { OnOk result ((first : List (Kit D S K C)) →
         Stands (devices D.shows S.shows K.shows C.shows D.may_give S.ran) plan.entry.config.now plan.entry.most plan.entry.graph.now level
         progress.old.states.items progress.old.built.items first kits.old.items →
@@ -144,7 +145,7 @@ where
     ensures kept { OnErr result (SameSoFar progress.old.states.items progress.new.states.items
         progress.old.built.items progress.new.built.items kits.old.items kits.new.items) }
     ensures long { length progress.new.states.items ≡ length plan.entry.graph.now.jobs }
-    ensures kits { AreReady (λ kit. IsIdle (K.shows kit.keeper)) kits.new.items }
+    ensures kits { AreReady 1 (λ kit. IsIdle (K.shows kit.keeper)) kits.new.items }
 {
     let fates = fates_in(alloc, &progress.built, &progress.states)?;
     let wave = wave(alloc, plan.graph, level, &fates)?;
@@ -173,7 +174,7 @@ pub fn run_levels<
 where
     D::Link: Send,
     requires plan { IsPlan plan.graph.now plan.config.now plan.most }
-    requires kits { AreReady (λ kit. IsIdle (K.shows kit.keeper)) kits.old.items }
+    requires kits { AreReady 1 (λ kit. IsIdle (K.shows kit.keeper)) kits.old.items }
     ensures count { IfOk result (λ levels. levels.count ≤ level_count plan.entry.graph.now.depths) }
     ensures stands { IfOk result (λ levels. Stands (devices D.shows S.shows K.shows C.shows D.may_give S.ran)
         plan.entry.config.now plan.entry.most plan.entry.graph.now levels.count

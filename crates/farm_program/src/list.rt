@@ -1,10 +1,10 @@
 //! A build of a job list.
-ghost use Rattle.std.specs.Prelude.{◌≡◌, ◌≤◌, [], false, All, length};
+ghost use Rattle.std.specs.Prelude.{◌≡◌, ◌≤◌, [], false};
 ghost use Rattle.edge_traits.specs.Keepers.{IsIdle};
 ghost use Rattle.farm_machine.specs.Devices.{devices};
 ghost use Rattle.farm_machine.specs.Usable.{AreDoable, IsUsable};
 ghost use Rattle.stream_print.specs.Prints.{sinks_view};
-ghost use Rattle.farm_program.specs.Worlds.{world};
+ghost use Rattle.farm_program.specs.Worlds.{AreReady, world};
 ghost use Rattle.farm_program.specs.Builds.{Builds, JobsEnd};
 
 use crate::input::{read_jobs, refuse_input};
@@ -40,9 +40,7 @@ where
     requires jobs { AreDoable jobs.now }
     requires config { IsUsable plan.config.now }
     requires workers { 1 ≤ plan.most }
-    requires some { 1 ≤ length kits.old.items }
-    requires most { length kits.old.items ≤ 16 }
-    requires idle { All (λ kit. IsIdle (K.shows kit.keeper)) kits.old.items }
+    requires kits { AreReady 1 (λ kit. IsIdle (K.shows kit.keeper)) kits.old.items }
     ensures { JobsEnd (devices D.shows S.shows K.shows C.shows D.may_give S.ran) plan.entry.config.now plan.entry.most jobs.now
         kits.old.items kits.new.items result.built
         (sinks_view O.shows E.shows out.old err.old)
@@ -55,7 +53,7 @@ where
             let status = finish_build(alloc, &plan.config.hosts, reports, out, err);
             Ended { status, built }
         }
-        Err(_) => Ended::idle(alloc, want_memory(out, err)),
+        Err(_) => Ended::without_jobs(alloc, want_memory(out, err)),
     }
 }
 
@@ -83,9 +81,7 @@ where
     requires config { IsUsable plan.config.now }
     requires workers { 1 ≤ plan.most }
     requires input { (R.shows input.old).ended ≡ false }
-    requires some { 1 ≤ length kits.old.items }
-    requires most { length kits.old.items ≤ 16 }
-    requires idle { All (λ kit. IsIdle (K.shows kit.keeper)) kits.old.items }
+    requires kits { AreReady 1 (λ kit. IsIdle (K.shows kit.keeper)) kits.old.items }
     ensures { Builds (devices D.shows S.shows K.shows C.shows D.may_give S.ran) plan.entry.config.now plan.entry.most
         (world R.shows O.shows E.shows input.old kits.old.items out.old err.old [])
         (world R.shows O.shows E.shows input.new kits.new.items out.new err.new result.built) result.status }

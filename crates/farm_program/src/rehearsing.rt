@@ -45,11 +45,11 @@ pub fn run_rehearsal<T: Threads + Wait + Sync, O: Sink, E: Sink>(
     let jobs = u32::from(jobs);
     let mut list = match Vec::with_capacity(alloc, 1) {
         Ok(list) => list,
-        Err(_) => return Ended::idle(alloc, want_memory(out, err)),
+        Err(_) => return Ended::without_jobs(alloc, want_memory(out, err)),
     };
     let Rehearsed { built, count } = match rehearse(rt, alloc, jobs) {
         Ok(rehearsed) => rehearsed,
-        Err(_) => return Ended::idle(alloc, want_memory(out, err)),
+        Err(_) => return Ended::without_jobs(alloc, want_memory(out, err)),
     };
     let status = tell_count(alloc, jobs, count, out, err);
     let Ok(()) = list.push(built) else {

@@ -3,7 +3,7 @@
 ghost use Rattle.std.specs.Prelude.{◌≡◌, [], ◌∷◌, length, OnOk, IfErr};
 ghost use Rattle.farm_machine.specs.declared.reports.Report.{Report};
 ghost use Rattle.stream_print.specs.Prints.{sinks_view, Printed, BothGoOn};
-ghost use Rattle.stream_print.specs.Ends.{Ends, PrintedFront};
+ghost use Rattle.stream_print.specs.Printing.{Printing, PrintedFront};
 ghost use Rattle.report_text.specs.Pieces.{command_pieces, job_pieces_at, jobs_pieces, total_piece, pieces};
 ghost use Rattle.report_text.specs.Numbers.{number};
 ghost use Rattle.farm_answers.specs.Texts.{no_memory_text};
@@ -137,7 +137,7 @@ pub fn finish_build<O: Sink, E: Sink>(
     out: &mut O,
     err: &mut E,
 ) -> u8
-    ensures { Ends no_memory_text (pieces hosts.now.list reports.now) (number reports.now)
+    ensures { Printing no_memory_text (pieces hosts.now.list reports.now) (number reports.now)
         (sinks_view O.shows E.shows out.old err.old)
         (sinks_view O.shows E.shows out.new err.new) result }
 {
@@ -158,7 +158,7 @@ pub fn finish_command<O: Sink, E: Sink>(
 ) -> u8
     requires one { length reports.now ≡ 1 }
     ensures { (report : Report) → reports.now ≡ report ∷ [] →
-        Ends no_memory_text (command_pieces hosts.now.list report.end) (number reports.now)
+        Printing no_memory_text (command_pieces hosts.now.list report.end) (number reports.now)
         (sinks_view O.shows E.shows out.old err.old)
         (sinks_view O.shows E.shows out.new err.new) result }
 {

@@ -71,10 +71,10 @@ pub fn refuse_config<O: Sink, E: Sink>(
         (sinks_view O.shows E.shows out.new err.new) result.status }
 {
     match error {
-        ConfigError::Period => Ended::idle(alloc, refuse_period(out, err)),
+        ConfigError::Period => Ended::without_jobs(alloc, refuse_period(out, err)),
         ConfigError::Hosts { at, fault } => {
-            Ended::idle(alloc, refuse_host_list(alloc, at, fault, out, err))
+            Ended::without_jobs(alloc, refuse_host_list(alloc, at, fault, out, err))
         }
-        ConfigError::Memory => Ended::idle(alloc, want_memory(out, err)),
+        ConfigError::Memory => Ended::without_jobs(alloc, want_memory(out, err)),
     }
 }

@@ -1,10 +1,11 @@
 //! A single command, run as one job.
-ghost use Rattle.std.specs.Prelude.{◌≡◌, ◌<◌, ◌≤◌, [], ◌∷◌, All, IfOk, length, map, string_bytes};
+ghost use Rattle.std.specs.Prelude.{◌≡◌, ◌<◌, [], ◌∷◌, IfOk, length, map, string_bytes};
 ghost use Rattle.edge_traits.specs.Keepers.{IsIdle};
 ghost use Rattle.farm_machine.specs.Devices.{devices};
 ghost use Rattle.farm_machine.specs.Usable.{IsUsable};
 ghost use Rattle.edge_traits.specs.Sources.{SourceView};
 ghost use Rattle.stream_print.specs.Prints.{sinks_view};
+ghost use Rattle.farm_program.specs.Worlds.{AreReady};
 ghost use Rattle.farm_program.specs.Builds.{RunsCommand};
 
 use crate::jobs::{Ended, run_jobs};
@@ -51,9 +52,7 @@ where
     D::Link: Send,
     requires config { IsUsable config.now }
     requires word { 0 < length words.now }
-    requires some { 1 ≤ length kits.old.items }
-    requires most { length kits.old.items ≤ 16 }
-    requires idle { All (λ kit. IsIdle (K.shows kit.keeper)) kits.old.items }
+    requires kits { AreReady 1 (λ kit. IsIdle (K.shows kit.keeper)) kits.old.items }
     ensures { (source : SourceView) → RunsCommand (devices D.shows S.shows K.shows C.shows D.may_give S.ran)
         config.now (map string_bytes words.now)
         (record { source = source; kits = kits.old.items; sinks = sinks_view O.shows E.shows out.old err.old; built = [] })
@@ -62,7 +61,7 @@ where
 {
     let jobs = match one_job(alloc, words) {
         Ok(jobs) => jobs,
-        Err(_) => return Ended::idle(alloc, want_memory(out, err)),
+        Err(_) => return Ended::without_jobs(alloc, want_memory(out, err)),
     };
     match run_jobs(rt, alloc, &jobs, config, kits, 1) {
         Ok(built) => {
@@ -70,6 +69,6 @@ where
             let status = finish_command(alloc, &config.hosts, reports, out, err);
             Ended { status, built }
         }
-        Err(_) => Ended::idle(alloc, want_memory(out, err)),
+        Err(_) => Ended::without_jobs(alloc, want_memory(out, err)),
     }
 }

@@ -2,23 +2,22 @@
 ghost use Rattle.std.specs.Prelude.{◌≡◌, ◌≤◌, ◌⊎◌, IsTrue, false, ℕ, List, [], map, string_bytes, length, All};
 ghost use Rattle.farm_types.specs.declared.jobs.JobConfig.{JobConfig};
 ghost use Rattle.edge_traits.specs.Keepers.{IsIdle};
-ghost use Rattle.stream_print.specs.Ends.{complaint, memory_status};
+ghost use Rattle.stream_print.specs.Printing.{complaint, memory_status};
 ghost use Rattle.farm_machine.specs.Devices.{devices};
 ghost use Rattle.job_list.specs.Jobs.{JobsOf};
 ghost use Rattle.farm_words.specs.Commands.{BadAt, IsCommand, Meaning, meaning};
 ghost use Rattle.farm_answers.specs.Texts.{bad_words_status, bad_words_text};
-ghost use Rattle.farm_program.specs.Worlds.{world, Answered};
+ghost use Rattle.farm_program.specs.Worlds.{AreReady, world, OnlyPrinted};
 ghost use Rattle.farm_program.specs.Smooth.{IsSmooth, Completed, WatchCompleted};
 ghost use Rattle.farm_words.specs.Within.{IsWithin};
-ghost use Rattle.farm_program.specs.Commands.{Answers, IsBuildBy, IsGraphBy, IsWatchBy};
+ghost use Rattle.farm_program.specs.Commands.{Does, IsBuildBy, IsGraphBy, IsWatchBy};
 ghost use Rattle.farm_program.specs.GraphBuilds.{GraphCompleted};
 ghost use Rattle.job_graph.specs.Graphs.{GraphOf};
 ghost use Rattle.job_graph.specs.declared.graph.Graph.{Graph};
 
-use crate::by_hosts::{build_by, command_by, graph_by, watch_by};
+use crate::by_hosts::{BuildCall, BuildWay, build_by, command_by};
 use crate::jobs::Ended;
 use crate::rehearsing::run_rehearsal;
-use crate::settings::Settings;
 use edge_traits::{Clock, Dialer, Keeper, Kit, Sink, Source, Station};
 use farm_answers::{answer_help, answer_hosts, answer_scan, answer_version, refuse_words};
 use farm_words::{Command, host_text, parse_command};
@@ -55,11 +54,9 @@ fn answer<
 where
     D::Link: Send,
     requires input { (R.shows input.old).ended ≡ false }
-    requires some { 1 ≤ length kits.old.items }
-    requires most { length kits.old.items ≤ 16 }
-    requires idle { All (λ kit. IsIdle (K.shows kit.keeper)) kits.old.items }
+    requires kits { AreReady 1 (λ kit. IsIdle (K.shows kit.keeper)) kits.old.items }
     requires within { IsWithin (meaning call.command) }
-    ensures { Answers (devices D.shows S.shows K.shows C.shows D.may_give S.ran)
+    ensures { Does (devices D.shows S.shows K.shows C.shows D.may_give S.ran)
         (map (λ v. (string_bytes v.0, string_bytes v.1)) call.entry.env.now)
         (world R.shows O.shows E.shows input.old kits.old.items out.old err.old [])
         (world R.shows O.shows E.shows input.new kits.new.items out.new err.new result.built)
@@ -68,26 +65,38 @@ where
     let Invocation { command, env } = call;
     match command {
         Command::Build(options) => {
-            let settings = Settings { options, env };
-            build_by(rt, alloc, settings, input, kits, out, err)
+            let call = BuildCall {
+                way: BuildWay::List,
+                options,
+                env,
+            };
+            build_by(rt, alloc, call, input, kits, out, err)
         }
         Command::Watch(options) => {
-            let settings = Settings { options, env };
-            watch_by(rt, alloc, settings, input, kits, out, err)
+            let call = BuildCall {
+                way: BuildWay::Watched,
+                options,
+                env,
+            };
+            build_by(rt, alloc, call, input, kits, out, err)
         }
         Command::Graph(options) => {
-            let settings = Settings { options, env };
-            graph_by(rt, alloc, settings, input, kits, out, err)
+            let call = BuildCall {
+                way: BuildWay::Graph,
+                options,
+                env,
+            };
+            build_by(rt, alloc, call, input, kits, out, err)
         }
         Command::Cc { words } => command_by(rt, alloc, words, env, kits, out, err),
         Command::Hosts { hosts } => {
             let text = host_text(hosts, env).as_bytes();
-            Ended::idle(alloc, answer_hosts(alloc, text, out, err))
+            Ended::without_jobs(alloc, answer_hosts(alloc, text, out, err))
         }
-        Command::Scan { words } => Ended::idle(alloc, answer_scan(alloc, words, out, err)),
+        Command::Scan { words } => Ended::without_jobs(alloc, answer_scan(alloc, words, out, err)),
         Command::Rehearse { jobs } => run_rehearsal(rt, alloc, jobs, out, err),
-        Command::Help(name) => Ended::idle(alloc, answer_help(name, out, err)),
-        Command::Version => Ended::idle(alloc, answer_version(out, err)),
+        Command::Help(name) => Ended::without_jobs(alloc, answer_help(name, out, err)),
+        Command::Version => Ended::without_jobs(alloc, answer_version(out, err)),
     }
 }
 
@@ -126,13 +135,13 @@ where
 
     // Words that are no command: the place is that of the first that doesn't fit.
     ensures bad_words { (place : ℕ) → BadAt (map string_bytes words.now) place →
-        Answered (complaint (bad_words_text place)) bad_words_status
+        OnlyPrinted (complaint (bad_words_text place)) bad_words_status
         (world R.shows O.shows E.shows input.old kits.old.items out.old err.old [])
         (world R.shows O.shows E.shows input.new kits.new.items out.new err.new result.built) result.status }
 
     // What each command does.
     ensures answers { (meant : Meaning) → IsCommand (map string_bytes words.now) meant →
-        Answers (devices D.shows S.shows K.shows C.shows D.may_give S.ran)
+        Does (devices D.shows S.shows K.shows C.shows D.may_give S.ran)
         (map (λ v. (string_bytes v.0, string_bytes v.1)) env.now)
         (world R.shows O.shows E.shows input.old kits.old.items out.old err.old [])
         (world R.shows O.shows E.shows input.new kits.new.items out.new err.new result.built) result.status meant }
@@ -180,6 +189,6 @@ where
             let call = Invocation { command, env };
             answer(rt, alloc, call, input, kits, out, err)
         }
-        Err(place) => Ended::idle(alloc, refuse_words(alloc, place, out, err)),
+        Err(place) => Ended::without_jobs(alloc, refuse_words(alloc, place, out, err)),
     }
 }

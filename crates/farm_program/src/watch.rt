@@ -1,11 +1,11 @@
 //! A build of a job list that tells how far it has come.
-ghost use Rattle.std.specs.Prelude.{◌≡◌, ◌≤◌, [], Bool, false, All, IfOk, OnErr, length};
+ghost use Rattle.std.specs.Prelude.{◌≡◌, ◌≤◌, [], Bool, false, IfOk, OnErr, length};
 ghost use Rattle.edge_traits.specs.Keepers.{IsIdle};
 ghost use Rattle.farm_machine.specs.Devices.{devices};
 ghost use Rattle.farm_machine.specs.Usable.{AreDoable, IsUsable};
 ghost use Rattle.job_driver.specs.Watching.{WatchPrinted};
 ghost use Rattle.stream_print.specs.Prints.{sinks_view};
-ghost use Rattle.farm_program.specs.Worlds.{world};
+ghost use Rattle.farm_program.specs.Worlds.{AreReady, world};
 ghost use Rattle.farm_program.specs.WatchBuilds.{AfterLines, BuildsWatched, JobsWatched, WatchEnd, Watches, watched_workers};
 
 use crate::input::{read_jobs, refuse_input};
@@ -53,9 +53,7 @@ where
     requires config { IsUsable plan.config.now }
     requires workers { 1 ≤ plan.most }
     requires lines { plan.lines ≤ 100 }
-    requires some { 2 ≤ length kits.old.items }
-    requires most { length kits.old.items ≤ 16 }
-    requires idle { All (λ kit. IsIdle (K.shows kit.keeper)) kits.old.items }
+    requires kits { AreReady 2 (λ kit. IsIdle (K.shows kit.keeper)) kits.old.items }
     ensures done { IfOk result (λ made. JobsWatched (devices D.shows S.shows K.shows C.shows D.may_give S.ran)
         plan.entry.config.now jobs.now (watched_workers plan.entry.most kits.old.items jobs.now) made.0 kits.old.items kits.new.items) }
     ensures printed { IfOk result (λ made. (told : Bool) × WatchPrinted (length jobs.now)
@@ -125,9 +123,7 @@ where
     requires config { IsUsable plan.config.now }
     requires workers { 1 ≤ plan.most }
     requires lines { plan.lines ≤ 100 }
-    requires some { 2 ≤ length kits.old.items }
-    requires most { length kits.old.items ≤ 16 }
-    requires idle { All (λ kit. IsIdle (K.shows kit.keeper)) kits.old.items }
+    requires kits { AreReady 2 (λ kit. IsIdle (K.shows kit.keeper)) kits.old.items }
     ensures { WatchEnd (devices D.shows S.shows K.shows C.shows D.may_give S.ran) plan.entry.config.now plan.entry.most plan.entry.lines
         jobs.now kits.old.items kits.new.items result.built
         (sinks_view O.shows E.shows out.old err.old)
@@ -139,7 +135,7 @@ where
             let status = finish_watched(alloc, end, &plan.config.hosts, reports, out, err);
             Ended { status, built }
         }
-        Err(_) => Ended::idle(alloc, want_memory(out, err)),
+        Err(_) => Ended::without_jobs(alloc, want_memory(out, err)),
     }
 }
 
@@ -168,9 +164,7 @@ where
     requires workers { 1 ≤ plan.most }
     requires lines { plan.lines ≤ 100 }
     requires input { (R.shows input.old).ended ≡ false }
-    requires some { 2 ≤ length kits.old.items }
-    requires most { length kits.old.items ≤ 16 }
-    requires idle { All (λ kit. IsIdle (K.shows kit.keeper)) kits.old.items }
+    requires kits { AreReady 2 (λ kit. IsIdle (K.shows kit.keeper)) kits.old.items }
     ensures { BuildsWatched (devices D.shows S.shows K.shows C.shows D.may_give S.ran) plan.entry.config.now plan.entry.most plan.entry.lines
         (world R.shows O.shows E.shows input.old kits.old.items out.old err.old [])
         (world R.shows O.shows E.shows input.new kits.new.items out.new err.new result.built) result.status }
@@ -207,9 +201,7 @@ where
     requires workers { 1 ≤ plan.most }
     requires lines { plan.lines ≤ 100 }
     requires input { (R.shows input.old).ended ≡ false }
-    requires some { 1 ≤ length kits.old.items }
-    requires most { length kits.old.items ≤ 16 }
-    requires idle { All (λ kit. IsIdle (K.shows kit.keeper)) kits.old.items }
+    requires kits { AreReady 1 (λ kit. IsIdle (K.shows kit.keeper)) kits.old.items }
     ensures { Watches (devices D.shows S.shows K.shows C.shows D.may_give S.ran) plan.entry.config.now plan.entry.most plan.entry.lines
         (world R.shows O.shows E.shows input.old kits.old.items out.old err.old [])
         (world R.shows O.shows E.shows input.new kits.new.items out.new err.new result.built) result.status }

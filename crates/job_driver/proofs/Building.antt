@@ -18,9 +18,9 @@ use Rattle.farm_cell.specs.declared.cell.Cell.{Cell}
 use Rattle.farm_cell.specs.declared.cell.Pass.{Pass}
 use Rattle.farm_cell.specs.Ends.{IsNumbered, AreAllOf, HasEachMine, AreByCallersBelow}
 use Rattle.farm_cell.specs.Passes.{limits_of, callers_of, mine_of}
-use Rattle.job_driver.specs.declared.crew.Worker.{Worker}
+use Rattle.job_driver.specs.declared.workers.Worker.{Worker}
 use Rattle.job_driver.specs.declared.run.Run.{Run}
-use Rattle.job_driver.specs.Crews.{kit_of, pass_of, desk_of, reports_on, HasRoom, IsReady, HasWorked}
+use Rattle.job_driver.specs.Workers.{kit_of, pass_of, reserve_of, reports_on, HasRoom, IsReady, HasWorked}
 use Rattle.farm_machine.specs.Devices.{Devices}
 use Rattle.job_driver.specs.Driven.{JobsRan}
 use Rattle.farm_machine.specs.Usable.{job_at}
@@ -72,9 +72,9 @@ module _ {D S K C : Type 0} {d : Devices (Kit D S K C)} {c : Cell 16 34} {jobs :
     blank =
         let one = fresh.blank k (pass_of w) (let e = length-map vs pass_of in omega (arith, e, below)) in
         ap mine_of (sym (get-map pass_of vs k w (pass_of w) below)) ∙ one.1;
-    desk =
-        let one = fresh.desks k (desk_of w) (let e = length-map vs desk_of in omega (arith, e, below)) in
-        subst (HasRoom jobs) (get-map desk_of vs k w (desk_of w) below) one;
+    reserve =
+        let one = fresh.reserves k (reserve_of w) (let e = length-map vs reserve_of in omega (arith, e, below)) in
+        subst (HasRoom jobs) (get-map reserve_of vs k w (reserve_of w) below) one;
     idle =
         let one = fresh.idle k (kit_of w) (let e = length-map vs kit_of in omega (arith, e, below)) in
         subst (λ (kit : Kit D S K C). IsIdle (d.shows kit).keeper) (get-map kit_of vs k w (kit_of w) below) one;
@@ -83,12 +83,12 @@ module _ {D S K C : Type 0} {d : Devices (Kit D S K C)} {c : Cell 16 34} {jobs :
 -- a run that was opened, and whose workers did all jobs
 pub done-of : {D S K C : Type 0} {d : Devices (Kit D S K C)} {words : List (List (List ℕ))} {config : JobConfig} {workers : ℕ}
     {run done : Run D S K C} → 1 ≤ workers → IsOpen d words config workers run
-    → done.cell ≡ run.cell → done.unused ≡ run.unused → done.passes ≡ run.passes → done.desks ≡ run.desks → done.reports ≡ run.reports
-    → length done.crew.items ≡ length run.crew.items
-    → ((k : ℕ) (w : Worker D S K C) → k < length run.crew.items
-    → HasWorked d run.cell (job_at words config) config.period (get_or run.crew.items k w) (get_or done.crew.items k w))
-    → AreDone d words config run.crew.items done
-done-of {run = run} some opened cell unused passes desks reports long each = record {
+    → done.cell ≡ run.cell → done.unused ≡ run.unused → done.passes ≡ run.passes → done.reserves ≡ run.reserves → done.reports ≡ run.reports
+    → length done.workers.items ≡ length run.workers.items
+    → ((k : ℕ) (w : Worker D S K C) → k < length run.workers.items
+    → HasWorked d run.cell (job_at words config) config.period (get_or run.workers.items k w) (get_or done.workers.items k w))
+    → AreDone d words config run.workers.items done
+done-of {run = run} some opened cell unused passes reserves reports long each = record {
   some = let m = opened.many in omega (arith, m, some);
   fresh = rw cell opened.fresh;
   slots = rw cell opened.slots;
@@ -96,18 +96,18 @@ done-of {run = run} some opened cell unused passes desks reports long each = rec
   each = rw cell each;
   room = record {
     passes = rw passes opened.room.passes;
-    desks = rw desks opened.room.desks;
+    reserves = rw reserves opened.room.reserves;
     reports = rw reports opened.room.reports;
     for_passes = rw (passes, long) opened.room.for_passes;
-    for_desks = rw (desks, long) opened.room.for_desks;
+    for_reserves = rw (reserves, long) opened.room.for_reserves;
     for_reports = rw reports opened.room.for_reports;
   };
 }
 
 module _ {D S K C : Type 0} {d : Devices (Kit D S K C)} {words : List (List (List ℕ))} {config : JobConfig} {vs : List (Worker D S K C)}
-    {run : Run D S K C} (done : AreDone d words config vs run) (ps : List Pass) (back_are : ps ≡ map pass_of run.crew.items) where
+    {run : Run D S K C} (done : AreDone d words config vs run) (ps : List Pass) (back_are : ps ≡ map pass_of run.workers.items) where
   abbrev ws : List (Worker D S K C)
-  ws = run.crew.items
+  ws = run.workers.items
 
   inside : (k : ℕ) → k < length ps → k < length vs
   inside k below = let e = ap length back_are ∙ length-map ws pass_of ∙ done.long in omega (arith, e, below)
@@ -137,7 +137,7 @@ module _ {D S K C : Type 0} {d : Devices (Kit D S K C)} {words : List (List (Lis
 
     module _ (first : Worker D S K C) where
       abbrev R : ℕ → List Report
-      R i = reports_on (get_or ws i first).desk
+      R i = reports_on (get_or ws i first).reserve
 
       abbrev V : ℕ → Kit D S K C
       V i = (get_or vs i first).kit
@@ -166,23 +166,24 @@ module _ {D S K C : Type 0} {d : Devices (Kit D S K C)} {words : List (List (Lis
       stays : (i : ℕ) → i < length vs → Stays d (V i) (N i)
       stays i below = let h = done.each i first below in record { idle = h.idle; peers = h.peers; programs = h.programs }
 
-      joins : Joins (length vs) R (flat_map reports_on (reverse (map desk_of ws)))
-      joins = joins-of reports_on (map desk_of ws) (length vs) R (length-map ws desk_of ∙ done.long)
-          (λ i desk below. ap reports_on (sym (get-map desk_of ws i first desk (let e = done.long in omega (arith, below, e)))))
+      joins : Joins (length vs) R (flat_map reports_on (reverse (map reserve_of ws)))
+      joins = joins-of reports_on (map reserve_of ws) (length vs) R (length-map ws reserve_of ∙ done.long)
+          (λ i reserve below. ap reports_on (sym (get-map reserve_of ws i first reserve (let e = done.long in omega (arith, below, e)))))
 
-      all-by : length (flat_map reports_on (reverse (map desk_of ws))) ≡ (limits_of run.cell).jobs
+      all-by : length (flat_map reports_on (reverse (map reserve_of ws))) ≡ (limits_of run.cell).jobs
       all-by = total d (limits_of run.cell) words config (length vs) R H V N done.some run.cell.valid done.slots.hosts legal others worked
-          stays (flat_map reports_on (reverse (map desk_of ws))) joins
+          stays (flat_map reports_on (reverse (map reserve_of ws))) joins
 
       ran-by : (all sorted : List Report) (last : SlotState 16) (rest new : List (Kit D S K C))
-          → all ≡ flat_map reports_on (reverse (map desk_of ws)) → IsPermutation all sorted
+          → all ≡ flat_map reports_on (reverse (map reserve_of ws)) → IsPermutation all sorted
           → IsNonDecreasingBy (λ (r : Report). r.number) sorted → last ≡ state_after (limits_of run.cell) H → new ≡ map kit_of ws ++ rest
           → JobsRan d (limits_of run.cell) (job_at words config) config.period (length vs) sorted H last (map kit_of vs ++ rest) new
       ran-by all sorted last rest new gathered moved order last_is new_is =
           let lists : length (map kit_of ws) ≡ length (map kit_of vs) = length-map ws kit_of ∙ done.long ∙ sym (length-map vs kit_of) in
           let many : length (map kit_of vs) ≡ length vs = length-map vs kit_of in
           let long = done.long in
-          ran-all d (limits_of run.cell) words config (length vs) R H V N done.some run.cell.valid done.slots.hosts legal others worked stays
+          ran-all d (limits_of run.cell) words config (length vs) R H V N done.some run.cell.valid done.slots.hosts legal others
+          worked stays
           all sorted (subst (Joins (length vs) R) (sym gathered) joins) moved order last (map kit_of vs ++ rest) new last_is
           (λ i other below. (
             get-left (map kit_of vs) rest i other (omega (arith, below, many)) ∙ get-map kit_of vs i first other below,
@@ -197,13 +198,13 @@ module _ {D S K C : Type 0} {d : Devices (Kit D S K C)} {words : List (List (Lis
           ∙ get-right (map kit_of ws) (map kit_of vs) rest place other lists (omega (arith, above, many, lists)))
 
     -- there is a report for each job
-    pub all-reported : length (flat_map reports_on (reverse (map desk_of ws))) ≡ (limits_of run.cell).jobs
-    all-reported = first-of (length (flat_map reports_on (reverse (map desk_of ws))) ≡ (limits_of run.cell).jobs) vs done.some
+    pub all-reported : length (flat_map reports_on (reverse (map reserve_of ws))) ≡ (limits_of run.cell).jobs
+    all-reported = first-of (length (flat_map reports_on (reverse (map reserve_of ws))) ≡ (limits_of run.cell).jobs) vs done.some
         (λ first. all-by first)
 
     -- and sorted they are those of a run
     pub ran-of : (all sorted : List Report) (last : SlotState 16) (rest new : List (Kit D S K C))
-        → all ≡ flat_map reports_on (reverse (map desk_of ws)) → IsPermutation all sorted
+        → all ≡ flat_map reports_on (reverse (map reserve_of ws)) → IsPermutation all sorted
         → IsNonDecreasingBy (λ (r : Report). r.number) sorted → last ≡ state_after (limits_of run.cell) H → new ≡ map kit_of ws ++ rest
         → JobsRan d (limits_of run.cell) (job_at words config) config.period (length vs) sorted H last (map kit_of vs ++ rest) new
     ran-of all sorted last rest new gathered moved order last_is new_is =

@@ -19,7 +19,7 @@ use Rattle.slot_table.specs.declared.calls.SlotReply.TheVariants.{Drawn}
 use Rattle.slot_table.specs.Step.{opening}
 use Rattle.slot_table.specs.Limits.{AreValid}
 use Rattle.slot_table.specs.History.{entry, IsLegal, state_after, outstanding, calls_by, jobs_drawn}
-use Rattle.slot_table.specs.Laws.{Agrees as SlotsAgree}
+use Rattle.slot_table.specs.Laws.{SlotsAgree}
 use Rattle.slot_table.proofs.Histories.{legal-front}
 use Rattle.slot_table.proofs.Keeps.{state-agrees}
 use Rattle.edge_traits.specs.Deeds.{exchanges_in, moments_in, DidIn, MayAll}
@@ -37,8 +37,8 @@ use Rattle.farm_machine.specs.Moments.{AreMoments}
 use Rattle.farm_machine.specs.Numbered.{no_places, added, untimed}
 use Rattle.farm_machine.specs.Own.{DoneJob, Each, DoesJobs}
 use Rattle.farm_machine.specs.Reading.{IsReadAs, AreRead}
-use Rattle.worker_laws.proofs.Drivers.{asc-legal, asc-by}
-use Rattle.worker_laws.proofs.Reported.{workers-run}
+use Rattle.farm_laws.proofs.Drivers.{asc-legal, asc-by}
+use Rattle.farm_laws.proofs.Reported.{workers-run}
 use Rattle.job_run.proofs.Lists.{moments-append}
 use Rattle.job_run.specs.Gives.{LeavesAlone}
 use Rattle.job_run.specs.Courses.{IsJobCourse}

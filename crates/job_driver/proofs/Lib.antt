@@ -2,7 +2,7 @@ pub mod Working
 pub mod Drawing
 pub mod Stepping
 pub mod Marking
-pub mod Crewing
+pub mod SettingUp
 pub mod Sorting
 pub mod Joining
 pub mod Rising

@@ -5,7 +5,7 @@ use Rattle.slot_table.specs.declared.limits.Limits.{Limits}
 use Rattle.slot_table.specs.declared.state.SlotState.{SlotState}
 use Rattle.slot_table.specs.declared.calls.CallEntry.{CallEntry}
 use Rattle.slot_table.specs.History.{state_after, outstanding, count_at, calls_by}
-use Rattle.slot_table.specs.Laws.{Agrees as SlotsAgree}
+use Rattle.slot_table.specs.Laws.{SlotsAgree}
 use Rattle.slot_table.proofs.Keeps.{state-agrees}
 use Rattle.edge_traits.specs.Deeds.{put}
 use Rattle.edge_traits.specs.Kits.{KitView}

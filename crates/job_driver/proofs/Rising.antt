@@ -13,7 +13,7 @@ use Rattle.slot_table.specs.declared.calls.SlotReply.TheVariants.{Drawn, Got, Fu
 use Rattle.slot_table.specs.History.{job_drawn, jobs_drawn}
 use Rattle.farm_machine.specs.declared.reports.Report.{Report}
 use Rattle.farm_machine.specs.Machine.{job_call}
-use Rattle.worker_laws.proofs.Drivers.{AscBy, Ascend}
+use Rattle.farm_laws.proofs.Drivers.{AscBy, Ascend}
 use Rattle.job_driver.specs.Driven.{reports_by}
 use Rattle.job_driver.proofs.Working.{numbers_of}
 

@@ -3,6 +3,6 @@ pub mod Works
 pub mod Driven
 pub mod Means
 pub mod Marks
-pub mod Crews
+pub mod Workers
 pub mod Runs
 pub mod Watching

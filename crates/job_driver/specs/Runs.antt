@@ -8,11 +8,11 @@ use Rattle.farm_machine.specs.Usable.{job_at}
 use Rattle.farm_cell.specs.declared.cell.Cell.{Cell}
 use Rattle.farm_cell.specs.Ends.{AreAllOf}
 use Rattle.farm_cell.specs.Passes.{limits_of, mine_of, seen_of}
-use Rattle.job_driver.specs.declared.crew.Worker.{Worker}
+use Rattle.job_driver.specs.declared.workers.Worker.{Worker}
 use Rattle.job_driver.specs.declared.driver.Built.{Built}
 use Rattle.job_driver.specs.declared.run.Run.{Run}
 use Rattle.job_driver.specs.Driven.{JobsRan}
-use Rattle.job_driver.specs.Crews.{kit_of, pass_of, desk_of, AreSlotsFor, HasRoom, IsReady, HasWorked}
+use Rattle.job_driver.specs.Workers.{kit_of, pass_of, reserve_of, AreSlotsFor, HasRoom, IsReady, HasWorked}
 
 -- Kits for so many workers, at least one: no more than 16 of them, and in none a put is pending.
 pub record HasKits {K : Type 0} (d : Devices K) (workers : ℕ) (kits : List K) : Type 0 where
@@ -22,27 +22,27 @@ pub record HasKits {K : Type 0} (d : Devices K) (workers : ℕ) (kits : List K) 
   pub idle : All (λ kit. IsIdle (d.shows kit).keeper) kits
 
 -- workers that have done nothing yet, one for each pass of the cell
-pub record AreFresh {D S K C : Type 0} (d : Devices (Kit D S K C)) (c : Cell 16 34) (jobs : ℕ) (crew : List (Worker D S K C)) : Type 0 where
-  pub passes : AreAllOf c (map pass_of crew)
-  pub blank : All (λ p. (seen_of p ≡ []) × (mine_of p ≡ [])) (map pass_of crew)
-  pub desks : All (λ desk. HasRoom jobs desk) (map desk_of crew)
-  pub idle : All (λ kit. IsIdle (d.shows kit).keeper) (map kit_of crew)
+pub record AreFresh {D S K C : Type 0} (d : Devices (Kit D S K C)) (c : Cell 16 34) (jobs : ℕ) (workers : List (Worker D S K C)) : Type 0 where
+  pub passes : AreAllOf c (map pass_of workers)
+  pub blank : All (λ p. (seen_of p ≡ []) × (mine_of p ≡ [])) (map pass_of workers)
+  pub reserves : All (λ reserve. HasRoom jobs reserve) (map reserve_of workers)
+  pub idle : All (λ kit. IsIdle (d.shows kit).keeper) (map kit_of workers)
 
 -- room to take the workers of a run apart, and for the reports of so many jobs
 pub record HasRoomToClose {D S K C : Type 0} (jobs : ℕ) (run : Run D S K C) : Type 0 where
   pub passes : run.passes.items ≡ []
-  pub desks : run.desks.items ≡ []
+  pub reserves : run.reserves.items ≡ []
   pub reports : run.reports.items ≡ []
-  pub for_passes : length run.crew.items ≤ vec_capacity run.passes
-  pub for_desks : length run.crew.items ≤ vec_capacity run.desks
+  pub for_passes : length run.workers.items ≤ vec_capacity run.passes
+  pub for_reserves : length run.workers.items ≤ vec_capacity run.reserves
   pub for_reports : jobs ≤ vec_capacity run.reports
 
 -- so many workers, ready to do these jobs
 pub record IsOpen {D S K C : Type 0} (d : Devices (Kit D S K C)) (jobs : List (List (List ℕ))) (config : JobConfig) (workers : ℕ)
     (run : Run D S K C) : Type 0 where
-  pub many : length run.crew.items ≡ workers
-  pub fresh : AreFresh d run.cell (length jobs) run.crew.items
-  pub ready : All (λ worker. IsReady d run.cell (length jobs) worker) run.crew.items
+  pub many : length run.workers.items ≡ workers
+  pub fresh : AreFresh d run.cell (length jobs) run.workers.items
+  pub ready : All (λ worker. IsReady d run.cell (length jobs) worker) run.workers.items
   pub slots : AreSlotsFor jobs config (limits_of run.cell)
   pub room : HasRoomToClose (length jobs) run
 
@@ -52,9 +52,9 @@ pub record AreDone {D S K C : Type 0} (d : Devices (Kit D S K C)) (jobs : List (
   pub some : 0 < length before
   pub fresh : AreFresh d run.cell (length jobs) before
   pub slots : AreSlotsFor jobs config (limits_of run.cell)
-  pub long : length run.crew.items ≡ length before
+  pub long : length run.workers.items ≡ length before
   pub each : (k : ℕ) (other : Worker D S K C) → k < length before → HasWorked d run.cell (job_at jobs config) config.period
-      (slice_index_or before k other) (slice_index_or run.crew.items k other)
+      (slice_index_or before k other) (slice_index_or run.workers.items k other)
   pub room : HasRoomToClose (length jobs) run
 
 -- they did some jobs

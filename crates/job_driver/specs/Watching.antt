@@ -20,7 +20,7 @@ use Rattle.watch_lines.specs.declared.line_end.LineEnd.{LineEnd}
 use Rattle.watch_lines.specs.declared.line_end.LineEnd.TheVariants.{Whole, SinkFault, Memory}
 use Rattle.watch_lines.specs.Lines.{last_text}
 use Rattle.watch_lines.specs.Printed.{LinePrinted, WatchLines}
-use Rattle.job_driver.specs.declared.crew.Worker.{Worker}
+use Rattle.job_driver.specs.declared.workers.Worker.{Worker}
 use Rattle.job_driver.specs.declared.marker.Marker.{Marker}
 use Rattle.job_driver.specs.declared.beside.Marked.{Marked}
 use Rattle.job_driver.specs.declared.watch.Beside.{Beside}
@@ -58,14 +58,14 @@ pub record IsFor {D S K C : Type 0} (workers : ℕ) (beside : Beside D S K C) : 
   pub markers : length beside.markers.items ≡ workers
   pub watchers : length beside.watch.watchers.items ≡ workers
   pub boards : map board_marked beside.markers.items ≡ map board_watched beside.watch.watchers.items
-  pub crew : beside.crew.items ≡ []
-  pub room : workers ≤ vec_capacity beside.crew
+  pub pairs : beside.pairs.items ≡ []
+  pub room : workers ≤ vec_capacity beside.pairs
   pub lines : beside.watch.lines < 1000
 
 -- the boards are back in their places, and still of the same watchers
 pub record AreBack {D S K C : Type 0} (beside : Beside D S K C) : Type 0 where
   pub boards : map board_marked beside.markers.items ≡ map board_watched beside.watch.watchers.items
-  pub crew : beside.crew.items ≡ []
+  pub pairs : beside.pairs.items ≡ []
 
 -- so few watchers and lines that they can be counted
 pub record CanPrint {C : Type 0} (watch : Watch C) : Type 0 where

@@ -1,15 +1,15 @@
 //! Workers, and a watcher beside them.
 ghost use Rattle.std.specs.Prelude.{◌≡◌, ◌≤◌, [], length, map, vec_capacity};
 ghost use Rattle.farm_cell.specs.Passes.{limits_of};
-ghost use Rattle.job_driver.specs.Crews.{AreSlotsFor, IsReady, HasWorked};
+ghost use Rattle.job_driver.specs.Workers.{AreSlotsFor, IsReady, HasWorked};
 ghost use Rattle.farm_machine.specs.Devices.{devices};
 ghost use Rattle.farm_machine.specs.Usable.{job_at};
 ghost use Rattle.job_driver.specs.Watching.{worker_of, marker_of, board_marked};
 
-use crate::crew::Worker;
 use crate::marker::Marker;
 use crate::run::JobPlan;
 use crate::worker::work;
+use crate::workers::Worker;
 use edge_traits::{Clock, Dialer, Keeper, Station};
 use farm_cell::{Cell, Held};
 use std::alloc::Global;
@@ -42,46 +42,46 @@ pub fn work_marked<R: Wait, D: Dialer, S: Station, K: Keeper, C: Clock>(
         plan,
         &mut held,
         &mut marked.worker.kit,
-        &mut marked.worker.desk,
+        &mut marked.worker.reserve,
         &mut marked.marker,
     );
 }
 
-/// Each worker gets a marker. The room for the crew was taken before.
+/// Each worker gets a marker. The room for the pairs was taken before.
 pub fn pair<D: Drop, S: Drop, K: Drop, C: Drop>(
     workers: &mut Vec<Worker<D, S, K, C>>,
     markers: &mut Vec<Marker>,
-    crew: &mut Vec<Marked<D, S, K, C>>,
+    pairs: &mut Vec<Marked<D, S, K, C>>,
 )
     requires markers { length markers.old.items ≡ length workers.old.items }
-    requires none { crew.old.items ≡ [] }
-    requires room { length workers.old.items ≤ vec_capacity crew.old }
-    ensures workers { (workers.new.items ≡ []) × (map worker_of crew.new.items ≡ workers.old.items) }
-    ensures markers { (markers.new.items ≡ []) × (map marker_of crew.new.items ≡ markers.old.items) }
-    ensures room { (length crew.new.items ≤ vec_capacity workers.new) × (length crew.new.items ≤ vec_capacity markers.new) }
+    requires none { pairs.old.items ≡ [] }
+    requires room { length workers.old.items ≤ vec_capacity pairs.old }
+    ensures workers { (workers.new.items ≡ []) × (map worker_of pairs.new.items ≡ workers.old.items) }
+    ensures markers { (markers.new.items ≡ []) × (map marker_of pairs.new.items ≡ markers.old.items) }
+    ensures room { (length pairs.new.items ≤ vec_capacity workers.new) × (length pairs.new.items ≤ vec_capacity markers.new) }
 {
     while let Some(worker) = workers.pop() {
         let Some(marker) = markers.pop() else {
             unreachable!()
         };
-        crew.push_reserved(Marked { worker, marker });
+        pairs.push_reserved(Marked { worker, marker });
     }
-    crew.reverse();
+    pairs.reverse();
 }
 
 /// The workers and the markers go back to their places.
 pub fn unpair<D: Drop, S: Drop, K: Drop, C: Drop>(
-    crew: &mut Vec<Marked<D, S, K, C>>,
+    pairs: &mut Vec<Marked<D, S, K, C>>,
     workers: &mut Vec<Worker<D, S, K, C>>,
     markers: &mut Vec<Marker>,
 )
     requires empty { (workers.old.items ≡ []) × (markers.old.items ≡ []) }
-    requires room { (length crew.old.items ≤ vec_capacity workers.old) × (length crew.old.items ≤ vec_capacity markers.old) }
-    ensures crew { crew.new.items ≡ [] }
-    ensures workers { workers.new.items ≡ map worker_of crew.old.items }
-    ensures markers { markers.new.items ≡ map marker_of crew.old.items }
+    requires room { (length pairs.old.items ≤ vec_capacity workers.old) × (length pairs.old.items ≤ vec_capacity markers.old) }
+    ensures pairs { pairs.new.items ≡ [] }
+    ensures workers { workers.new.items ≡ map worker_of pairs.old.items }
+    ensures markers { markers.new.items ≡ map marker_of pairs.old.items }
 {
-    while let Some(marked) = crew.pop() {
+    while let Some(marked) = pairs.pop() {
         let Marked { worker, marker } = marked;
         let Ok(()) = workers.push(worker) else {
             unreachable!()

@@ -7,8 +7,8 @@ ghost use Rattle.farm_machine.specs.Devices.{devices};
 ghost use Rattle.job_driver.specs.Driven.{JobsRan};
 ghost use Rattle.farm_machine.specs.Usable.{job_at, AreDoable, IsUsable};
 
-use crate::crew::work_all;
 use crate::run::{JobPlan, close_run, open_run};
+use crate::workers::work_all;
 use edge_traits::{Clock, Dialer, Keeper, Kit, Station};
 use farm_cell::Pass;
 use farm_machine::ReportList;
@@ -63,6 +63,6 @@ where
 {
     let plan = JobPlan { jobs, config };
     let mut run = open_run(rt, alloc, plan, kits, workers)?;
-    work_all(rt, alloc, plan, &run.cell, &mut run.crew);
+    work_all(rt, alloc, plan, &run.cell, &mut run.workers);
     Ok(close_run(rt, run, kits))
 }

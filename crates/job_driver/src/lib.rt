@@ -3,7 +3,6 @@
 
 mod beside;
 mod boards;
-mod crew;
 mod driver;
 mod laws;
 mod marker;
@@ -12,6 +11,7 @@ mod run;
 mod watch;
 mod watched;
 mod worker;
+mod workers;
 
 pub use driver::{Built, build};
 pub use laws::run_means;

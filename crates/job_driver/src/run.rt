@@ -3,12 +3,12 @@ ghost use Rattle.std.specs.Prelude.{◌≡◌, ◌+◌, ◌≤◌, ◌++◌, [],
 ghost use Rattle.farm_cell.specs.Passes.{limits_of as limits_in, seen_of};
 ghost use Rattle.farm_machine.specs.Devices.{devices};
 ghost use Rattle.farm_machine.specs.Usable.{job_at, AreDoable, IsUsable};
-ghost use Rattle.job_driver.specs.Crews.{HasRoom, kit_of};
+ghost use Rattle.job_driver.specs.Workers.{HasRoom, kit_of};
 ghost use Rattle.job_driver.specs.Driven.{JobsRan};
 ghost use Rattle.job_driver.specs.Runs.{AreDone, HasKits, HasWorkedOff, IsOpen};
 
-use crate::crew::{Desk, Worker, dismiss, gather, hire};
 use crate::driver::Built;
+use crate::workers::{Reserve, Worker, gather, set_up, take_down};
 use edge_traits::{Clock, Dialer, Keeper, Kit, Station};
 use farm_cell::{Cell, Pass};
 use farm_machine::{Report, ReportList, limits_of};
@@ -29,23 +29,23 @@ pub struct JobPlan<'a> {
 /// workers apart again and for their reports.
 pub struct Run<D, S, K, C> {
     pub cell: Cell<16, 34>,
-    pub crew: Vec<Worker<D, S, K, C>>,
+    pub workers: Vec<Worker<D, S, K, C>>,
     pub unused: Vec<Kit<D, S, K, C>>,
     pub passes: Vec<Pass>,
-    pub desks: Vec<Desk>,
+    pub reserves: Vec<Reserve>,
     pub reports: Vec<Report>,
 }
 
-// A desk for each worker.
-fn desks_for(alloc: Global, workers: usize, jobs: usize) -> Result<Vec<Desk>, AllocError>
-    ensures len { IfOk result (λ desks. length desks.items ≡ workers) }
-    ensures room { IfOk result (λ desks. All (λ desk. HasRoom jobs desk) desks.items) }
+// A reserve for each worker.
+fn reserves_for(alloc: Global, workers: usize, jobs: usize) -> Result<Vec<Reserve>, AllocError>
+    ensures len { IfOk result (λ reserves. length reserves.items ≡ workers) }
+    ensures room { IfOk result (λ reserves. All (λ reserve. HasRoom jobs reserve) reserves.items) }
 {
-    let mut desks = Vec::with_capacity(alloc, workers)?;
-    'furnishing: while desks.len() < workers {
-        desks.push(Desk::new(alloc, jobs)?)?;
+    let mut reserves = Vec::with_capacity(alloc, workers)?;
+    'filling: while reserves.len() < workers {
+        reserves.push(Reserve::new(alloc, jobs)?)?;
     }
-    Ok(desks)
+    Ok(reserves)
 }
 
 /// Takes all memory for the reports and events of these jobs, and makes so many workers, one for each of the first kits. An error says
@@ -60,7 +60,7 @@ pub fn open_run<R: Wait, D: Dialer + Drop, S: Station + Drop, K: Keeper + Drop, 
     requires kits { HasKits (devices D.shows S.shows K.shows C.shows D.may_give S.ran) workers kits.old.items }
     ensures opened { IfOk result (λ run. IsOpen (devices D.shows S.shows K.shows C.shows D.may_give S.ran)
         plan.entry.jobs.now plan.entry.config.now workers run) }
-    ensures kits { IfOk result (λ run. (kits.new.items ≡ []) × (map kit_of run.crew.items ++ run.unused.items ≡ kits.old.items)) }
+    ensures kits { IfOk result (λ run. (kits.new.items ≡ []) × (map kit_of run.workers.items ++ run.unused.items ≡ kits.old.items)) }
     ensures undone { OnErr result (kits.new.items ≡ kits.old.items) }
     ensures kept { vec_capacity kits.old ≤ vec_capacity kits.new }
 {
@@ -68,17 +68,17 @@ pub fn open_run<R: Wait, D: Dialer + Drop, S: Station + Drop, K: Keeper + Drop, 
     let jobs = plan.jobs.len();
     let limits = limits_of(&plan.config.hosts, jobs as u32);
     let reports = Vec::with_capacity(alloc, jobs)?;
-    let mut crew = Vec::with_capacity(alloc, count)?;
-    let mut desks = desks_for(alloc, count, jobs)?;
+    let mut made = Vec::with_capacity(alloc, count)?;
+    let mut reserves = reserves_for(alloc, count, jobs)?;
     let (cell, mut passes) = Cell::new(rt, alloc, limits, workers)?;
     let unused = kits.split_off(count)?;
-    hire(kits, &mut passes, &mut desks, &mut crew);
+    set_up(kits, &mut passes, &mut reserves, &mut made);
     Ok(Run {
         cell,
-        crew,
+        workers: made,
         unused,
         passes,
-        desks,
+        reserves,
         reports,
     })
 }
@@ -91,7 +91,7 @@ pub fn close_run<R: Wait, D: Dialer + Drop, S: Station + Drop, K: Keeper + Drop,
 ) -> Built
     requires done { HasWorkedOff (devices D.shows S.shows K.shows C.shows D.may_give S.ran) run }
     requires empty { kits.old.items ≡ [] }
-    requires room { length run.crew.items + length run.unused.items ≤ vec_capacity kits.old }
+    requires room { length run.workers.items + length run.unused.items ≤ vec_capacity kits.old }
     ensures ran { (jobs : _) (config : _) (before : _)
         → AreDone (devices D.shows S.shows K.shows C.shows D.may_give S.ran) jobs config before run
         → JobsRan (devices D.shows S.shows K.shows C.shows D.may_give S.ran) result.last.limits (job_at jobs config) config.period
@@ -101,18 +101,18 @@ pub fn close_run<R: Wait, D: Dialer + Drop, S: Station + Drop, K: Keeper + Drop,
 {
     let Run {
         cell,
-        crew,
+        workers,
         mut unused,
         mut passes,
-        mut desks,
+        mut reserves,
         mut reports,
     } = run;
-    dismiss(crew, kits, &mut passes, &mut desks);
+    take_down(workers, kits, &mut passes, &mut reserves);
     let Ok(()) = kits.append(&mut unused) else {
         unreachable!()
     };
     let (last, pass) = cell.close(rt, passes);
-    gather(desks, &mut reports);
+    gather(reserves, &mut reports);
     reports.sort_unstable_by_key(|report| report.number);
     Built {
         reports: ReportList::from_vec(reports),

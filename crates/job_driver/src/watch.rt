@@ -5,15 +5,15 @@ ghost use Rattle.edge_traits.specs.Told.{Grew};
 ghost use Rattle.farm_cell.specs.Passes.{limits_of};
 ghost use Rattle.farm_monitor.specs.Boards.{board_watched};
 ghost use Rattle.watch_lines.specs.Printed.{WatchLines};
-ghost use Rattle.job_driver.specs.Crews.{AreReady, AreSlotsFor, IsReady, HasWorked};
+ghost use Rattle.job_driver.specs.Workers.{AreReady, AreSlotsFor, IsReady, HasWorked};
 ghost use Rattle.farm_machine.specs.Devices.{devices};
 ghost use Rattle.farm_machine.specs.Usable.{job_at};
 ghost use Rattle.job_driver.specs.Watching.{worker_of, marker_of, board_marked, AreBack, CalledEach, CanPrint, HasPrinted, HasWatched, IsFor};
 
 use crate::beside::{Marked, pair, unpair, work_marked};
-use crate::crew::Worker;
 use crate::marker::Marker;
 use crate::run::JobPlan;
+use crate::workers::Worker;
 use edge_traits::{Clock, Dialer, Keeper, Sink, Station};
 use farm_cell::Cell;
 use farm_monitor::Watcher;
@@ -32,7 +32,7 @@ pub struct Watch<C> {
 /// What a watched build has beside its workers: what marks how far they have come, room to put both together, and who watches.
 pub struct Beside<D, S, K, C> {
     pub markers: Vec<Marker>,
-    pub crew: Vec<Marked<D, S, K, C>>,
+    pub pairs: Vec<Marked<D, S, K, C>>,
     pub watch: Watch<C>,
 }
 
@@ -54,35 +54,35 @@ impl<C: Clock> Watch<C> {
     }
 }
 
-/// Calls `f` once for each of the crew, each in a thread of its own where one can be made.
+/// Calls `f` once for each of the pairs, each in a thread of its own where one can be made.
 fn call_each<R: Threads + Sync, T: Send, F: Fn(usize, &mut T) + Sync>(
     rt: &R,
-    crew: &mut Vec<T>,
+    pairs: &mut Vec<T>,
     f: &F,
 )
-    requires some { 0 < length crew.old.items }
-    requires accepts { AcceptsEach F.Fn f.now crew.old.items }
-    ensures len { (vec_len crew.new ≡ vec_len crew.old) × (length crew.new.items ≡ length crew.old.items) }
-    ensures each { CalledEach F.Fn f.now crew.old.items crew.new.items }
+    requires some { 0 < length pairs.old.items }
+    requires accepts { AcceptsEach F.Fn f.now pairs.old.items }
+    ensures len { (vec_len pairs.new ≡ vec_len pairs.old) × (length pairs.new.items ≡ length pairs.old.items) }
+    ensures each { CalledEach F.Fn f.now pairs.old.items pairs.new.items }
 {
-    let threads = crew.len();
-    for_each_mut(rt, crew.as_mut_slice(), threads, f);
+    let threads = pairs.len();
+    for_each_mut(rt, pairs.as_mut_slice(), threads, f);
 }
 
-/// Calls `f` once for each of the crew, and prints the lines beside that, where a thread can be made for it.
+/// Calls `f` once for each of the pairs, and prints the lines beside that, where a thread can be made for it.
 fn call_beside<R: Threads + Sync, T: Send, F: Fn(usize, &mut T) + Sync, C: Clock, E: Sink>(
     rt: &R,
-    crew: &mut Vec<T>,
+    pairs: &mut Vec<T>,
     f: &F,
     watch: &mut Watch<C>,
     jobs: u32,
     err: &mut E,
 ) -> LineEnd
-    requires some { 0 < length crew.old.items }
-    requires accepts { AcceptsEach F.Fn f.now crew.old.items }
+    requires some { 0 < length pairs.old.items }
+    requires accepts { AcceptsEach F.Fn f.now pairs.old.items }
     requires can { CanPrint watch.old }
-    ensures len { (vec_len crew.new ≡ vec_len crew.old) × (length crew.new.items ≡ length crew.old.items) }
-    ensures each { ChangesEach F.Fn f.now crew.old.items crew.new.items }
+    ensures len { (vec_len pairs.new ≡ vec_len pairs.old) × (length pairs.new.items ≡ length pairs.old.items) }
+    ensures each { ChangesEach F.Fn f.now pairs.old.items pairs.new.items }
     ensures watchers { map board_watched watch.new.watchers.items ≡ map board_watched watch.old.watchers.items }
     ensures paused { Grew (C.shows watch.old.clock).moments (C.shows watch.new.clock).moments [] }
     ensures printed { WatchLines jobs (length watch.old.watchers.items) 1 watch.old.lines 0 (E.shows err.old) (E.shows err.new) result }
@@ -90,10 +90,10 @@ fn call_beside<R: Threads + Sync, T: Send, F: Fn(usize, &mut T) + Sync, C: Clock
     let (_, end) = join_mut(
         rt,
         &mut ||
-            requires { (0 < length crew.now.items) × AcceptsEach F.Fn f.now crew.now.items }
-            ensures { (vec_len crew.exit.now ≡ vec_len crew.entry.now) × (length crew.exit.now.items ≡ length crew.entry.now.items)
-                × CalledEach F.Fn f.entry.now crew.entry.now.items crew.exit.now.items }
-        { call_each(rt, crew, f) },
+            requires { (0 < length pairs.now.items) × AcceptsEach F.Fn f.now pairs.now.items }
+            ensures { (vec_len pairs.exit.now ≡ vec_len pairs.entry.now) × (length pairs.exit.now.items ≡ length pairs.entry.now.items)
+                × CalledEach F.Fn f.entry.now pairs.entry.now.items pairs.exit.now.items }
+        { call_each(rt, pairs, f) },
         &mut || watch.print(jobs, err),
     );
     end
@@ -113,27 +113,27 @@ pub fn work_and_watch<
     alloc: Global,
     plan: JobPlan<'_>,
     cell: &Cell<16, 34>,
-    crew: &mut Vec<Marked<D, S, K, C>>,
+    pairs: &mut Vec<Marked<D, S, K, C>>,
     watch: &mut Watch<L>,
     err: &mut E,
 ) -> LineEnd
 where
     D::Link: Send,
-    requires some_workers { 0 < length crew.old.items }
+    requires some_workers { 0 < length pairs.old.items }
     requires slots { AreSlotsFor plan.jobs.now plan.config.now (limits_of cell.now) }
-    requires ready { All (λ marked. IsReady (devices D.shows S.shows K.shows C.shows D.may_give S.ran) cell.now (length plan.jobs.now) (worker_of marked)) crew.old.items }
+    requires ready { All (λ marked. IsReady (devices D.shows S.shows K.shows C.shows D.may_give S.ran) cell.now (length plan.jobs.now) (worker_of marked)) pairs.old.items }
     requires can { CanPrint watch.old }
-    ensures len { (vec_len crew.new ≡ vec_len crew.old) × (length crew.new.items ≡ length crew.old.items) }
-    ensures each { (number : ℕ) (d : _) → number < length crew.old.items →
+    ensures len { (vec_len pairs.new ≡ vec_len pairs.old) × (length pairs.new.items ≡ length pairs.old.items) }
+    ensures each { (number : ℕ) (d : _) → number < length pairs.old.items →
         HasWorked (devices D.shows S.shows K.shows C.shows D.may_give S.ran) cell.now (job_at plan.entry.jobs.now plan.entry.config.now) plan.entry.config.now.period
-        (worker_of (slice_index_or crew.old.items number d)) (worker_of (slice_index_or crew.new.items number d)) }
-    ensures boards { (number : ℕ) (d : _) → number < length crew.old.items →
-        board_marked (marker_of (slice_index_or crew.new.items number d)) ≡ board_marked (marker_of (slice_index_or crew.old.items number d)) }
+        (worker_of (slice_index_or pairs.old.items number d)) (worker_of (slice_index_or pairs.new.items number d)) }
+    ensures boards { (number : ℕ) (d : _) → number < length pairs.old.items →
+        board_marked (marker_of (slice_index_or pairs.new.items number d)) ≡ board_marked (marker_of (slice_index_or pairs.old.items number d)) }
     ensures printed { HasPrinted L.shows E.shows (length plan.entry.jobs.now) watch.old watch.new err.old err.new result }
 {
     call_beside(
         rt,
-        crew,
+        pairs,
         &|_, marked| { work_marked(rt, alloc, plan, cell, marked) },
         watch,
         plan.jobs.len() as u32,
@@ -171,16 +171,16 @@ where
     ensures back { AreBack beside.new }
     ensures watched { HasWatched C.shows E.shows (length plan.entry.jobs.now) (length workers.old.items) beside.old beside.new err.old err.new result }
 {
-    pair(workers, &mut beside.markers, &mut beside.crew);
+    pair(workers, &mut beside.markers, &mut beside.pairs);
     let end = work_and_watch(
         rt,
         alloc,
         plan,
         cell,
-        &mut beside.crew,
+        &mut beside.pairs,
         &mut beside.watch,
         err,
     );
-    unpair(&mut beside.crew, workers, &mut beside.markers);
+    unpair(&mut beside.pairs, workers, &mut beside.markers);
     end
 }

@@ -62,7 +62,7 @@ where
     ensures watched { IfOk result (λ made. HasWatched C.shows E.shows (length plan.entry.jobs.now) workers beside.old beside.new err.old err.new made.1) }
 {
     let mut run = open_run(rt, alloc, plan, kits, workers)?;
-    let end = work_beside(rt, alloc, plan, &run.cell, &mut run.crew, beside, err);
+    let end = work_beside(rt, alloc, plan, &run.cell, &mut run.workers, beside, err);
     Ok((close_run(rt, run, kits), end))
 }
 
@@ -93,13 +93,13 @@ fn boards_for<R: Wait, D, S, K, C>(
 ) -> Result<(Vec<Marker>, Vec<Watcher>, Vec<Marked<D, S, K, C>>), AllocError>
     ensures markers { IfOk result (λ made. length made.0.items ≡ count) }
     ensures boards { IfOk result (λ made. map board_marked made.0.items ≡ map board_watched made.1.items) }
-    ensures crew { IfOk result (λ made. (made.2.items ≡ []) × (count ≤ vec_capacity made.2)) }
+    ensures pairs { IfOk result (λ made. (made.2.items ≡ []) × (count ≤ vec_capacity made.2)) }
 {
     let mut watchers = Vec::with_capacity(alloc, count)?;
     let mut markers = Vec::with_capacity(alloc, count)?;
     match make_boards(rt, alloc, count, &mut markers, &mut watchers) {
         Ok(()) => match Vec::with_capacity(alloc, count) {
-            Ok(crew) => Ok((markers, watchers, crew)),
+            Ok(pairs) => Ok((markers, watchers, pairs)),
             Err(e) => {
                 end_boards(rt, markers);
                 Err(e)
@@ -152,7 +152,7 @@ where
     ensures printed { IfOk result (λ watched. WatchPrinted (length jobs.now) workers lines watched.told
         (E.shows err.old) (E.shows err.new) watched.printed) }
 {
-    let (markers, watchers, crew) = boards_for(rt, alloc, workers as usize)?;
+    let (markers, watchers, pairs) = boards_for(rt, alloc, workers as usize)?;
     let Some(lender) = kits.pop() else {
         unreachable!()
     };
@@ -164,7 +164,7 @@ where
     } = lender;
     let mut beside = Beside {
         markers,
-        crew,
+        pairs,
         watch: Watch {
             watchers,
             clock,
@@ -175,7 +175,7 @@ where
     let done = build_beside(rt, alloc, plan, kits, workers, &mut beside, err);
     let Beside {
         mut markers,
-        crew,
+        pairs,
         watch,
     } = beside;
     let Watch {
@@ -183,7 +183,7 @@ where
         clock,
         lines: _,
     } = watch;
-    crew.destroy_empty();
+    pairs.destroy_empty();
     let Ok(()) = kits.push(Kit {
         dialer,
         station,

@@ -28,11 +28,11 @@ use Rattle.job_run.specs.declared.step.Asked.{Asked}
 use Rattle.job_run.specs.declared.step.Asked.TheVariants as asked
 use Rattle.job_run.specs.Strict.{IsStrict, StrictReach}
 use Rattle.job_run.specs.Stages.{IsAtKeeper, StepIs, SentIs, AskedIs, step_after}
-use Rattle.job_run.specs.Worlds.{World, WentOn, Ended}
+use Rattle.job_run.specs.Went.{Seen, WentOn, HasEnded}
 use Rattle.job_run.proofs.Composing.{cause-before, stands-by, keeps-by, unfetched, on-then, on-ended}
 
 -- what follows from a host's whole reply, by where its object is
-pub whole-step : {h : ℕ} (j : Job) {l : Limits h} {caller number : ℕ} {a b : World} {at : At} (host : ℕ) (source note : List ℕ)
+pub whole-step : {h : ℕ} (j : Job) {l : Limits h} {caller number : ℕ} {a b : Seen} {at : At} (host : ℕ) (source note : List ℕ)
     (o : Outcome) (where_is : Landing)
     (path object : List ℕ) (s : Step) → s ≡ step_after j.config host o where_is → output_name j ≡ path
     → IsLanding where_is o path object a.kit.keeper.faults b.kit.keeper
@@ -84,7 +84,7 @@ whole-step j {l = l} {caller = caller} {number = number} {a = a} {b = b} {at = a
     go landing.Nothing held = compiled (record { pending = λ well. absurd (held.0 well); idle = λ failed. held.1 })
 
 -- an exchange broke with a host that is known by another name
-pub broke-as : {h : ℕ} {j : Job} {l : Limits h} {caller number place host : ℕ} {a b : World} {at : At} (cause : Cause)
+pub broke-as : {h : ℕ} {j : Job} {l : Limits h} {caller number place host : ℕ} {a b : Seen} {at : At} (cause : Cause)
     (source note : List ℕ) (tried : List Tried)
     → place ≡ host → host < l.count → WentOn j l caller number a b at (after_broken j host cause source note tried)
     → HasEndCause (Failed (Broke host cause)) a.kit b.kit
@@ -96,8 +96,8 @@ broke-as {j = j} {l = l} {caller = caller} {number = number} {place = place} {ho
     (below, went, why)
 
 -- where memory was wanting in place of an outcome
-pub wanted-step : {h : ℕ} {j : Job} {l : Limits h} {caller number : ℕ} {a b : World} {at : At}
-    → WentOn j l caller number a b at (Over (Failed Memory)) → Ended j l caller number a b at (Failed Memory)
+pub wanted-step : {h : ℕ} {j : Job} {l : Limits h} {caller number : ℕ} {a b : Seen} {at : At}
+    → WentOn j l caller number a b at (Over (Failed Memory)) → HasEnded j l caller number a b at (Failed Memory)
 wanted-step {a = a} {b = b} went =
     record {
       to = Over (Failed Memory);
@@ -111,7 +111,7 @@ wanted-step {a = a} {b = b} went =
     }
 
 -- with fallback the job is compiled here, and else it has failed
-pub here-step : {h : ℕ} (j : Job) (l : Limits h) (caller number : ℕ) (a b : World) (at : At) (source note : List ℕ) (why : Why5)
+pub here-step : {h : ℕ} (j : Job) (l : Limits h) (caller number : ℕ) (a b : Seen) (at : At) (source note : List ℕ) (why : Why5)
     → WentOn j l caller number a b at (or_here j source note (Failed why)) → HasEndCause (Failed why) a.kit b.kit → why ≢ Fetch
     → StepIs j l caller number a b at source note (cond j.config.fallback step.Here (step.Failed why))
 here-step j l caller number a b at source note why went cause other = go j.config.fallback went
@@ -180,7 +180,7 @@ stage-next j source note tried below =
     (lt-ltb (length tried) j.config.tries below)
 
 -- with tries left it asks the next host
-pub asks-next : {h : ℕ} {j : Job} {l : Limits h} {caller number : ℕ} {a b : World} {at : At} {source note : List ℕ} (tried : List Tried)
+pub asks-next : {h : ℕ} {j : Job} {l : Limits h} {caller number : ℕ} {a b : Seen} {at : At} {source note : List ℕ} (tried : List Tried)
     → length tried < j.config.tries → WentOn j l caller number a b at (stage j source note tried)
     → WentOn j l caller number a b at (Send source note tried)
 asks-next {j = j} {l = l} {caller = caller} {number = number} {a = a} {b = b} {at = at} {source = source} {note = note} tried below went =
@@ -193,7 +193,7 @@ stage-last j source note tried above =
     (le-ltb (length tried) j.config.tries above)
 
 -- one part after another
-pub step-then : {h : ℕ} {j : Job} {l l' : Limits h} {caller caller' number : ℕ} {a b : World} (c : World) {at mid : At}
+pub step-then : {h : ℕ} {j : Job} {l l' : Limits h} {caller caller' number : ℕ} {a b : Seen} (c : Seen) {at mid : At}
     (source note : List ℕ) (s : Step)
     → l' ≡ l → caller' ≡ caller → WentOn j l caller number a b at mid → StepIs j l' caller' number b c mid source note s
     → StepIs j l caller number a c at source note s
@@ -202,7 +202,7 @@ step-then c source note (step.Compiled by o) same_limits same_caller first last 
     (last.0, on-then same_limits same_caller first last.1, last.2)
 step-then c source note (step.Failed why) same_limits same_caller first last = on-ended same_limits same_caller first last
 
-pub asked-then : {h : ℕ} {j : Job} {l l' : Limits h} {caller caller' n number : ℕ} {a b : World} (c : World) {at mid : At}
+pub asked-then : {h : ℕ} {j : Job} {l l' : Limits h} {caller caller' n number : ℕ} {a b : Seen} (c : Seen) {at mid : At}
     (source note : List ℕ) (tried : List Tried) (r : Asked)
     → l' ≡ l → caller' ≡ caller → n ≡ number → WentOn j l caller number a b at mid → AskedIs j l' caller' n b c mid source note tried r
     → AskedIs j l caller number a c at source note tried r
@@ -219,12 +219,12 @@ asked-then {h = h} {j = j} {l = l} {l' = l'} {caller = caller} {caller' = caller
       cause-before a.kit b.kit c.kit (Failed (Broke host cause)) first.went.later broke.2,
     )
 
-pub arrive : {h : ℕ} {j : Job} {l : Limits h} {caller number : ℕ} {a b : World} {at to other : At} → to ≡ other
+pub arrive : {h : ℕ} {j : Job} {l : Limits h} {caller number : ℕ} {a b : Seen} {at to other : At} → to ≡ other
     → WentOn j l caller number a b at to → WentOn j l caller number a b at other
 arrive {j = j} {l = l} {caller = caller} {number = number} {a = a} {b = b} {at = at} {to = to} {other = other} same went =
     subst (λ (t : At). WentOn j l caller number a b at t) same went
 
-pub here-as : {h : ℕ} {j : Job} {l : Limits h} {caller number : ℕ} {a b : World} {at : At} (source note : List ℕ) (s : Step)
+pub here-as : {h : ℕ} {j : Job} {l : Limits h} {caller number : ℕ} {a b : Seen} {at : At} (source note : List ℕ) (s : Step)
     (last why : Why5)
     → s ≡ cond j.config.fallback step.Here (step.Failed last) → last ≡ why
     → WentOn j l caller number a b at (or_here j source note (Failed why))
@@ -273,7 +273,7 @@ pub tried-more : (host : ℕ) (cause : Cause) (tried : List Tried) (made : ℕ) 
 tried-more host cause tried made is = sym (plus-one (length tried)) ∙ ap (λ (n : ℕ). n + 1) is
 
 -- after a request within the limits
-pub sent-step : {h : ℕ} (j : Job) (l : Limits h) (caller number : ℕ) (a b : World) (source note : List ℕ) (s : Step)
+pub sent-step : {h : ℕ} (j : Job) (l : Limits h) (caller number : ℕ) (a b : Seen) (source note : List ℕ) (s : Step)
     → StepIs j l caller number a b (Send source note []) source note s → SentIs j l caller number a b source note s
 sent-step j l caller number a b source note step.Here went = (Locally source note, inl refl, went)
 sent-step j l caller number a b source note (step.Compiled by o) went = went

@@ -30,7 +30,7 @@ use Rattle.farm_machine.specs.Own.{Serves}
 use Rattle.job_run.specs.Failures.{fetch_failure}
 use Rattle.job_run.specs.Strict.{StrictReach}
 use Rattle.job_run.specs.Stands.{KeepsStill, KeeperStands, FetchEnds}
-use Rattle.job_run.specs.Worlds.{World, HasTaken, Went, WentOn, Ended}
+use Rattle.job_run.specs.Went.{Seen, HasTaken, Went, WentOn, HasEnded}
 use Rattle.job_run.proofs.Lists.{slots-append, deeds-append, untimed-append, slots-untimed, advanced-append, numbered-append, ran-append}
 use Rattle.job_run.proofs.Lists.{ran-along, may-append, may-along, moments-append, reach-append, serves-append, exchanges-append}
 use Rattle.job_run.proofs.Lists.{moments_in-append, leaves-append, exchangeless-both}
@@ -143,7 +143,7 @@ none-rose s = record { faults = refl; overruns = refl }
 none-rose-then : (a b c : StationView) → NoneRose a b → NoneRose b c → NoneRose a c
 none-rose-then a b c first second = record { faults = second.faults ∙ first.faults; overruns = second.overruns ∙ first.overruns }
 
-pub went-on : {h : ℕ} {j : Job} {l : Limits h} {caller number : ℕ} {a b : World} {at to : At} → (went : Went j l caller number a b at to)
+pub went-on : {h : ℕ} {j : Job} {l : Limits h} {caller number : ℕ} {a b : Seen} {at to : At} → (went : Went j l caller number a b at to)
     → NoneRose a.kit.station b.kit.station → KeepsStill went.acts a.kit.keeper b.kit.keeper → WentOn j l caller number a b at to
 went-on went none keeper = record { went = went; station = none; keeper = keeper }
 
@@ -246,7 +246,7 @@ fetch-before name xs ys a b c (Failed NoHost) later first last = tt
 fetch-before name xs ys a b c (Failed Memory) later first last = tt
 
 -- One part after another: by the limits and the caller that the first has, which stayed the same.
-went-then : {h : ℕ} {j : Job} {l l' : Limits h} {caller caller' number : ℕ} {a b c : World} {at mid to : At}
+went-then : {h : ℕ} {j : Job} {l l' : Limits h} {caller caller' number : ℕ} {a b c : Seen} {at mid to : At}
     → l' ≡ l → caller' ≡ caller → Went j l caller number a b at mid → Went j l' caller' number b c mid to → Went j l caller number a c at to
 went-then {h = h} {j = j} {l = l} {l' = l'} {caller = caller} {caller' = caller'} {number = number} {a = a} {b = b} {c = c} {at = at}
     {mid = mid} {to = to} same_limits same_caller first second = record {
@@ -298,7 +298,7 @@ went-then {h = h} {j = j} {l = l} {l' = l'} {caller = caller} {caller' = caller'
       };
     }
 
-pub on-then : {h : ℕ} {j : Job} {l l' : Limits h} {caller caller' number : ℕ} {a b c : World} {at mid to : At}
+pub on-then : {h : ℕ} {j : Job} {l l' : Limits h} {caller caller' number : ℕ} {a b c : Seen} {at mid to : At}
     → l' ≡ l → caller' ≡ caller → WentOn j l caller number a b at mid → WentOn j l' caller' number b c mid to
     → WentOn j l caller number a c at to
 unfolding went-then
@@ -309,9 +309,9 @@ on-then {j = j} {l = l} {l' = l'} {caller = caller} {caller' = caller'} {number 
       keeper = still-then first.went.acts second.went.acts a.kit.keeper b.kit.keeper c.kit.keeper first.keeper second.keeper;
     }
 
-pub on-ended : {h : ℕ} {j : Job} {l l' : Limits h} {caller caller' number : ℕ} {a b c : World} {at mid : At} {end : End}
-    → l' ≡ l → caller' ≡ caller → WentOn j l caller number a b at mid → Ended j l' caller' number b c mid end
-    → Ended j l caller number a c at end
+pub on-ended : {h : ℕ} {j : Job} {l l' : Limits h} {caller caller' number : ℕ} {a b c : Seen} {at mid : At} {end : End}
+    → l' ≡ l → caller' ≡ caller → WentOn j l caller number a b at mid → HasEnded j l' caller' number b c mid end
+    → HasEnded j l caller number a c at end
 unfolding went-then
 on-ended {j = j} {l = l} {l' = l'} {caller = caller} {caller' = caller'} {number = number} {a = a} {b = b} {c = c} {at = at} {mid = mid}
     {end = end} same_limits same_caller first last = record {

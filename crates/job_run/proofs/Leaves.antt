@@ -34,7 +34,7 @@ use Rattle.farm_machine.specs.Own.{Serves}
 use Rattle.job_run.specs.Gives.{IsUnhurt, LeavesAlone}
 use Rattle.job_run.specs.Strict.{IsStrict, StrictReach}
 use Rattle.job_run.specs.Waits.{borrowed}
-use Rattle.job_run.specs.Worlds.{World, HasTaken, Went, WentOn}
+use Rattle.job_run.specs.Went.{Seen, HasTaken, Went, WentOn}
 use Rattle.job_run.proofs.Lists.{some-entry, numbered-append, advanced-append, moments-append, serves-append}
 
 -- these acts were written down
@@ -138,7 +138,7 @@ pub record IsPart {h : ℕ} (j : Job) (l : Limits h) (caller number : ℕ) (prog
   pub ran : AllRan programs acts
 
 -- with what devices, slots and journal show of these acts
-part-went : {h : ℕ} {l : Limits h} {j : Job} {caller number : ℕ} {a b : World} {at to : At} (acts : List Act) (calls : List CallEntry)
+part-went : {h : ℕ} {l : Limits h} {j : Job} {caller number : ℕ} {a b : Seen} {at to : At} (acts : List Act) (calls : List CallEntry)
     → IsPart j l caller number b.programs at to acts calls → DidIn a.kit b.kit (deeds_of acts) → KitLater a.kit b.kit
     → (IsTrue b.kit.dialer.exchanges.known → MayAll b.peers (exchanges_in (deeds_of acts))) → SameRelation a.peers b.peers
     → SameRelation3 a.programs b.programs → Noted a.events a.places acts b.events b.places → b.mine ≡ a.mine ++ calls
@@ -176,7 +176,7 @@ local-moments period caller number refused =
     (moments-borrowed period caller number refused) ([], [], refl, refl, refl)
 
 -- a local slot was taken, one run was made in it, and it was given back
-pub local-ran : {h : ℕ} {l : Limits h} {j : Job} {caller number : ℕ} (refused : ℕ) {a b : World} {at : At} (c d : At) {to : At} (x : Run)
+pub local-ran : {h : ℕ} {l : Limits h} {j : Job} {caller number : ℕ} (refused : ℕ) {a b : Seen} {at : At} (c d : At) {to : At} (x : Run)
     → DidIn a.kit b.kit (ran x ∷ []) → KitLater a.kit b.kit → b.programs x.words x.input x.ran → SameRelation a.peers b.peers
     → SameRelation3 a.programs b.programs
     → Noted a.events a.places (Met TakesLocal ∷ Did (ran x) ∷ Met GivesLocal ∷ []) b.events b.places
@@ -197,7 +197,7 @@ local-ran {l = l} {j = j} {caller = caller} {number = number} refused c d {to = 
     did later (λ known. tt) same_peers same_programs noted mine
 
 -- a local slot was taken, no run could be made, and it was given back
-pub local-not-run : {h : ℕ} {l : Limits h} {j : Job} {caller number : ℕ} (refused : ℕ) {a b : World} {at : At} (c : At) {to : At}
+pub local-not-run : {h : ℕ} {l : Limits h} {j : Job} {caller number : ℕ} (refused : ℕ) {a b : Seen} {at : At} (c : At) {to : At}
     → DidIn a.kit b.kit [] → KitLater a.kit b.kit → SameRelation a.peers b.peers → SameRelation3 a.programs b.programs
     → Noted a.events a.places (Met TakesLocal ∷ Met GivesLocal ∷ []) b.events b.places
     → b.mine ≡ a.mine ++ (borrowed caller number refused ++ entry caller (GiveLocal number) Given ∷ [])
@@ -216,7 +216,7 @@ local-not-run {l = l} {j = j} {caller = caller} {number = number} refused c {to 
     did later (λ known. tt) same_peers same_programs noted mine
 
 -- one run was made in a slot of a host, which was given back
-pub lent-ran : {h : ℕ} {l : Limits h} {j : Job} {caller number : ℕ} (host : ℕ) {a b : World} {at : At} (c : At) {to : At} (x : Run)
+pub lent-ran : {h : ℕ} {l : Limits h} {j : Job} {caller number : ℕ} (host : ℕ) {a b : Seen} {at : At} (c : At) {to : At} (x : Run)
     → DidIn a.kit b.kit (ran x ∷ []) → KitLater a.kit b.kit → b.programs x.words x.input x.ran → SameRelation a.peers b.peers
     → SameRelation3 a.programs b.programs
     → Noted a.events a.places (Did (ran x) ∷ Met (Gives host) ∷ []) b.events b.places
@@ -236,7 +236,7 @@ lent-ran {caller = caller} {number = number} host c {to = to} x did later may sa
     did later (λ known. tt) same_peers same_programs noted mine
 
 -- a slot of a host was given back
-pub given-back : {h : ℕ} {l : Limits h} {j : Job} {caller number : ℕ} (host : ℕ) {a b : World} {at to : At}
+pub given-back : {h : ℕ} {l : Limits h} {j : Job} {caller number : ℕ} (host : ℕ) {a b : Seen} {at to : At}
     → DidIn a.kit b.kit [] → KitLater a.kit b.kit → SameRelation a.peers b.peers → SameRelation3 a.programs b.programs
     → Noted a.events a.places (Met (Gives host) ∷ []) b.events b.places
     → b.mine ≡ a.mine ++ entry caller (Give host number) Given ∷ []
@@ -254,7 +254,7 @@ given-back {caller = caller} {number = number} host {to = to} did later same_pee
     did later (λ known. tt) same_peers same_programs noted mine
 
 -- one exchange was made in a slot of a host, which was given back
-pub exchanged-given : {h : ℕ} {l : Limits h} {j : Job} {caller number : ℕ} (host : ℕ) {a b : World} {at : At} (c : At) {to : At}
+pub exchanged-given : {h : ℕ} {l : Limits h} {j : Job} {caller number : ℕ} (host : ℕ) {a b : Seen} {at : At} (c : At) {to : At}
     (x : Exchange)
     → DidIn a.kit b.kit (exchanged x ∷ []) → KitLater a.kit b.kit
     → (IsTrue b.kit.dialer.exchanges.known → x.dialed ≡ true → b.peers x.sent x.given) → SameRelation a.peers b.peers
@@ -281,7 +281,7 @@ exchanged-given {caller = caller} {number = number} host c {to = to} x did later
     }
 
 -- one exchange was made in a slot of a host, which was given back, and the host is left alone from a moment that the clock gave
-pub exchanged-alone : {h : ℕ} {l : Limits h} {j : Job} {caller number : ℕ} (host moment : ℕ) {a b : World} {at : At} (c : At) {to : At}
+pub exchanged-alone : {h : ℕ} {l : Limits h} {j : Job} {caller number : ℕ} (host moment : ℕ) {a b : Seen} {at : At} (c : At) {to : At}
     (x : Exchange)
     → moment < 2 ^ 64
     → DidIn a.kit b.kit (exchanged x ∷ timed moment ∷ []) → KitLater a.kit b.kit
@@ -329,7 +329,7 @@ deed-part l j caller number peers programs at to (put x) may next strict =
 deed-part l j caller number peers programs at to (exchanged x) may next strict = absurd may
 deed-part l j caller number peers programs at to (timed moment) may next strict = absurd may
 
-pub only-deed : {h : ℕ} {l : Limits h} {j : Job} {caller number : ℕ} {a b : World} {at to : At} (deed : Deed)
+pub only-deed : {h : ℕ} {l : Limits h} {j : Job} {caller number : ℕ} {a b : Seen} {at to : At} (deed : Deed)
     → DidIn a.kit b.kit (deed ∷ []) → KitLater a.kit b.kit → MayDo b.programs deed → SameRelation a.peers b.peers
     → SameRelation3 a.programs b.programs
     → Noted a.events a.places (Did deed ∷ []) b.events b.places → b.mine ≡ a.mine → Next j at (Did deed) to → IsStrict (Did deed) at to
@@ -340,7 +340,7 @@ only-deed {l = l} {j = j} {caller = caller} {number = number} {a = a} {b = b} {a
     part-went (Did deed ∷ []) [] part.0 did later (λ known. part.1) same_peers same_programs noted (mine ∙ sym (append-nil a.mine))
 
 -- nothing that is an act
-pub no-act : {h : ℕ} {l : Limits h} {j : Job} {caller number : ℕ} {a b : World} {at : At}
+pub no-act : {h : ℕ} {l : Limits h} {j : Job} {caller number : ℕ} {a b : Seen} {at : At}
     → DidIn a.kit b.kit [] → KitLater a.kit b.kit → SameRelation a.peers b.peers → SameRelation3 a.programs b.programs
     → Noted a.events a.places [] b.events b.places → b.mine ≡ a.mine
     → Went j l caller number a b at at

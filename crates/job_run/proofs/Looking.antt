@@ -34,7 +34,7 @@ use Rattle.job_run.specs.Gives.{LeavesAlone}
 use Rattle.job_run.specs.Strict.{StrictReach}
 use Rattle.job_run.specs.Stages.{HasUntried}
 use Rattle.job_run.specs.Waits.{asked}
-use Rattle.job_run.specs.Worlds.{World, HasTaken, WentOn}
+use Rattle.job_run.specs.Went.{Seen, HasTaken, WentOn}
 use Rattle.job_run.proofs.Strictness.{strict-send}
 use Rattle.job_run.proofs.Leaves.{Noted}
 
@@ -161,7 +161,7 @@ moments-asked period caller number mask (m ∷ refused) now reply =
 
 -- a take that was answered
 pub went-asked : {h : ℕ} {l : Limits h} {j : Job} {caller number : ℕ} {mask : Mask} (refused : List ℕ) (now : ℕ) (reply : SlotReply)
-    (x : SlotEvent) {a b : World} {source note : List ℕ} {tried : List Tried} {to : At}
+    (x : SlotEvent) {a b : Seen} {source note : List ℕ} {tried : List Tried} {to : At}
     → IsWaitedFor HostSlot x → job_call (Take number mask now) reply ≡ Adds number (Some mask) x
     → b.kit.dialer ≡ a.kit.dialer → b.kit.station ≡ a.kit.station → b.kit.keeper ≡ a.kit.keeper
     → Grew a.kit.clock.moments b.kit.clock.moments (refused ++ now ∷ [])

@@ -14,7 +14,7 @@ use Rattle.slot_table.proofs.Holdings.{holding_eq-refl}
 use Rattle.edge_traits.specs.Told.{Told, Grew}
 use Rattle.edge_traits.proofs.ToldLemmas.{Grew-join}
 use Rattle.job_run.specs.Waits.{refused_local, borrowed, refused_take, asked}
-use Rattle.job_run.specs.Worlds.{HasSpare, Spent}
+use Rattle.job_run.specs.Went.{HasSpare, Spent}
 
 -- what one more call leaves outstanding
 pub outstanding-more : (es es' : List CallEntry) (e : CallEntry) → es' ≡ es ++ e ∷ []

@@ -16,7 +16,7 @@ use Rattle.farm_machine.specs.Course.{At, Start, LentInPlace, RanInPlace, Send, 
 use Rattle.farm_machine.specs.Course.{Over, outcome_of, after_preprocessor, or_here, after_broken, after_whole, Tried, is_tried}
 use Rattle.farm_machine.specs.Course.{tried_too, no_host, Next}
 use Rattle.job_run.specs.Strict.{StrictReach}
-use Rattle.job_run.specs.Worlds.{HasTaken}
+use Rattle.job_run.specs.Went.{HasTaken}
 
 or-assoc : (a b c : Bool) → ((a || b) || c) ≡ (a || (b || c))
 or-assoc true b c = refl

@@ -1,6 +1,6 @@
 pub mod Failures
 pub mod JobRuns
-pub mod Worlds
+pub mod Went
 pub mod Waits
 pub mod Gives
 pub mod Strict

@@ -18,10 +18,10 @@ use Rattle.farm_machine.specs.Devices.{Devices}
 use Rattle.farm_machine.specs.Jobs.{Job, job_of, host_at}
 use Rattle.job_run.specs.declared.journal.Journal.{Journal}
 use Rattle.job_run.specs.declared.task.Task.{Task}
-use Rattle.job_run.specs.Worlds.{World, world, HasSpare, Spent}
+use Rattle.job_run.specs.Went.{Seen, seen_as, HasSpare, Spent}
 
-abbrev pub seen : {D S K C : Type 0} → Devices (Kit D S K C) → Kit D S K C → List CallEntry → Journal → World
-seen d kit mine journal = world (d.shows kit) (d.peers kit) (d.programs kit) mine journal.events.items journal.places
+abbrev pub seen : {D S K C : Type 0} → Devices (Kit D S K C) → Kit D S K C → List CallEntry → Journal → Seen
+seen d kit mine journal = seen_as (d.shows kit) (d.peers kit) (d.programs kit) mine journal.events.items journal.places
 
 abbrev pub job_in : Task → Job
 job_in task = job_of task.words.now task.config.now

@@ -27,12 +27,12 @@ use Rattle.job_run.specs.declared.step.Asked.TheVariants as asked
 use Rattle.job_run.specs.declared.step.Step.{Step}
 use Rattle.job_run.specs.declared.step.Step.TheVariants as step
 use Rattle.job_run.specs.Failures.{fetch_failure}
-use Rattle.job_run.specs.Worlds.{World, WentOn, Ended}
+use Rattle.job_run.specs.Went.{Seen, WentOn, HasEnded}
 
 -- the source is there, or the job has its end
-abbrev pub PreparedIs : {h : ℕ} → Job → Limits h → ℕ → ℕ → World → World → Prepared → Type 0
+abbrev pub PreparedIs : {h : ℕ} → Job → Limits h → ℕ → ℕ → Seen → Seen → Prepared → Type 0
 PreparedIs j l caller number old new (prepared.Ready source note) = WentOn j l caller number old new Start (Send source note [])
-PreparedIs j l caller number old new (prepared.Over end) = Ended j l caller number old new Start end
+PreparedIs j l caller number old new (prepared.Over end) = HasEnded j l caller number old new Start end
 
 -- the whole file is there, within the bound, and no note; or the job has failed by the fault of a fetch within the bound
 abbrev pub FetchedIs : List ℕ → ℕ → KeeperView → KeeperView → Prepared → Type 0
@@ -45,9 +45,9 @@ abbrev pub IsForHere : Job → List ℕ → List ℕ → At → Type 0
 IsForHere j source note at = (at ≡ Locally source note) ⊎ ((¬ (CanRequest j source)) × (at ≡ Send source note []))
 
 -- a compile here left this, or the job has failed
-abbrev pub LocalIs : {h : ℕ} → Job → Limits h → ℕ → ℕ → World → World → At → List ℕ → Result Outcome Why5 → Type 0
+abbrev pub LocalIs : {h : ℕ} → Job → Limits h → ℕ → ℕ → Seen → Seen → At → List ℕ → Result Outcome Why5 → Type 0
 LocalIs j l caller number old new at note (Ok o) = WentOn j l caller number old new at (Finish Here note o)
-LocalIs j l caller number old new at note (Err why) = Ended j l caller number old new at (Failed why)
+LocalIs j l caller number old new at note (Err why) = HasEnded j l caller number old new at (Failed why)
 
 -- Where the object of a host's whole reply is: of status 0 a put of it is pending under this name, and of another none is.
 pub record IsAtKeeper (o : Outcome) (path object : List ℕ) (keeper : KeeperView) : Type 0 where
@@ -76,12 +76,12 @@ compiled_at (Remote host) note o =
 compiled_at by note o = Finish by note o
 
 -- what the job does next
-abbrev pub StepIs : {h : ℕ} → Job → Limits h → ℕ → ℕ → World → World → At → List ℕ → List ℕ → Step → Type 0
+abbrev pub StepIs : {h : ℕ} → Job → Limits h → ℕ → ℕ → Seen → Seen → At → List ℕ → List ℕ → Step → Type 0
 StepIs j l caller number old new at source note step.Here = WentOn j l caller number old new at (Locally source note)
 StepIs j l caller number old new at source note (step.Compiled by o) =
     (object : List ℕ) × WentOn j l caller number old new at (compiled_at by note (with_object o object)) × HasObject by o
     (output_name j) object new.kit.keeper
-StepIs j l caller number old new at source note (step.Failed why) = Ended j l caller number old new at (Failed why)
+StepIs j l caller number old new at source note (step.Failed why) = HasEnded j l caller number old new at (Failed why)
 
 -- no put is pending but that of a compile
 abbrev pub StepIdle : Step → KeeperView → Type 0
@@ -89,13 +89,13 @@ StepIdle (step.Compiled by o) keeper = Unit {0}
 StepIdle other keeper = IsIdle keeper
 
 -- the same of a source that stands to be sent, where a request past the limits is for here
-abbrev pub SentIs : {h : ℕ} → Job → Limits h → ℕ → ℕ → World → World → List ℕ → List ℕ → Step → Type 0
+abbrev pub SentIs : {h : ℕ} → Job → Limits h → ℕ → ℕ → Seen → Seen → List ℕ → List ℕ → Step → Type 0
 SentIs j l caller number old new source note step.Here =
     (at : At) × IsForHere j source note at × WentOn j l caller number old new (Send source note []) at
 SentIs j l caller number old new source note (step.Compiled by o) =
     (object : List ℕ) × WentOn j l caller number old new (Send source note []) (compiled_at by note (with_object o object))
     × HasObject by o (output_name j) object new.kit.keeper
-SentIs j l caller number old new source note (step.Failed why) = Ended j l caller number old new (Send source note []) (Failed why)
+SentIs j l caller number old new source note (step.Failed why) = HasEnded j l caller number old new (Send source note []) (Failed why)
 
 -- what follows from a host's whole reply, by where its object is
 abbrev pub step_after : JobConfig → ℕ → Outcome → Landing → Step
@@ -108,7 +108,7 @@ abbrev pub HasUntried : {h : ℕ} → Limits h → Mask → List Tried → Type 
 HasUntried l mask tried = (i : ℕ) → in_mask mask i ≡ (nat_lt i l.count && not (is_tried i tried))
 
 -- what came of one try, from where the job stood: all hosts that are left are down; the job goes on; or the exchange broke
-abbrev pub AskedIs : {h : ℕ} → Job → Limits h → ℕ → ℕ → World → World → At → List ℕ → List ℕ → List Tried → Asked → Type 0
+abbrev pub AskedIs : {h : ℕ} → Job → Limits h → ℕ → ℕ → Seen → Seen → At → List ℕ → List ℕ → List Tried → Asked → Type 0
 AskedIs j l caller number old new at source note tried asked.Down =
     WentOn j l caller number old new at (or_here j source note (Failed (no_host tried)))
 AskedIs j l caller number old new at source note tried (asked.Over next) = StepIs j l caller number old new at source note next
@@ -121,8 +121,8 @@ AskedIdle (asked.Over next) keeper = StepIdle next keeper
 AskedIdle other keeper = IsIdle keeper
 
 -- an outcome that is the job's, or the job has failed
-abbrev pub CompiledIs : {h : ℕ} → Job → Limits h → ℕ → ℕ → World → World → At → List ℕ → Result (By × Outcome) Why5 → Type 0
+abbrev pub CompiledIs : {h : ℕ} → Job → Limits h → ℕ → ℕ → Seen → Seen → At → List ℕ → Result (By × Outcome) Why5 → Type 0
 CompiledIs j l caller number old new at note (Ok made) =
     (object : List ℕ) × WentOn j l caller number old new at (compiled_at made.0 note (with_object made.1 object))
     × HasObject made.0 made.1 (output_name j) object new.kit.keeper
-CompiledIs j l caller number old new at note (Err why) = Ended j l caller number old new at (Failed why)
+CompiledIs j l caller number old new at note (Err why) = HasEnded j l caller number old new at (Failed why)

@@ -11,7 +11,7 @@ ghost use Rattle.farm_machine.specs.Devices.{devices};
 ghost use Rattle.reply_stream.specs.Objects.{with_object};
 ghost use Rattle.job_run.specs.Stages.{compiled_at, HasObject, CanDeliver, HasPut};
 ghost use Rattle.job_run.specs.Seen.{seen, job_in};
-ghost use Rattle.job_run.specs.Worlds.{Ended};
+ghost use Rattle.job_run.specs.Went.{HasEnded};
 
 use crate::journal::Journal;
 use crate::step::why_not_put;
@@ -73,7 +73,7 @@ pub(crate) fn deliver<D: Dialer, S: Station, K: Keeper, C: Clock>(
     ensures idle { IsIdle (K.shows kit.new.keeper) }
     ensures ended { (h : ℕ) (l : Limits h) (caller number : ℕ) (mine : List CallEntry) (object : List ℕ) →
         HasObject by outcome task.now.output.now object (K.shows kit.old.keeper) →
-        Ended (job_in task.now) l caller number
+        HasEnded (job_in task.now) l caller number
         (seen (devices D.shows S.shows K.shows C.shows D.may_give S.ran) kit.old mine journal.old)
         (seen (devices D.shows S.shows K.shows C.shows D.may_give S.ran) kit.new mine journal.new)
         (compiled_at by note (with_object outcome object)) result }

@@ -12,7 +12,7 @@ ghost use Rattle.job_run.specs.Events.{local_events, compile_events, sent_events
 ghost use Rattle.job_run.specs.JobRuns.{JobRan, CanRun, CanBegin, HasReturned};
 ghost use Rattle.job_run.specs.Seen.{seen, job_in, IsFree, StaysFree, HasSource};
 ghost use Rattle.job_run.specs.Stages.{CompiledIs};
-ghost use Rattle.job_run.specs.Worlds.{Ended};
+ghost use Rattle.job_run.specs.Went.{HasEnded};
 
 use crate::EventRoom;
 use crate::ending::deliver;
@@ -50,7 +50,7 @@ fn run_in_place<R: Wait, D: Dialer, S: Station, K: Keeper, C: Clock, G: Grants>(
     ensures follows { G.follows grants.old grants.new }
     ensures idle { IsIdle (K.shows kit.new.keeper) }
     ensures ended { (config : JobConfig) → may_be_sent (job_of words.now config) ≡ false →
-        Ended (job_of words.now config) (G.limits grants.old) (G.caller_number grants.old) number
+        HasEnded (job_of words.now config) (G.limits grants.old) (G.caller_number grants.old) number
         (seen (devices D.shows S.shows K.shows C.shows D.may_give S.ran) kit.old (G.mine grants.old) journal.old)
         (seen (devices D.shows S.shows K.shows C.shows D.may_give S.ran) kit.new (G.mine grants.new) journal.new)
         Start result }
@@ -133,7 +133,7 @@ fn run_remote<R: Wait, D: Dialer, S: Station, K: Keeper, C: Clock, G: Grants>(
     ensures free { StaysFree G.ready G.alone G.spare G.mine grants.old grants.new journal.old.left journal.new.left sent_events }
     ensures follows { G.follows grants.old grants.new }
     ensures idle { IsIdle (K.shows kit.new.keeper) }
-    ensures ended { Ended (job_in task.now) (G.limits grants.old) (G.caller_number grants.old) task.now.number
+    ensures ended { HasEnded (job_in task.now) (G.limits grants.old) (G.caller_number grants.old) task.now.number
         (seen (devices D.shows S.shows K.shows C.shows D.may_give S.ran) kit.old (G.mine grants.old) journal.old)
         (seen (devices D.shows S.shows K.shows C.shows D.may_give S.ran) kit.new (G.mine grants.new) journal.new)
         Start result }
@@ -162,7 +162,7 @@ fn run_class<R: Wait, D: Dialer, S: Station, K: Keeper, C: Clock, G: Grants>(
     ensures free { StaysFree G.ready G.alone G.spare G.mine grants.old grants.new journal.old.left journal.new.left sent_events }
     ensures follows { G.follows grants.old grants.new }
     ensures idle { IsIdle (K.shows kit.new.keeper) }
-    ensures ended { Ended (job_of command.now.words.now command.now.config.now) (G.limits grants.old) (G.caller_number grants.old)
+    ensures ended { HasEnded (job_of command.now.words.now command.now.config.now) (G.limits grants.old) (G.caller_number grants.old)
         command.now.number
         (seen (devices D.shows S.shows K.shows C.shows D.may_give S.ran) kit.old (G.mine grants.old) journal.old)
         (seen (devices D.shows S.shows K.shows C.shows D.may_give S.ran) kit.new (G.mine grants.new) journal.new)

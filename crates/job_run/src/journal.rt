@@ -1,7 +1,7 @@
 // The events of a job, as they are written down.
 ghost use Rattle.std.specs.Prelude.{◌≡◌, ◌+◌, ◌∷◌, ◌++◌, ◌≤◌, [], vec_len, vec_capacity};
 ghost use Rattle.farm_machine.specs.declared.reports.Event.TheVariants.{Ran, Fetched, Exchanged, Put};
-ghost use Rattle.job_run.specs.Worlds.{HasPlaces};
+ghost use Rattle.job_run.specs.Went.{HasPlaces};
 
 use crate::EventRoom;
 use farm_machine::{Event, Places};

@@ -15,7 +15,7 @@ use Rattle.report_text.specs.Pieces.{is_done_well}
 use Rattle.sample_compiler.specs.Samples.{SampleOf}
 use Rattle.workload.specs.Loads.{job_words, files_of}
 use Rattle.rehearsal.specs.declared.numbers.Count.{Count}
-use Rattle.rehearsal.specs.Counts.{object_len as report_len, IsDone, CountsDone}
+use Rattle.rehearsal.specs.Counts.{report_len, IsDone, CountsDone}
 use Rattle.rehearsal.specs.Rehearsals.{ended_well, object_len, EndsAs, Tells}
 use Rattle.rehearsal.proofs.Reporting.{Counted, TellsOf}
 

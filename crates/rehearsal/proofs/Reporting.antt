@@ -29,7 +29,7 @@ use Rattle.loop_link.specs.Dialers.{DialerGives}
 use Rattle.sample_compiler.specs.Samples.{SampleOf}
 use Rattle.sample_compiler.specs.Stations.{StationRan, station_files}
 use Rattle.workload.specs.Loads.{job_words, jobs_of, files_of}
-use Rattle.rehearsal.specs.Counts.{RehearsalKit, puts_at, puts_of, last_put, len_at, object_len as report_len, IsDone}
+use Rattle.rehearsal.specs.Counts.{RehearsalKit, puts_at, puts_of, last_put, len_at, report_len, IsDone}
 use Rattle.rehearsal.specs.Devices.{compiler_files}
 use Rattle.rehearsal.specs.Rehearsals.{rehearsal_config, loop_devices, IsFresh, object_len, EndsAs}
 use Rattle.rehearsal.proofs.OneJob.{RunLaws, LeftAs, left-as, len-is}

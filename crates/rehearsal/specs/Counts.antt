@@ -42,12 +42,12 @@ abbrev pub last_put : List Event → Option ℕ
 last_put events = named_put (slice_get events (length events - 1))
 
 abbrev pub len_at : List Put → Option ℕ → ℕ
-len_at list (Some at) = puts.object_len list at
+len_at list (Some at) = puts.put_len_at list at
 len_at list None = 0
 
 -- the length of the object that a job put as its last act, and 0 where it put none
-abbrev pub object_len : (ℕ → List Put) → Report → ℕ
-object_len puts report = len_at (puts report.worker) (last_put report.events)
+abbrev pub report_len : (ℕ → List Put) → Report → ℕ
+report_len puts report = len_at (puts report.worker) (last_put report.events)
 
 -- a job was done, with any status
 abbrev pub IsDone : End → Type 0
@@ -59,5 +59,5 @@ abbrev pub CountsDone : (ℕ → List Put) → List Report → Option Count → 
 CountsDone puts reports (Some count) =
     All (λ report. IsDone report.end) reports
     × (count.done ≡ count_by (λ report. is_done_well report.end) reports)
-    × (count.bytes ≡ sum_by (object_len puts) reports)
+    × (count.bytes ≡ sum_by (report_len puts) reports)
 CountsDone puts reports None = (report : Report) × (at : ℕ) × (slice_get reports at ≡ Some report) × (IsDone report.end → ⊥)

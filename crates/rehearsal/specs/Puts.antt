@@ -14,5 +14,5 @@ put_len (Some put) = length put.bytes
 put_len None = 0
 
 -- the length of the object that was put at this place, and 0 where none was
-abbrev pub object_len : List Put → ℕ → ℕ
-object_len puts at = put_len (slice_get puts at)
+abbrev pub put_len_at : List Put → ℕ → ℕ
+put_len_at puts at = put_len (slice_get puts at)

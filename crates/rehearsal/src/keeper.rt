@@ -36,7 +36,7 @@ impl StillKeeper {
 
     /// The length of the object that was put at this place, counted from 0; 0 where none was. It takes no memory.
     pub(crate) fn object_len(&self, at: u32) -> u64
-        ensures len { result ≡ puts.object_len self.now.puts at }
+        ensures len { result ≡ puts.put_len_at self.now.puts at }
         ensures small { result ≤ object_max }
     {
         match self.puts.get(at as usize) {

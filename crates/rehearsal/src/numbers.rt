@@ -29,7 +29,7 @@ fn last_put(events: &EventList) -> Option<u32>
 
 // The length of the object that the job of this report put, which is its last act; 0 where it put none.
 fn object_len(kits: &[RehearsalKit], report: &Report) -> u64
-    ensures len { result ≡ counts.object_len (puts_of kits.now) report.now }
+    ensures len { result ≡ counts.report_len (puts_of kits.now) report.now }
     ensures small { result ≤ object_max }
 {
     let Some(at) = last_put(&report.events) else {
@@ -44,7 +44,7 @@ fn object_len(kits: &[RehearsalKit], report: &Report) -> u64
 // The length of the objects of all jobs together.
 fn bytes_put(kits: &[RehearsalKit], reports: &[Report]) -> u64
     requires { length reports.now ≤ 512 }
-    ensures { result ≡ sum_by (counts.object_len (puts_of kits.now)) reports.now }
+    ensures { result ≡ sum_by (counts.report_len (puts_of kits.now)) reports.now }
 {
     let mut bytes = 0;
     for report in reports {

@@ -12,8 +12,7 @@ use job_driver::{Built, build};
 use std::alloc::{AllocError, Global};
 use std::sync::Wait;
 use std::thread::Threads;
-use workload::make;
-use workload_runs::runs_of_jobs;
+use workload::{make, runs_of_jobs};
 
 /// The most workers of a rehearsal.
 const WORKERS_MAX: u32 = 4;

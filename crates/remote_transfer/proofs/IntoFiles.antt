@@ -1,5 +1,5 @@
 -- The object of a reply on its way into a file.
-use Rattle.std.proofs.Common.{inl, inr, ◌≡◌, ℕ, ◌+◌, ◌<◌, ◌≤◌, List, [], ◌++◌, length, refl, ap, sym, subst, ◌∙◌, arith, append-nil, length-append, rules}
+use Rattle.std.proofs.Common.{inl, inr, ◌≡◌, ℕ, ◌+◌, ◌<◌, ◌≤◌, List, [], ◌++◌, length, refl, sym, subst, ◌∙◌, arith, append-nil, length-append, rules}
 use Rattle.std.specs.Prelude.{◌≢◌, ◌⊎◌, Result, Ok, Err, IfOk, IfErr, Option, Some, None, IsSome}
 use Rattle.edge_traits.specs.Keepers.{PendingPut, KeeperView, IsIdle, IsPending, IsPutOf, HasPending}
 use Rattle.edge_traits.specs.Causes.{Still}
@@ -17,9 +17,9 @@ use Rattle.remote_transfer.specs.declared.answers.Stop.{Stop}
 use Rattle.remote_transfer.specs.declared.answers.Stop.TheVariants.{Broke, Memory}
 use Rattle.remote_transfer.specs.Answers.{answer_of, landed_of}
 use Rattle.remote_transfer.specs.Attempts.{Adds, DialCause}
-use Rattle.remote_transfer.specs.declared.landing.Course.{Course}
-use Rattle.remote_transfer.specs.declared.landing.Course.TheVariants.{Waiting, Begun, Lost}
-use Rattle.remote_transfer.specs.Links.{Given, ReplyIs}
+use Rattle.remote_transfer.specs.declared.landing.ObjectState.{ObjectState}
+use Rattle.remote_transfer.specs.declared.landing.ObjectState.TheVariants.{Waiting, Begun, Lost}
+use Rattle.remote_transfer.specs.Links.{ReplyIs}
 use Rattle.remote_transfer.specs.Pieces.{PieceRead, PieceStops}
 use Rattle.remote_transfer.specs.Landings.{KeeperStays, LandsAt, attempt_of, Lands, LandedCause, IsUnasked, IsLanding, paired, received_of, LandsOr, ReceivedInto}
 use Rattle.remote_transfer.specs.Landings.{HasBytes, RisesBehind, RisesByPuts, StopsBehind}
@@ -53,12 +53,12 @@ still-pending old new piece pending added =
     let z = of_put old.pending pending in
     is-there new z.0 (z.1 ++ piece) (added z.0 z.1 z.2)
 
--- The object's bytes so far have come as far as the course says.
-pub record ReceivingInto (old now : LinkView) (place : Place) (have : ℕ) (course : Course) (path : List ℕ) (before keeper : KeeperView) : Type 0 where
+-- The object's bytes so far have come as far as the state says.
+pub record ReceivingInto (old now : LinkView) (place : Place) (have : ℕ) (state : ObjectState) (path : List ℕ) (before keeper : KeeperView) : Type 0 where
   pub object : List ℕ
   pub receiving : Receiving old now place have object
   pub so_far : object ≡ object_so_far receiving.text
-  pub lands : LandsAt course path object before.faults keeper
+  pub lands : LandsAt state path object before.faults keeper
 
 -- nothing was given
 none-so-far : [] ≡ object_so_far []
@@ -72,15 +72,15 @@ into-begins link place path keeper at idle =
     record { object = []; receiving = receiving-begins link place at; so_far = none-so-far; lands = (idle, refl, refl) }
 
 -- a count that stands still may stand for the one before it
-pub lands-after : (result : Result Course Stop) (path bytes : List ℕ) (before mid : ℕ) (now : KeeperView) → mid ≡ before → IfOk result (λ next. LandsAt next path bytes mid now) → IfOk result (λ next. LandsAt next path bytes before now)
+pub lands-after : (result : Result ObjectState Stop) (path bytes : List ℕ) (before mid : ℕ) (now : KeeperView) → mid ≡ before → IfOk result (λ next. LandsAt next path bytes mid now) → IfOk result (λ next. LandsAt next path bytes before now)
 lands-after result path bytes before mid now same at = subst (λ (m : ℕ). IfOk result (λ next. LandsAt next path bytes m now)) same at
 
 -- more bytes
-pub land-begun : (course : Course) (path object bytes : List ℕ) (before : ℕ) (old new : KeeperView) (result : Result Course Stop) → course ≡ Begun
+pub land-begun : (state : ObjectState) (path object bytes : List ℕ) (before : ℕ) (old new : KeeperView) (result : Result ObjectState Stop) → state ≡ Begun
     → ((path object : List ℕ) → HasPending old path object → IfOk result (λ next. LandsAt next path (object ++ bytes) old.faults new))
-    → LandsAt course path object before old → IfOk result (λ next. LandsAt next path (object ++ bytes) before new)
-land-begun course path object bytes before old new result is lands at =
-    let here : LandsAt Begun path object before old = subst (λ (c : Course). LandsAt c path object before old) is at in
+    → LandsAt state path object before old → IfOk result (λ next. LandsAt next path (object ++ bytes) before new)
+land-begun state path object bytes before old new result is lands at =
+    let here : LandsAt Begun path object before old = subst (λ (c : ObjectState). LandsAt c path object before old) is at in
     lands-after result path (object ++ bytes) before old.faults new here.1 (lands path object here.0)
 
 -- some bytes more are some
@@ -162,17 +162,17 @@ rises-then Memory given before mid new stops still = elim stops [
 -- ---- an object that is received
 
 -- a put was begun only with some bytes
-begun-with : (course : Course) (path object : List ℕ) (before : ℕ) (now : KeeperView) → LandsAt course path object before now
+begun-with : (state : ObjectState) (path object : List ℕ) (before : ℕ) (now : KeeperView) → LandsAt state path object before now
     → (IsIdle now × Still before now.faults) ⊎ (0 < length object)
 begun-with Waiting path object before now lands = inl (lands.0, lands.2)
 begun-with Begun path object before now lands = inr lands.2
 begun-with Lost path object before now lands = inr lands.2
 
 -- the bytes so far came with a front of what was given
-came : {old mid : LinkView} {reader : Place} {have : ℕ} (course : Course) (path : List ℕ) (before keeper : KeeperView)
-    (into : ReceivingInto old mid reader have course path before keeper) (given rest : List ℕ) → given ≡ into.receiving.text ++ rest
+came : {old mid : LinkView} {reader : Place} {have : ℕ} (state : ObjectState) (path : List ℕ) (before keeper : KeeperView)
+    (into : ReceivingInto old mid reader have state path before keeper) (given rest : List ℕ) → given ≡ into.receiving.text ++ rest
     → (IsIdle keeper × Still before.faults keeper.faults) ⊎ HasBytes given
-came course path before keeper into given rest parts = elim (begun-with course path into.object before.faults keeper into.lands) [
+came state path before keeper into given rest parts = elim (begun-with state path into.object before.faults keeper into.lands) [
   | inl none ↦ inl none
   | inr some ↦ inr (record {
     front = into.receiving.text;
@@ -183,40 +183,40 @@ came course path before keeper into given rest parts = elim (begun-with course p
   })
 ]
 
-stops-behind : (old mid new : LinkView) (reader : Place) (have : ℕ) (course : Course) (path : List ℕ) (before keeper : KeeperView) (stop : Stop)
-    (into : ReceivingInto old mid reader have course path before keeper) (stops : PieceStops have reader mid new stop)
+stops-behind : (old mid new : LinkView) (reader : Place) (have : ℕ) (state : ObjectState) (path : List ℕ) (before keeper : KeeperView) (stop : Stop)
+    (into : ReceivingInto old mid reader have state path before keeper) (stops : PieceStops have reader mid new stop)
     → StopsBehind stop (receiving-stops old mid new reader have into.object stop into.receiving stops).bytes before.faults keeper
 unfolding receiving-stops receiving-memory
-stops-behind old mid new reader have course path before keeper (Broke Dial) into stops = absurd stops
-stops-behind old mid new reader have course path before keeper (Broke Send) into stops = absurd stops
-stops-behind old mid new reader have course path before keeper (Broke Recv) into stops =
-    came course path before keeper into into.receiving.text [] (sym (append-nil into.receiving.text))
-stops-behind old mid new reader have course path before keeper (Broke (Truncated bytes)) into stops =
-    came course path before keeper into into.receiving.text [] (sym (append-nil into.receiving.text))
-stops-behind old mid new reader have course path before keeper (Broke (BadReply at fault)) into stops =
-    came course path before keeper into (into.receiving.text ++ stops.0.0) stops.0.0 refl
-stops-behind old mid new reader have course path before keeper (Broke Stopped) into stops = absurd stops
-stops-behind old mid new reader have course path before keeper Memory into stops =
-    elim (came course path before keeper into (into.receiving.text ++ stops.0.0) stops.0.0 refl) [
+stops-behind old mid new reader have state path before keeper (Broke Dial) into stops = absurd stops
+stops-behind old mid new reader have state path before keeper (Broke Send) into stops = absurd stops
+stops-behind old mid new reader have state path before keeper (Broke Recv) into stops =
+    came state path before keeper into into.receiving.text [] (sym (append-nil into.receiving.text))
+stops-behind old mid new reader have state path before keeper (Broke (Truncated bytes)) into stops =
+    came state path before keeper into into.receiving.text [] (sym (append-nil into.receiving.text))
+stops-behind old mid new reader have state path before keeper (Broke (BadReply at fault)) into stops =
+    came state path before keeper into (into.receiving.text ++ stops.0.0) stops.0.0 refl
+stops-behind old mid new reader have state path before keeper (Broke Stopped) into stops = absurd stops
+stops-behind old mid new reader have state path before keeper Memory into stops =
+    elim (came state path before keeper into (into.receiving.text ++ stops.0.0) stops.0.0 refl) [
       | inl none ↦ inl none
       | inr some ↦ inr (inl some)
     ]
 
-pub into-stops : (old mid new : LinkView) (reader : Place) (have : ℕ) (course : Course) (path : List ℕ) (before keeper : KeeperView) (stop : Stop)
-    → ReceivingInto old mid reader have course path before keeper → PieceStops have reader mid new stop
+pub into-stops : (old mid new : LinkView) (reader : Place) (have : ℕ) (state : ObjectState) (path : List ℕ) (before keeper : KeeperView) (stop : Stop)
+    → ReceivingInto old mid reader have state path before keeper → PieceStops have reader mid new stop
     → ReceivedInto (Err stop) path old new before keeper
-into-stops old mid new reader have course path before keeper stop into stops = record {
+into-stops old mid new reader have state path before keeper stop into stops = record {
   object = into.object;
   given = receiving-stops old mid new reader have into.object stop into.receiving stops;
-  lands = stops-behind old mid new reader have course path before keeper stop into stops;
+  lands = stops-behind old mid new reader have state path before keeper stop into stops;
 }
 
 -- some bytes came, and there was no memory for their put
-pub into-memory : (old mid new : LinkView) (reader next : Place) (have : ℕ) (course : Course) (path : List ℕ) (before keeper after : KeeperView)
-    (count : ℕ) (bytes : List ℕ) → ReceivingInto old mid reader have course path before keeper → PieceRead mid new reader next count bytes None
+pub into-memory : (old mid new : LinkView) (reader next : Place) (have : ℕ) (state : ObjectState) (path : List ℕ) (before keeper after : KeeperView)
+    (count : ℕ) (bytes : List ℕ) → ReceivingInto old mid reader have state path before keeper → PieceRead mid new reader next count bytes None
     → 0 < length bytes → ReceivedInto (Err Memory) path old new before after
 unfolding receiving-memory
-into-memory old mid new reader next have course path before keeper after count bytes into p some =
+into-memory old mid new reader next have state path before keeper after count bytes into p some =
     let r = into.receiving in
     let z = p.read r.text into.object r.at in
     record {
@@ -231,26 +231,26 @@ into-memory old mid new reader next have course path before keeper after count b
       }));
     }
 
-pub into-more : (old mid new : LinkView) (reader next : Place) (have : ℕ) (course further : Course) (path : List ℕ) (before keeper after : KeeperView) (count : ℕ) (bytes : List ℕ) → ReceivingInto old mid reader have course path before keeper → before.faults ≤ keeper.faults → PieceRead mid new reader next count bytes None
-    → ((object : List ℕ) (since : ℕ) → since ≤ keeper.faults → LandsAt course path object since keeper → LandsAt further path (object ++ bytes) since after)
+pub into-more : (old mid new : LinkView) (reader next : Place) (have : ℕ) (state further : ObjectState) (path : List ℕ) (before keeper after : KeeperView) (count : ℕ) (bytes : List ℕ) → ReceivingInto old mid reader have state path before keeper → before.faults ≤ keeper.faults → PieceRead mid new reader next count bytes None
+    → ((object : List ℕ) (since : ℕ) → since ≤ keeper.faults → LandsAt state path object since keeper → LandsAt further path (object ++ bytes) since after)
     → ReceivingInto old new next (have + count) further path before after
 unfolding receiving-more
-into-more old mid new reader next have course further path before keeper after count bytes into later p lands = record {
+into-more old mid new reader next have state further path before keeper after count bytes into later p lands = record {
   object = into.object ++ bytes;
   receiving = receiving-more old mid new reader next have count into.object bytes into.receiving p;
   so_far = (p.read into.receiving.text into.object into.receiving.at).2;
   lands = lands into.object before.faults later into.lands;
 }
 
-pub into-last : (old mid new : LinkView) (reader next : Place) (have : ℕ) (course : Course) (path : List ℕ) (before keeper after : KeeperView) (count : ℕ) (bytes : List ℕ) (o : Outcome) (landed : Result Landing Stop) → ReceivingInto old mid reader have course path before keeper → before.faults ≤ keeper.faults → PieceRead mid new reader next count bytes (Some o)
-    → ((object : List ℕ) (since : ℕ) → since ≤ keeper.faults → LandsAt course path object since keeper → (o.status ≢ 0 → object ++ bytes ≡ []) → IfOk landed (λ landing. IsLanding landing o path (object ++ bytes) since after))
+pub into-last : (old mid new : LinkView) (reader next : Place) (have : ℕ) (state : ObjectState) (path : List ℕ) (before keeper after : KeeperView) (count : ℕ) (bytes : List ℕ) (o : Outcome) (landed : Result Landing Stop) → ReceivingInto old mid reader have state path before keeper → before.faults ≤ keeper.faults → PieceRead mid new reader next count bytes (Some o)
+    → ((object : List ℕ) (since : ℕ) → since ≤ keeper.faults → LandsAt state path object since keeper → (o.status ≢ 0 → object ++ bytes ≡ []) → IfOk landed (λ landing. IsLanding landing o path (object ++ bytes) since after))
     → IfErr landed (λ stop. stop ≡ Memory) → ReceivedInto (paired o landed) path old new before after
 unfolding receiving-memory
-into-last old mid new reader next have course path before keeper after count bytes o (Ok _) into later p lands memory =
+into-last old mid new reader next have state path before keeper after count bytes o (Ok _) into later p lands memory =
     let w = receiving-whole old mid new reader next have count into.object bytes o into.receiving p in
     let spelled = w.1.is.0.1.spelled in
     record { object = into.object ++ bytes; given = w.1; lands = (w.0, lands into.object before.faults later into.lands spelled.fits.failure) }
-into-last old mid new reader next have course path before keeper after count bytes o (Err stop) into later p lands memory =
+into-last old mid new reader next have state path before keeper after count bytes o (Err stop) into later p lands memory =
     let r = into.receiving in
     let z = p.read r.text into.object r.at in
     let wanted : ReceivedInto (Err Memory) path old new before after = record {

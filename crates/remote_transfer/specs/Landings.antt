@@ -19,8 +19,8 @@ use Rattle.remote_transfer.specs.declared.answers.Landed.{Landed}
 use Rattle.remote_transfer.specs.declared.answers.Landed.TheVariants as landeds
 use Rattle.remote_transfer.specs.declared.answers.Stop.{Stop}
 use Rattle.remote_transfer.specs.declared.answers.Stop.TheVariants.{Broke, Memory}
-use Rattle.remote_transfer.specs.declared.landing.Course.{Course}
-use Rattle.remote_transfer.specs.declared.landing.Course.TheVariants.{Waiting, Begun, Lost}
+use Rattle.remote_transfer.specs.declared.landing.ObjectState.{ObjectState}
+use Rattle.remote_transfer.specs.declared.landing.ObjectState.TheVariants.{Waiting, Begun, Lost}
 use Rattle.remote_transfer.specs.Answers.{answer_of, landed_of}
 use Rattle.remote_transfer.specs.Attempts.{ExchangeIs, EndsBy, Adds, AttemptAdds}
 use Rattle.remote_transfer.specs.Links.{Given, ReplyIs, IsFor, Passed}
@@ -100,13 +100,13 @@ IsUnasked other before now = Unit {0}
 -- ---- the parts of such an attempt
 
 -- how far the object has come with these bytes, after the keeper's count stood at before
-abbrev pub LandsAt : Course → List ℕ → List ℕ → ℕ → KeeperView → Type 0
+abbrev pub LandsAt : ObjectState → List ℕ → List ℕ → ℕ → KeeperView → Type 0
 LandsAt Waiting path object before now = IsIdle now × (object ≡ []) × Still before now.faults
 LandsAt Begun path object before now = HasPending now path object × Still before now.faults × (0 < length object)
 LandsAt Lost path object before now = IsIdle now × Rose before now.faults × (0 < length object)
 
 -- the keeper is ready for more bytes
-abbrev pub CanLand : Course → KeeperView → Type 0
+abbrev pub CanLand : ObjectState → KeeperView → Type 0
 CanLand Waiting now = IsIdle now
 CanLand Begun now = IsPending now
 CanLand Lost now = IsIdle now

@@ -18,7 +18,7 @@ use std::alloc::Global;
 
 /// How far an object has come into its file.
 #[derive(Clone, Copy, Debug)]
-pub(crate) enum Course {
+pub(crate) enum ObjectState {
     /// No byte has come, and no put was begun.
     Waiting,
     /// All bytes so far are in the put that is pending.
@@ -28,7 +28,7 @@ pub(crate) enum Course {
 }
 
 // Gives bytes to the put that is pending.
-fn add_bytes<K: Keeper>(alloc: Global, keeper: &mut K, bytes: &[u8]) -> Result<Course, Stop>
+fn add_bytes<K: Keeper>(alloc: Global, keeper: &mut K, bytes: &[u8]) -> Result<ObjectState, Stop>
     requires pending { IsPending (K.shows keeper.old) }
     requires some { 0 < length bytes.now }
     ensures lands { (path object : List ℕ) → HasPending (K.shows keeper.old) path object
@@ -38,8 +38,8 @@ fn add_bytes<K: Keeper>(alloc: Global, keeper: &mut K, bytes: &[u8]) -> Result<C
     ensures stays { KeeperStays (K.shows keeper.old) (K.shows keeper.new) }
 {
     match keeper.add(alloc, bytes) {
-        Ok(()) => Ok(Course::Begun),
-        Err(EdgeFault::Failed) => Ok(Course::Lost),
+        Ok(()) => Ok(ObjectState::Begun),
+        Err(EdgeFault::Failed) => Ok(ObjectState::Lost),
         Err(EdgeFault::Memory) => Err(Stop::Memory),
     }
 }
@@ -50,7 +50,7 @@ fn begin_with<K: Keeper>(
     path: &Bytes,
     keeper: &mut K,
     bytes: &[u8],
-) -> Result<Course, Stop>
+) -> Result<ObjectState, Stop>
     requires idle { IsIdle (K.shows keeper.old) }
     requires name { ¬ (IsStaged path.now) }
     requires some { 0 < length bytes.now }
@@ -61,7 +61,7 @@ fn begin_with<K: Keeper>(
 {
     match keeper.begin(alloc, path) {
         Ok(()) => add_bytes(alloc, keeper, bytes),
-        Err(EdgeFault::Failed) => Ok(Course::Lost),
+        Err(EdgeFault::Failed) => Ok(ObjectState::Lost),
         Err(EdgeFault::Memory) => Err(Stop::Memory),
     }
 }
@@ -71,12 +71,12 @@ fn land<K: Keeper>(
     alloc: Global,
     path: &Bytes,
     keeper: &mut K,
-    course: Course,
+    state: ObjectState,
     bytes: &[u8],
-) -> Result<Course, Stop>
-    requires can { CanLand course (K.shows keeper.old) }
+) -> Result<ObjectState, Stop>
+    requires can { CanLand state (K.shows keeper.old) }
     requires name { ¬ (IsStaged path.now) }
-    ensures lands { (object : List ℕ) (before : ℕ) → before ≤ (K.shows keeper.old).faults → LandsAt course path.now object before (K.shows keeper.old)
+    ensures lands { (object : List ℕ) (before : ℕ) → before ≤ (K.shows keeper.old).faults → LandsAt state path.now object before (K.shows keeper.old)
         → IfOk result (λ next. LandsAt next path.now (object ++ bytes.now) before (K.shows keeper.new)) }
     ensures can { IfOk result (λ next. CanLand next (K.shows keeper.new)) }
     ensures memory { WantsMemory result (K.shows keeper.new) }
@@ -84,12 +84,12 @@ fn land<K: Keeper>(
     ensures stays { KeeperStays (K.shows keeper.old) (K.shows keeper.new) }
 {
     if bytes.is_empty() {
-        return Ok(course);
+        return Ok(state);
     }
-    match course {
-        Course::Waiting => begin_with(alloc, path, keeper, bytes),
-        Course::Begun => add_bytes(alloc, keeper, bytes),
-        Course::Lost => Ok(Course::Lost),
+    match state {
+        ObjectState::Waiting => begin_with(alloc, path, keeper, bytes),
+        ObjectState::Begun => add_bytes(alloc, keeper, bytes),
+        ObjectState::Lost => Ok(ObjectState::Lost),
     }
 }
 
@@ -98,23 +98,23 @@ fn settle<K: Keeper>(
     alloc: Global,
     path: &Bytes,
     keeper: &mut K,
-    course: Course,
+    state: ObjectState,
 ) -> Result<Landing, Stop>
-    requires can { CanLand course (K.shows keeper.old) }
+    requires can { CanLand state (K.shows keeper.old) }
     requires name { ¬ (IsStaged path.now) }
-    ensures landed { (object : List ℕ) (before : ℕ) → before ≤ (K.shows keeper.old).faults → LandsAt course path.now object before (K.shows keeper.old)
+    ensures landed { (object : List ℕ) (before : ℕ) → before ≤ (K.shows keeper.old).faults → LandsAt state path.now object before (K.shows keeper.old)
         → IfOk result (λ landing. LandedAt landing path.now object before (K.shows keeper.new)) }
     ensures memory { WantsMemory result (K.shows keeper.new) }
     ensures stays { KeeperStays (K.shows keeper.old) (K.shows keeper.new) }
 {
-    match course {
-        Course::Waiting => match keeper.begin(alloc, path) {
+    match state {
+        ObjectState::Waiting => match keeper.begin(alloc, path) {
             Ok(()) => Ok(Landing::Pending),
             Err(EdgeFault::Failed) => Ok(Landing::Lost),
             Err(EdgeFault::Memory) => Err(Stop::Memory),
         },
-        Course::Begun => Ok(Landing::Pending),
-        Course::Lost => Ok(Landing::Lost),
+        ObjectState::Begun => Ok(Landing::Pending),
+        ObjectState::Lost => Ok(Landing::Lost),
     }
 }
 
@@ -123,21 +123,21 @@ fn land_last<K: Keeper>(
     alloc: Global,
     path: &Bytes,
     keeper: &mut K,
-    course: Course,
+    state: ObjectState,
     bytes: &[u8],
     outcome: &Outcome,
 ) -> Result<Landing, Stop>
-    requires can { CanLand course (K.shows keeper.old) }
+    requires can { CanLand state (K.shows keeper.old) }
     requires name { ¬ (IsStaged path.now) }
-    ensures lands { (object : List ℕ) (before : ℕ) → before ≤ (K.shows keeper.old).faults → LandsAt course path.now object before (K.shows keeper.old)
+    ensures lands { (object : List ℕ) (before : ℕ) → before ≤ (K.shows keeper.old).faults → LandsAt state path.now object before (K.shows keeper.old)
         → (outcome.now.status ≢ 0 → object ++ bytes.now ≡ [])
         → IfOk result (λ landing. IsLanding landing outcome.now path.now (object ++ bytes.now) before (K.shows keeper.new)) }
     ensures memory { IfErr result (λ stop. stop ≡ StopMemory) }
     ensures stays { KeeperStays (K.shows keeper.old) (K.shows keeper.new) }
 {
-    let course = land(alloc, path, keeper, course, bytes)?;
+    let state = land(alloc, path, keeper, state, bytes)?;
     if outcome.status == 0 {
-        settle(alloc, path, keeper, course)
+        settle(alloc, path, keeper, state)
     } else {
         Ok(Landing::Nothing)
     }
@@ -174,17 +174,17 @@ fn receive_landing<L: Link, K: Keeper>(
     ensures later { (L.shows link.old).faults ≤ (L.shows link.new).faults }
     ensures stays { KeeperStays (K.shows keeper.old) (K.shows keeper.new) }
 {
-    let mut course = Course::Waiting;
+    let mut state = ObjectState::Waiting;
     let mut have = 0;
     'receiving: loop {
         match receive_piece(link, room, reader, have)? {
             Brought::More { count, object } => {
-                course = land(alloc, path, keeper, course, &room[object.from..object.to])?;
+                state = land(alloc, path, keeper, state, &room[object.from..object.to])?;
                 have += count as u64;
             }
             Brought::Whole { object, outcome } => {
                 let last = &room[object.from..object.to];
-                let landed = land_last(alloc, path, keeper, course, last, &outcome);
+                let landed = land_last(alloc, path, keeper, state, last, &outcome);
                 return with_landing(outcome, landed);
             }
         }

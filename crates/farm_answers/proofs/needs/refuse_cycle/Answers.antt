@@ -1,5 +1,5 @@
 use Rattle.std.proofs.Common.{◌≡◌, [], ◌∙◌, ap}
-use Rattle.stream_print.specs.Ends.{complaint}
+use Rattle.stream_print.specs.Printing.{complaint}
 use Rattle.stream_print.proofs.EndLemmas.{want_first}
 use Rattle.farm_answers.specs.Texts.{bad_jobs_status, cycle_text}
 use Rattle.farm_answers.proofs.Telling.{complaint_by}

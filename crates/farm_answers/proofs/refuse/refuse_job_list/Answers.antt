@@ -1,6 +1,6 @@
 use Rattle.std.proofs.Common.{◌≡◌, [], ◌++◌, ◌∙◌, ap, codes}
 use Rattle.std.specs.Fmt.{decimal}
-use Rattle.stream_print.specs.Ends.{complaint}
+use Rattle.stream_print.specs.Printing.{complaint}
 use Rattle.stream_print.proofs.EndLemmas.{want_first}
 use Rattle.farm_answers.specs.Texts.{bad_jobs_status, job_fault_text}
 use Rattle.farm_answers.proofs.Telling.{complaint_by, regroup}

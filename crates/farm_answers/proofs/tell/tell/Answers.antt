@@ -1,6 +1,6 @@
 use Rattle.std.proofs.Common.{◌∷◌, [], refl, Err, ap}
 use Rattle.stream_print.specs.declared.one.PrintStop.TheVariants.{Stopped}
-use Rattle.stream_print.specs.Ends.{sink_stopped}
+use Rattle.stream_print.specs.Printing.{sink_stopped}
 use Rattle.stream_print.proofs.EndLemmas.{want_after}
 use Rattle.farm_answers.specs.Texts.{output}
 use Rattle.farm_answers.proofs.Telling.{output_whole, output_part}

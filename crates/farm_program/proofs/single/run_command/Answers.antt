@@ -1,7 +1,7 @@
 use Rattle.std.proofs.Common.{refl, ap, ◌∙◌, subst, length}
 use Rattle.report_text.specs.Numbers.{number}
 use Rattle.report_text.specs.Pieces.{command_pieces}
-use Rattle.stream_print.specs.Ends.{Ends}
+use Rattle.stream_print.specs.Printing.{Printing}
 use Rattle.stream_print.specs.Prints.{sinks_view}
 use Rattle.farm_answers.specs.Texts.{no_memory_text}
 use Rattle.farm_program.specs.Builds.{command_ran}
@@ -19,7 +19,7 @@ returns-in-Ok-run_jobs g c = λ source.
       done = again.0;
       report = alone.0;
       alone = ap (λ r. r.reports) again.1 ∙ alone.1;
-      prints = subst (λ rs. Ends no_memory_text (command_pieces c.args.config.now.hosts.list alone.0.end) (number rs)
+      prints = subst (λ rs. Printing no_memory_text (command_pieces c.args.config.now.hosts.list alone.0.end) (number rs)
           (sinks_view g.O.Sink.shows g.E.Sink.shows c.args.out.now c.args.err.now)
           (sinks_view g.O.Sink.shows g.E.Sink.shows c.finish_command-status.new.out c.finish_command-status.new.err)
           c.finish_command-status.result)

@@ -32,7 +32,10 @@ returns-in-Ok-clause-complete_graph g c = λ config most graph build known asks 
 pub returns-in-Err-clause-bad_words : goal.returns-in-Err-clause-bad_words
 returns-in-Err-clause-bad_words g c = λ place bad.
     rw (one_place (map (string_bytes {Z = Global}) c.args.words.now) place c.in-Err.place bad c.in-Err.ensures)
-    (record { untouched = printed_alone c.idle.ensures.none; ends = status_as c.idle.ensures.status c.refuse_words.ensures })
+    (record {
+      untouched = printed_alone c.without_jobs.ensures.none;
+      ends = status_as c.without_jobs.ensures.status c.refuse_words.ensures;
+    })
 
 pub returns-in-Err-clause-answers : goal.returns-in-Err-clause-answers
 returns-in-Err-clause-answers g c = λ meant is. absurd

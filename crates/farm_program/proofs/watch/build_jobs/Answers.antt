@@ -24,5 +24,5 @@ returns-in-Ok g c =
 pub returns-in-Err : goal.returns-in-Err
 returns-in-Err g c =
     let undone = c.in-Err.ensures.undone in
-    jobs_wanted undone.0 c.idle.ensures.none
-    (want_as c.idle.ensures.status (want_from (ap g.E.Sink.shows undone.1) c.want_memory.ensures))
+    jobs_wanted undone.0 c.without_jobs.ensures.none
+    (want_as c.without_jobs.ensures.status (want_from (ap g.E.Sink.shows undone.1) c.want_memory.ensures))

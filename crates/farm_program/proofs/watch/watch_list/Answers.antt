@@ -11,6 +11,6 @@ returns-then-len-eq1 g c =
 pub returns-else-len-eq1 : goal.returns-else-len-eq1
 returns-else-len-eq1 g c =
     let more : 2 ≤ length c.args.kits.now.items =
-    let a = c.len.ensures in let k = c.args.kits.now.ok in let f = c.if-len-eq1.false in let s = c.requires.some in omega
+    let a = c.len.ensures in let k = c.args.kits.now.ok in let f = c.if-len-eq1.false in let s = c.requires.kits.enough in omega
     (arith, a, k, f, s) in
     beside more c.watch_input.ensures

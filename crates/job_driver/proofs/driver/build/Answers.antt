@@ -6,7 +6,7 @@ pub close_run-requires-clause-done : goal.close_run-requires-clause-done
 close_run-requires-clause-done g c = record {
   jobs = c.args.jobs.now;
   config = c.args.config.now;
-  before = c.in_ok-run.run'.crew.items;
+  before = c.in_ok-run.run'.workers.items;
   done = done-of c.requires.some c.in_ok-run.ensures.opened refl refl refl refl refl c.work_all.ensures.len.1 c.work_all.ensures.each;
 }
 
@@ -19,5 +19,5 @@ work_all-requires-clause-ready g c κs within =
 
 pub returns-clause-ran : goal.returns-clause-ran
 returns-clause-ran g c = ran-as c.in_ok-run.ensures.opened.many c.in_ok-run.ensures.kits.1
-    (c.close_run.ensures.ran c.args.jobs.now c.args.config.now c.in_ok-run.run'.crew.items
+    (c.close_run.ensures.ran c.args.jobs.now c.args.config.now c.in_ok-run.run'.workers.items
     (done-of c.requires.some c.in_ok-run.ensures.opened refl refl refl refl refl c.work_all.ensures.len.1 c.work_all.ensures.each))

@@ -4,5 +4,5 @@ use Rattle.job_driver.proofs.watch.call_beside.Goals as goal
 
 pub returns-clause-each : goal.returns-clause-each
 returns-clause-each g c =
-    let called : CalledEach g.F.Fn c.args.f.now c.args.crew.now.items _ = search rules in
+    let called : CalledEach g.F.Fn c.args.f.now c.args.pairs.now.items _ = search rules in
     called.each

@@ -6,7 +6,7 @@ use Rattle.job_driver.proofs.watch.call_each.Goals as goal
 
 pub returns-clause-each : goal.returns-clause-each
 returns-clause-each g c =
-    let old = c.args.crew.now in
+    let old = c.args.pairs.now in
     let new = c.for_each_mut.new.s in
     let len : length new ≡ length old.items = search in
     let is : take old.len (new ++ drop (length new) old.items) ≡ new =

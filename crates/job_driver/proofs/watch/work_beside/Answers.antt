@@ -2,7 +2,7 @@ use Rattle.std.proofs.Common.{ℕ, length, map, sym, ap, ◌∙◌, subst}
 use Rattle.std.proofs.lemmas.List.{length-map}
 use Rattle.farm_monitor.specs.Boards.{board_watched}
 use Rattle.watch_lines.specs.Printed.{WatchLines}
-use Rattle.job_driver.specs.Crews.{IsReady, HasWorked}
+use Rattle.job_driver.specs.Workers.{IsReady, HasWorked}
 use Rattle.farm_machine.specs.Devices.{devices}
 use Rattle.farm_machine.specs.Usable.{job_at}
 use Rattle.job_driver.specs.Watching.{worker_of, marker_of, board_marked}
@@ -13,26 +13,26 @@ pub work_and_watch-end-requires-clause-ready : goal.work_and_watch-end-requires-
 work_and_watch-end-requires-clause-ready g c κs within =
     let d = devices g.D.Dialer.shows g.S.Station.shows g.K.Keeper.shows g.C.Clock.shows g.D.Dialer.may_give g.S.Station.ran in
     all-of-map worker_of
-    (λ worker. IsReady d c.args.cell.now (length c.args.plan.jobs.now) worker) c.pair.new.crew.items c.args.workers.now.items
+    (λ worker. IsReady d c.args.cell.now (length c.args.plan.jobs.now) worker) c.pair.new.pairs.items c.args.workers.now.items
     c.pair.ensures.workers.1 c.requires.ready.each
 
 pub returns-clause-each : goal.returns-clause-each
 returns-clause-each g c number d below =
     let dev = devices g.D.Dialer.shows g.S.Station.shows g.K.Keeper.shows g.C.Clock.shows g.D.Dialer.may_give g.S.Station.ran in
     both-of-map worker_of (HasWorked dev c.args.cell.now (job_at c.args.plan.jobs.now c.args.plan.config.now) c.args.plan.config.now.period)
-    c.pair.new.crew.items c.work_and_watch-end.new.crew.items c.args.workers.now.items c.unpair.new.workers.items
+    c.pair.new.pairs.items c.work_and_watch-end.new.pairs.items c.args.workers.now.items c.unpair.new.workers.items
     c.pair.ensures.workers.1 c.unpair.ensures.workers c.work_and_watch-end.ensures.len.1 number d below
     (λ x less. c.work_and_watch-end.ensures.each number x less)
 
 pub returns-clause-back : goal.returns-clause-back
 returns-clause-back g c =
-    let old = c.pair.new.crew.items in
-    let new = c.work_and_watch-end.new.crew.items in record {
+    let old = c.pair.new.pairs.items in
+    let new = c.work_and_watch-end.new.pairs.items in record {
       boards = ap (map board_marked) c.unpair.ensures.markers ∙ map-twice board_marked marker_of new
           ∙ same-map (λ m. board_marked (marker_of m)) old new c.work_and_watch-end.ensures.len.1 c.work_and_watch-end.ensures.boards
           ∙ sym (map-twice board_marked marker_of old) ∙ ap (map board_marked) c.pair.ensures.markers.1
           ∙ c.requires.fits.boards ∙ sym c.work_and_watch-end.ensures.printed.watchers;
-      crew = c.unpair.ensures.crew;
+      pairs = c.unpair.ensures.pairs;
     }
 
 pub returns-clause-watched : goal.returns-clause-watched

@@ -1,6 +1,6 @@
 use Rattle.std.proofs.Common.{ℕ, refl, length, subst, sym, ◌∙◌, arith}
 use Rattle.slot_table.specs.declared.limits.Limits.{Limits}
-use Rattle.job_driver.specs.Crews.{AreSlotsFor}
+use Rattle.job_driver.specs.Workers.{AreSlotsFor}
 use Rattle.watch_lines.specs.Printed.{WatchLines}
 use Rattle.job_driver.proofs.Building.{done-of, ran-as}
 use Rattle.job_driver.proofs.watched.build_beside.Goals as goal
@@ -9,7 +9,7 @@ pub close_run-requires-clause-done : goal.close_run-requires-clause-done
 close_run-requires-clause-done g c = record {
   jobs = c.args.plan.jobs.now;
   config = c.args.plan.config.now;
-  before = c.in_ok-run.run'.crew.items;
+  before = c.in_ok-run.run'.workers.items;
   done = done-of c.requires.kits.some c.in_ok-run.ensures.opened refl refl refl refl refl c.work_beside-end.ensures.len.1
       c.work_beside-end.ensures.each;
 }
@@ -17,7 +17,7 @@ close_run-requires-clause-done g c = record {
 pub returns-clause-built : goal.returns-clause-built
 returns-clause-built g c = record {
   ran = ran-as c.in_ok-run.ensures.opened.many c.in_ok-run.ensures.kits.1
-      (c.close_run.ensures.ran c.args.plan.jobs.now c.args.plan.config.now c.in_ok-run.run'.crew.items
+      (c.close_run.ensures.ran c.args.plan.jobs.now c.args.plan.config.now c.in_ok-run.run'.workers.items
       (done-of c.requires.kits.some c.in_ok-run.ensures.opened refl refl refl refl refl c.work_beside-end.ensures.len.1
       c.work_beside-end.ensures.each));
   slots = subst (λ (l : Limits 16). AreSlotsFor c.args.plan.jobs.now c.args.plan.config.now l) (sym c.close_run.ensures.limits)

@@ -44,7 +44,7 @@ unreachable-requires g c =
     let below : c.in-Some-draw.job < length c.args.plan.jobs.now = subst (λ (k : ℕ). c.in-Some-draw.job < k)
     (ap (λ l. l.jobs) (g.met.G.Grants.limits_stay _ _ i.follows) ∙ c.requires.slots.number) c.in-Some-draw.ensures.job in
     let rooms = i.rooms in
-    let none : length c.working.desk.rooms.items ≡ 0 = grind (arith, common_steps, c.in_default-pop.ensures.items) in
+    let none : length c.working.reserve.rooms.items ≡ 0 = grind (arith, common_steps, c.in_default-pop.ensures.items) in
     omega (arith, few, below, rooms, none)
 
 pub run_job-report-requires-clause-job : goal.run_job-report-requires-clause-job
@@ -70,10 +70,10 @@ run_job-report-requires-clause-begins g c =
     c.in-Some-draw.ensures.job in
     record {
       ready = c.in-Some-draw.ensures.ready;
-      spare = spare-enough _ (length c.args.plan.jobs.now) (length c.working.desk.reports.items) _ _ (omega (arith, few, below)) i.spare
+      spare = spare-enough _ (length c.args.plan.jobs.now) (length c.working.reserve.reports.items) _ _ (omega (arith, few, below)) i.spare
           c.in-Some-draw.ensures.spare;
       none = drawn-back _ c.draw.result _ _ c.draw.ensures.mine i.back;
-      places = small-places _ c.working.desk.reports.items (let most = c.args.plan.doable.most in omega (arith, few, below, most))
+      places = small-places _ c.working.reserve.reports.items (let most = c.args.plan.doable.most in omega (arith, few, below, most))
           i.counted;
       pending = i.pending;
     }
@@ -100,14 +100,14 @@ working-preserved g c =
       counted = counted-more c.run_job-report.result c.in-Ok.ensures.items c.args.plan.usable.some c.args.plan.usable.tries i.counted w.ran;
       rooms = grind (arith, common_steps, c.in-Some-pop.ensures.items, c.in-Ok.ensures.items, i.rooms);
       room = let r = i.room in let k = c.push.ensures.capacity in omega (arith, r, k);
-      spare = spare-more _ (length c.args.plan.jobs.now) (length c.working.desk.reports.items) _ _ _ _
+      spare = spare-more _ (length c.args.plan.jobs.now) (length c.working.reserve.reports.items) _ _ _ _
           (grind (arith, common_steps, c.in-Ok.ensures.items)) i.spare d.spare w.returned.spare;
       pending = w.returned.pending;
       back = w.returned.none;
       ready = w.returned.ready;
       follows = g.met.G.Grants.follows_on _ _ _ drawn w.returned.follows;
       marked = marked-more g.M.Marks.board g.M.Marks.all g.M.Marks.rows c.args.marks.now c.working.marks c.begin.new.self c.end.new.self
-          c.working.desk.reports.items c.push.new.self.items c.run_job-report.result job i.marked
+          c.working.reserve.reports.items c.push.new.self.items c.run_job-report.result job i.marked
           c.begin.ensures.board c.begin.ensures.added c.end.ensures.board c.end.ensures.added c.in-Ok.ensures.items w.number;
       peers = relation-then i.peers w.peers;
       programs = relation3-then i.programs w.programs;
@@ -121,5 +121,5 @@ unreachable-requires-in_default-push g c =
     (ap (λ l. l.jobs) (g.met.G.Grants.limits_stay _ _ i.follows) ∙ c.requires.slots.number) c.in-Some-draw.ensures.job in
     let room = i.room in
     let full = c.in_default-push.ensures.full in
-    let k = c.working.desk.reports.ok in
+    let k = c.working.reserve.reports.ok in
     omega (arith, few, below, room, full, k)

@@ -8,7 +8,7 @@ use Rattle.course_laws.proofs.Compilers.{end-answer}
 use Rattle.course_laws.proofs.Fallbacks.{own as never-by-host}
 use Rattle.course_laws.proofs.Given.{given-untimed, ran-untimed}
 use Rattle.course_laws.proofs.Unbroken.{own-end-law, unbroken-law}
-use Rattle.job_run.specs.Worlds.{Spent}
+use Rattle.job_run.specs.Went.{Spent}
 use Rattle.job_run.proofs.Asking.{course-of, is-course}
 use Rattle.job_run.proofs.Tabled.{job-course}
 use Rattle.job_run.proofs.Lists.{slots-untimed}

@@ -8,7 +8,7 @@ use Rattle.farm_machine.specs.Devices.{devices}
 use Rattle.job_run.specs.Events.{try_events}
 use Rattle.job_run.specs.Seen.{seen, job_in, StaysFree}
 use Rattle.job_run.specs.Stages.{HasUntried}
-use Rattle.job_run.specs.Worlds.{WentOn}
+use Rattle.job_run.specs.Went.{WentOn}
 use Rattle.job_run.proofs.Asking.{stage}
 use Rattle.job_run.proofs.sending.ask_hosts.Given as goal
 

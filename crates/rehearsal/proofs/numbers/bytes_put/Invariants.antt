@@ -7,6 +7,6 @@ use Rattle.rehearsal.proofs.numbers.bytes_put.Given as goal
 
 abbrev pub invariant-loop-report : goal.invariant-loop-report
 invariant-loop-report l = record {
-  sum : l.bytes ≡ sum_by (counts.object_len (puts_of l.kits)) (take l.report-index l.reports);
+  sum : l.bytes ≡ sum_by (counts.report_len (puts_of l.kits)) (take l.report-index l.reports);
   small : l.bytes ≤ object_max * l.report-index;
 }

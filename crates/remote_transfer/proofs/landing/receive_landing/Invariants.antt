@@ -12,7 +12,7 @@ invariant-receiving g l =
       room : 0 < length l.room;
       small : length l.room ≤ 65536;
       shape : length l.room ≡ length l.fn.room;
-      into : ReceivingInto old now l.reader l.have l.course l.path (g.K.Keeper.shows l.fn.keeper) (g.K.Keeper.shows l.keeper);
+      into : ReceivingInto old now l.reader l.have l.state l.path (g.K.Keeper.shows l.fn.keeper) (g.K.Keeper.shows l.keeper);
       sent : Grew old.sent now.sent [];
       stopped : now.stopped ≡ old.stopped;
       follows : g.L.Link.follows l.fn.link l.link;

@@ -1,5 +1,5 @@
 use Rattle.std.proofs.Common.{◌-◌, vec_len}
-use Rattle.job_driver.proofs.crew.Desk.new.Given as goal
+use Rattle.job_driver.proofs.workers.Reserve.new.Given as goal
 
 abbrev pub decreases-taking : goal.decreases-taking
 decreases-taking l = l.jobs - vec_len l.rooms

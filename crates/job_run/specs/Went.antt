@@ -23,7 +23,7 @@ use Rattle.job_run.specs.Strict.{StrictReach}
 use Rattle.job_run.specs.Stands.{KeepsStill, KeeperStands, FetchEnds}
 
 -- a kit with its peers and programs, the worker's calls, and the events and next places
-pub record World : Type 1 where
+pub record Seen : Type 1 where
   pub kit : KitView
   pub peers : Peers
   pub programs : Programs
@@ -31,8 +31,8 @@ pub record World : Type 1 where
   pub events : List Event
   pub places : Places
 
-abbrev pub world : KitView → Peers → Programs → List CallEntry → List Event → Places → World
-world kit peers programs mine events places =
+abbrev pub seen_as : KitView → Peers → Programs → List CallEntry → List Event → Places → Seen
+seen_as kit peers programs mine events places =
     record { kit = kit; peers = peers; programs = programs; mine = mine; events = events; places = places }
 
 -- of each host the job took a slot before exactly where the place says so
@@ -44,7 +44,7 @@ HasTaken past (Sent host source note tried x) = (k : ℕ) → took k past ≡ (n
 HasTaken past at = Unit {0}
 
 -- The job came from one place to another by these acts, and these calls are what it asked of the slots.
-pub record Went {h : ℕ} (j : Job) (l : Limits h) (caller number : ℕ) (old new : World) (at to : At) : Type 0 where
+pub record Went {h : ℕ} (j : Job) (l : Limits h) (caller number : ℕ) (old new : Seen) (at to : At) : Type 0 where
   pub acts : List Act
   pub calls : List CallEntry
   pub did : DidIn old.kit new.kit (deeds_of acts)
@@ -63,13 +63,13 @@ pub record Went {h : ℕ} (j : Job) (l : Limits h) (caller number : ℕ) (old ne
 
 -- The job came from one place to another and goes on there: no count of the station rose, no overrun of the keeper, and without an exchange
 -- none of its faults.
-pub record WentOn {h : ℕ} (j : Job) (l : Limits h) (caller number : ℕ) (old new : World) (at to : At) : Type 0 where
+pub record WentOn {h : ℕ} (j : Job) (l : Limits h) (caller number : ℕ) (old new : Seen) (at to : At) : Type 0 where
   pub went : Went j l caller number old new at to
   pub station : NoneRose old.kit.station new.kit.station
   pub keeper : KeepsStill went.acts old.kit.keeper new.kit.keeper
 
 -- the job came from a place to a last one, where it may end so
-pub record Ended {h : ℕ} (j : Job) (l : Limits h) (caller number : ℕ) (old new : World) (at : At) (end : End) : Type 0 where
+pub record HasEnded {h : ℕ} (j : Job) (l : Limits h) (caller number : ℕ) (old new : Seen) (at : At) (end : End) : Type 0 where
   pub to : At
   pub went : Went j l caller number old new at to
   pub ends : Ends j to end

@@ -2,7 +2,7 @@
 ghost use Rattle.std.specs.Prelude.{◌≡◌, ℕ, ◌+◌, ◌<◌, ◌≤◌, [], ◌++◌, IfOk, length, map, reverse, slice_index_or, vec_len, vec_capacity};
 ghost use Rattle.std.specs.List.{flat_map};
 ghost use Rattle.farm_cell.specs.Passes.{limits_of};
-ghost use Rattle.job_driver.specs.Crews.{kit_of, pass_of, desk_of, reports_on, AreReady, AreSlotsFor, HasRoom, IsReady, HasWorked};
+ghost use Rattle.job_driver.specs.Workers.{kit_of, pass_of, reserve_of, reports_on, AreReady, AreSlotsFor, HasRoom, IsReady, HasWorked};
 ghost use Rattle.farm_machine.specs.Devices.{devices};
 ghost use Rattle.farm_machine.specs.Usable.{job_at};
 
@@ -20,31 +20,31 @@ use std::thread::Threads;
 
 /// Room for the events of each job that a worker may do, and for their reports.
 #[derive(Drop)]
-pub struct Desk {
+pub struct Reserve {
     pub rooms: Vec<EventRoom>,
     pub reports: Vec<Report>,
 }
 
-impl Desk {
+impl Reserve {
     /// Takes the room for so many jobs.
-    pub fn new(alloc: Global, jobs: usize) -> Result<Desk, AllocError>
-        ensures { IfOk result (λ desk. HasRoom jobs desk) }
+    pub fn new(alloc: Global, jobs: usize) -> Result<Reserve, AllocError>
+        ensures { IfOk result (λ reserve. HasRoom jobs reserve) }
     {
         let mut rooms = Vec::with_capacity(alloc, jobs)?;
         'taking: while rooms.len() < jobs {
             rooms.push(EventRoom::new(alloc)?)?;
         }
         let reports = Vec::with_capacity(alloc, jobs)?;
-        Ok(Desk { rooms, reports })
+        Ok(Reserve { rooms, reports })
     }
 }
 
-/// One worker: its kit, its pass of the shared slots, and its desk.
+/// One worker: its kit, its pass of the shared slots, and its reserve.
 #[derive(Drop)]
 pub struct Worker<D, S, K, C> {
     pub kit: Kit<D, S, K, C>,
     pub pass: Pass,
-    pub desk: Desk,
+    pub reserve: Reserve,
 }
 
 /// One worker does jobs until there are none.
@@ -67,7 +67,7 @@ fn work_over<R: Wait, D: Dialer, S: Station, K: Keeper, C: Clock>(
         plan,
         &mut held,
         &mut worker.kit,
-        &mut worker.desk,
+        &mut worker.reserve,
         &mut Unwatched,
     );
 }
@@ -104,78 +104,78 @@ where
     );
 }
 
-/// Each kit gets a pass and a desk. The room for the workers was taken before.
-pub fn hire<D: Drop, S: Drop, K: Drop, C: Drop>(
+/// Each kit gets a pass and a reserve. The room for the workers was taken before.
+pub fn set_up<D: Drop, S: Drop, K: Drop, C: Drop>(
     kits: &mut Vec<Kit<D, S, K, C>>,
     passes: &mut Vec<Pass>,
-    desks: &mut Vec<Desk>,
+    reserves: &mut Vec<Reserve>,
     workers: &mut Vec<Worker<D, S, K, C>>,
 )
-    requires long { (length passes.old.items ≡ length kits.old.items) × (length desks.old.items ≡ length kits.old.items) }
+    requires long { (length passes.old.items ≡ length kits.old.items) × (length reserves.old.items ≡ length kits.old.items) }
     requires none { workers.old.items ≡ [] }
     requires room { length kits.old.items ≤ vec_capacity workers.old }
     ensures kits { (kits.new.items ≡ []) × (map kit_of workers.new.items ≡ kits.old.items) }
     ensures passes { (passes.new.items ≡ []) × (map pass_of workers.new.items ≡ passes.old.items) }
-    ensures desks { (desks.new.items ≡ []) × (map desk_of workers.new.items ≡ desks.old.items) }
-    ensures room { (length workers.new.items ≤ vec_capacity kits.new) × (length workers.new.items ≤ vec_capacity passes.new) × (length workers.new.items ≤ vec_capacity desks.new) }
+    ensures reserves { (reserves.new.items ≡ []) × (map reserve_of workers.new.items ≡ reserves.old.items) }
+    ensures room { (length workers.new.items ≤ vec_capacity kits.new) × (length workers.new.items ≤ vec_capacity passes.new) × (length workers.new.items ≤ vec_capacity reserves.new) }
     ensures kept { vec_capacity kits.new ≡ vec_capacity kits.old }
 {
     while let Some(kit) = kits.pop() {
         let Some(pass) = passes.pop() else {
             unreachable!()
         };
-        let Some(desk) = desks.pop() else {
+        let Some(reserve) = reserves.pop() else {
             unreachable!()
         };
-        let Ok(()) = workers.push(Worker { kit, pass, desk }) else {
+        let Ok(()) = workers.push(Worker { kit, pass, reserve }) else {
             unreachable!()
         };
     }
     workers.reverse();
 }
 
-/// The kits, the passes and the desks go back to their places.
-pub fn dismiss<D: Drop, S: Drop, K: Drop, C: Drop>(
+/// The kits, the passes and the reserves go back to their places.
+pub fn take_down<D: Drop, S: Drop, K: Drop, C: Drop>(
     mut workers: Vec<Worker<D, S, K, C>>,
     kits: &mut Vec<Kit<D, S, K, C>>,
     passes: &mut Vec<Pass>,
-    desks: &mut Vec<Desk>,
+    reserves: &mut Vec<Reserve>,
 )
-    requires empty { (kits.old.items ≡ []) × (passes.old.items ≡ []) × (desks.old.items ≡ []) }
-    requires room { (length workers.items ≤ vec_capacity kits.old) × (length workers.items ≤ vec_capacity passes.old) × (length workers.items ≤ vec_capacity desks.old) }
+    requires empty { (kits.old.items ≡ []) × (passes.old.items ≡ []) × (reserves.old.items ≡ []) }
+    requires room { (length workers.items ≤ vec_capacity kits.old) × (length workers.items ≤ vec_capacity passes.old) × (length workers.items ≤ vec_capacity reserves.old) }
     ensures kits { kits.new.items ≡ map kit_of workers.items }
     ensures passes { passes.new.items ≡ map pass_of workers.items }
-    ensures desks { desks.new.items ≡ map desk_of workers.items }
+    ensures reserves { reserves.new.items ≡ map reserve_of workers.items }
     ensures kept { vec_capacity kits.old ≤ vec_capacity kits.new }
 {
     while let Some(worker) = workers.pop() {
-        let Worker { kit, pass, desk } = worker;
+        let Worker { kit, pass, reserve } = worker;
         let Ok(()) = kits.push(kit) else {
             unreachable!()
         };
         let Ok(()) = passes.push(pass) else {
             unreachable!()
         };
-        let Ok(()) = desks.push(desk) else {
+        let Ok(()) = reserves.push(reserve) else {
             unreachable!()
         };
     }
     kits.reverse();
     passes.reverse();
-    desks.reverse();
+    reserves.reverse();
 }
 
-/// Puts the reports of all desks together.
-pub fn gather(mut desks: Vec<Desk>, reports: &mut Vec<Report>)
+/// Puts the reports of all reserves together.
+pub fn gather(mut reserves: Vec<Reserve>, reports: &mut Vec<Report>)
     requires empty { reports.old.items ≡ [] }
-    requires room { length (flat_map reports_on desks.items) ≤ vec_capacity reports.old }
-    ensures { reports.new.items ≡ flat_map reports_on (reverse desks.items) }
+    requires room { length (flat_map reports_on reserves.items) ≤ vec_capacity reports.old }
+    ensures { reports.new.items ≡ flat_map reports_on (reverse reserves.items) }
 {
-    while let Some(desk) = desks.pop() {
-        let Desk {
+    while let Some(reserve) = reserves.pop() {
+        let Reserve {
             rooms: _,
             reports: mut own,
-        } = desk;
+        } = reserve;
         let Ok(()) = reports.append(&mut own) else {
             unreachable!()
         };
