@@ -178,21 +178,39 @@ const NAMED: &[(Step, bool)] = &[
     (Step::Remove(b"./x.o.farm~"), true),
 ];
 
+/// What a file that is being written has, under which name, and that it gets the mode of a new one.
+fn expect_written<R: Abort + Files + AllocGlobal>(rt: &R) -> Result<(), Fail> {
+    expect_text(rt, "./farm-5-2.farm~", "abc")?;
+    expect_same_mode(rt, "./farm-5-2.farm~", "x.o.farm~")
+}
+
+/// A file is written and gets its name.
+fn write_and_name<R: Abort + Files + AllocGlobal, F: FileCalls>(
+    rt: &R,
+    files: &mut F,
+) -> Result<(), Fail> {
+    expect_steps(rt, rt.alloc(), files, WRITTEN);
+    expect_written(rt)?;
+    expect_steps(rt, rt.alloc(), files, NAMED);
+    expect_loaded(rt, rt.alloc(), files)
+}
+
+/// What others had written is as it was, and nothing else is left.
+fn expect_others<R: Abort + Files + AllocGlobal>(rt: &R) -> Result<(), Fail> {
+    expect_text(rt, "farm-5-1.farm~", "planted")?;
+    expect_text(rt, "x.o.farm~", "stale")?;
+    assert!(rt; !fs::exists(rt, "farm-5-2.farm~")?);
+    assert!(rt; !fs::exists(rt, "farm-5-3.farm~")?);
+    Ok(())
+}
+
 #[test]
 fn a_file_is_written_under_a_new_name(rt: HostRuntime) -> Result<(), Fail> {
     fs::write(&rt, "farm-5-1.farm~", "planted")?;
     fs::write(&rt, "x.o.farm~", "stale")?;
     let mut files = files(rt, 5)?;
-    expect_steps(&rt, rt.alloc(), &mut files, WRITTEN);
-    expect_text(&rt, "./farm-5-2.farm~", "abc")?;
-    expect_same_mode(&rt, "./farm-5-2.farm~", "x.o.farm~")?;
-    expect_steps(&rt, rt.alloc(), &mut files, NAMED);
-    expect_loaded(&rt, rt.alloc(), &mut files)?;
-    expect_text(&rt, "farm-5-1.farm~", "planted")?;
-    expect_text(&rt, "x.o.farm~", "stale")?;
-    assert!(rt; !fs::exists(&rt, "farm-5-2.farm~")?);
-    assert!(rt; !fs::exists(&rt, "farm-5-3.farm~")?);
-    Ok(())
+    write_and_name(&rt, &mut files)?;
+    expect_others(&rt)
 }
 
 const KEPT: &[Put] = &[

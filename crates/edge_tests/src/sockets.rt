@@ -170,6 +170,60 @@ fn a_client_that_was_sent_nothing_is_left_at_once(rt: HostRuntime) -> Result<(),
     Ok(())
 }
 
+/// A link over which these bytes were sent.
+fn dial_with<D: Dialer>(
+    alloc: Global,
+    dialer: &mut D,
+    host: &HostName,
+    port: u16,
+    bytes: &[u8],
+) -> Result<D::Link, EdgeFault>
+where
+    D::Link: Drop,
+{
+    let mut link = dialer.dial(alloc, host, port)?;
+    if !bytes.is_empty() {
+        link.send(bytes)?;
+    }
+    Ok(link)
+}
+
+/// Serves the client that is handed out next, and answers how many bytes it had sent.
+fn serve_next<D: Door>(alloc: Global, door: &mut D) -> Option<usize>
+where
+    D::Link: Drop,
+{
+    let (mut link, _) = door.accept(alloc).ok()?;
+    let given = link.recv(&mut [0u8; 20]).ok();
+    door.leave(link);
+    given
+}
+
+/// Three clients, of which one is silent and one has begun, and what the door saw of each in the order of its serving.
+fn serve_three<D: Dialer, A: Door>(
+    alloc: Global,
+    dialer: &mut D,
+    door: &mut A,
+    host: &HostName,
+    port: u16,
+) -> Result<[Option<usize>; 3], EdgeFault>
+where
+    D::Link: Drop,
+    A::Link: Drop,
+{
+    let silent = dial_with(alloc, dialer, host, port, b"")?;
+    let mut slow = dial_with(alloc, dialer, host, port, b"DIST00000001ARGC")?;
+    let ready = dial_with(alloc, dialer, host, port, b"GET")?;
+    let first = serve_next(alloc, door);
+    slow.send(b"x")?;
+    let second = serve_next(alloc, door);
+    dialer.hang_up(silent);
+    let third = serve_next(alloc, door);
+    dialer.hang_up(slow);
+    dialer.hang_up(ready);
+    Ok([first, second, third])
+}
+
 #[test]
 fn a_silent_client_and_one_that_began_hold_no_door(rt: HostRuntime) -> Result<(), Fail> {
     let alloc = rt.alloc();
@@ -178,25 +232,8 @@ fn a_silent_client_and_one_that_began_hold_no_door(rt: HostRuntime) -> Result<()
     let port = door.port().ok_or("port")?;
     let mut dialer = TcpDialer::new(rt, Notices::Never);
     let name = host(alloc, b"127.0.0.1")?;
-    let silent = dialer.dial(alloc, &name, port)?;
-    let mut slow = dialer.dial(alloc, &name, port)?;
-    slow.send(b"DIST00000001ARGC")?;
-    let mut ready = dialer.dial(alloc, &name, port)?;
-    ready.send(b"GET")?;
-    let (mut link, _) = door.accept(alloc)?;
-    let mut room = [0u8; 20];
-    assert_eq!(rt; link.recv(&mut room)?, 3);
-    door.leave(link);
-    slow.send(b"x")?;
-    let (mut link, _) = door.accept(alloc)?;
-    assert_eq!(rt; link.recv(&mut room)?, 17);
-    door.leave(link);
-    dialer.hang_up(silent);
-    let (mut link, _) = door.accept(alloc)?;
-    assert_eq!(rt; link.recv(&mut room)?, 0);
-    door.leave(link);
-    dialer.hang_up(slow);
-    dialer.hang_up(ready);
+    let seen = serve_three(alloc, &mut dialer, &mut door, &name, port)?;
+    assert_eq!(rt; seen, [Some(3), Some(17), Some(0)]);
     Ok(())
 }
 
