@@ -1,14 +1,13 @@
 -- Taking bytes of a token and of a body.
-use Rattle.std.proofs.Common.{◌≡◌, ℕ, zero, suc, ◌+◌, ◌*◌, ◌<◌, ◌≤◌, List, [], ◌∷◌, ◌++◌, length, get_or, take, drop, refl, sym, ap, subst, ◌∙◌, append_assoc, arith, inl, inr}
+use Rattle.std.proofs.Common.{◌≡◌, ℕ, zero, suc, ◌+◌, ◌*◌, ◌<◌, ◌≤◌, List, [], ◌∷◌, ◌++◌, length, get_or, take, refl, sym, ap, subst, ◌∙◌, append_assoc, arith, inl, inr}
 use Rattle.std.specs.Prelude.{sum_by}
-use Rattle.std.proofs.lemmas.List.{append-nil, take-append-drop}
-use Rattle.std.proofs.Math.Seq.{take-add}
+use Rattle.std.proofs.lemmas.List.{append-nil}
 use Rattle.std.proofs.lemmas.List.Sums.{sum_by-cons}
 use Rattle.wire_tokens.specs.declared.faults.RequestFault.{RequestFault}
 use Rattle.wire_tokens.specs.Format.{Field, Stands, Progress}
 use Rattle.wire_tokens.specs.Request.{request_format, SpellsRequest, word_fields}
 use Rattle.wire_tokens.specs.Step.{step_of, refuses}
-use Rattle.wire_tokens.proofs.Progress.{progress-stands}
+use Rattle.wire_tokens.proofs.PartialTokens.{progress-longer, longer-stands}
 use Rattle.wire_tokens.proofs.Longer.{stands-longer}
 use Rattle.wire_tokens.proofs.Readings.{fields_len}
 use Rattle.wire_tokens.proofs.Request.{four_request}
@@ -42,30 +41,22 @@ in_body p h lt = elim h.phase [ inl t ↦ let none = t.nothing_left in absurd (o
 -- the same fields, and some bytes more
 pub placed_more : (old new : Partial) (bytes : List ℕ) → fields_of old ≡ fields_of new → bytes_of new ≡ bytes_of old ++ bytes → (text : List ℕ) → IsPlaced old text → IsPlaced new (text ++ bytes)
 placed_more old new bytes fields same text g =
-    let more : Progress request_format (text ++ bytes) (fields_of old) (bytes_of old ++ bytes) = record {
-      front = g.front;
-      is_front = g.is_front;
-      parts = ap (λ (x : List ℕ). x ++ bytes) g.parts ∙ append_assoc g.front (bytes_of old) bytes;
-    } in
-    subst (λ (x : List Field × List ℕ). Progress request_format (text ++ bytes) x.0 x.1) (ap (λ (x : List Field). (x, bytes_of old ++ bytes)) fields ∙ ap (λ (x : List ℕ). (fields_of new, x)) (sym same)) more
+    subst (λ (x : List Field × List ℕ). Progress request_format (text ++ bytes) x.0 x.1) (ap (λ (x : List Field). (x, bytes_of old ++ bytes)) fields ∙ ap (λ (x : List ℕ). (fields_of new, x)) (sym same))
+    (progress-longer request_format text (fields_of old) (bytes_of old) bytes g)
 
 -- a byte at the end of a token
-pub token_more : (items body : List ℕ) (byte : ℕ) → body ≡ [] → (items ++ byte ∷ []) ++ body ≡ (items ++ body) ++ byte ∷ []
-token_more items body byte e = ap (λ (x : List ℕ). (items ++ byte ∷ []) ++ x) e ∙ append-nil (items ++ byte ∷ []) ∙ ap (λ (x : List ℕ). x ++ byte ∷ []) (sym (append-nil items) ∙ ap (λ (x : List ℕ). items ++ x) (sym e))
+pub token_more : (token body : List ℕ) (byte : ℕ) → body ≡ [] → (token ++ byte ∷ []) ++ body ≡ (token ++ body) ++ byte ∷ []
+token_more token body byte none = rw (none, append-nil token) (append-nil (token ++ byte ∷ []))
 
 -- a fault in the token that a byte more gives
-pub fault_stands : (p : Partial) (token : List ℕ) (byte at k : ℕ) (fault : RequestFault) → Holds p → p.left ≡ 0 → token ≡ p.token.items ++ byte ∷ [] → at ≡ bytes_before p.part (length p.words) p.together → step_of request_format (due_in p) token ≡ refuses k fault
-    → (text : List ℕ) → IsPlaced p text → Stands request_format (text ++ byte ∷ []) (at + k) fault
-fault_stands p token byte at k fault h left is place s text g =
+pub fault_stands : (p : Partial) (token : List ℕ) (byte at place : ℕ) (fault : RequestFault) → Holds p → p.left ≡ 0 → token ≡ p.token ++ byte ∷ [] → at ≡ bytes_before p.part (length p.words) p.together
+    → step_of request_format (due_in p) token ≡ refuses place fault → (text : List ℕ) → IsPlaced p text → Stands request_format (text ++ byte ∷ []) (at + place) fault
+fault_stands p token byte at place fault h left is here s text g =
     let t = in_token p h left in
-    let bytes : bytes_of p ++ byte ∷ [] ≡ token = sym (token_more p.token.items p.body byte t.no_body) ∙ ap (λ (x : List ℕ). (p.token.items ++ byte ∷ []) ++ x) t.no_body ∙ append-nil (p.token.items ++ byte ∷ []) ∙ sym is in
-    let more : Progress request_format (text ++ byte ∷ []) (fields_of p) token = record {
-      front = g.front;
-      is_front = g.is_front;
-      parts = ap (λ (x : List ℕ). x ++ byte ∷ []) g.parts ∙ append_assoc g.front (bytes_of p) (byte ∷ []) ∙ ap (λ (x : List ℕ). g.front ++ x) bytes;
-    } in
-    let where_it_is : fields_len (fields_of p) ≡ at = fields_len-before p.part p.count p.words p.together h.counts.sum ∙ sym place in
-    subst (λ (i : ℕ). Stands request_format (text ++ byte ∷ []) (i + k) fault) where_it_is (progress-stands request_format four_request (text ++ byte ∷ []) (fields_of p) token (due_in p) k fault more (due_is p h.counts) s)
+    let bytes : token ≡ bytes_of p ++ byte ∷ [] = is ∙ sym (append-nil (p.token ++ byte ∷ [])) ∙ ap (λ (x : List ℕ). (p.token ++ byte ∷ []) ++ x) (sym t.no_body) ∙ token_more p.token p.body byte t.no_body in
+    let where_it_is : fields_len (fields_of p) ≡ at = fields_len-before p.part p.count p.words p.together h.counts.sum ∙ sym here in
+    subst (λ (i : ℕ). Stands request_format (text ++ byte ∷ []) (i + place) fault) where_it_is
+    (longer-stands request_format four_request text (fields_of p) (due_in p) (bytes_of p) (byte ∷ []) place fault g (due_is p h.counts) (ap (step_of request_format (due_in p)) (sym bytes) ∙ s))
 
 -- the end of a field after some bytes
 pub finished : (old mid new : Partial) (piece : List ℕ) (n : ℕ) (turn : Turn) → n ≤ length piece → ((text : List ℕ) → IsPlaced old text → IsPlaced mid (text ++ take n piece)) → Finishes mid new n turn → Says old new piece turn
@@ -87,9 +78,3 @@ one_byte old new (b ∷ piece) byte (Bad at fault) lt e s = λ text g.
     let one : Stands request_format (text ++ b ∷ []) at fault = subst (λ (x : ℕ). Stands request_format (text ++ x ∷ []) at fault) e (s text g) in
     subst (λ (x : List ℕ). Stands request_format x at fault) (append_assoc text (b ∷ []) piece) (stands-longer request_format four_request (text ++ b ∷ []) piece at fault one)
 one_byte old new (b ∷ piece) byte Memory lt e s = tt
-
-pub join : (text piece : List ℕ) (i k : ℕ) → (text ++ take i piece) ++ take k (drop i piece) ≡ text ++ take (i + k) piece
-join text piece i k = append_assoc text (take i piece) (take k (drop i piece)) ∙ ap (λ (x : List ℕ). text ++ x) (sym (take-add i k piece))
-
-pub join_all : (text piece : List ℕ) (i : ℕ) → (text ++ take i piece) ++ drop i piece ≡ text ++ piece
-join_all text piece i = append_assoc text (take i piece) (drop i piece) ∙ ap (λ (x : List ℕ). text ++ x) (take-append-drop i piece)

@@ -2,17 +2,13 @@
 use Rattle.std.proofs.Common.{◌≡◌, ℕ, ◌+◌, ◌≤◌, eqb, List, [], ◌∷◌, ◌++◌, length, Some, None, refl, sym, ap, subst, ◌∙◌, arith, inl, inr}
 use Rattle.std.specs.Prelude.{nat_le, sum_by, ◌⊎◌, ◌≢◌}
 use Rattle.std.proofs.lemmas.Bool.{leb-true, eqb-true}
-use Rattle.std.proofs.lemmas.List.{append-nil, nil_from_length, length-append, take_all}
+use Rattle.std.proofs.lemmas.List.{append-nil, nil_from_length, length-append}
 use Rattle.std.proofs.lemmas.List.Sums.{sum_by_push}
 use Rattle.farm_types.specs.declared.request.Request.{Request}
 use Rattle.wire_tokens.specs.declared.faults.RequestFault.{RequestFault}
-use Rattle.wire_tokens.specs.declared.token.Scan.TheVariants.{Short}
-use Rattle.wire_tokens.specs.Token.{IsToken}
-use Rattle.wire_tokens.specs.Scan.{scan_of}
-use Rattle.wire_tokens.specs.Format.{Field, Due, IsField, Progress}
+use Rattle.wire_tokens.specs.Format.{Field, Due, Progress}
 use Rattle.wire_tokens.specs.Request.{request_format, request_due, SpellsRequest, dist_field, argc_field, word_fields}
-use Rattle.wire_tokens.proofs.Tokens.{common_prefix_len-nil, token-scan}
-use Rattle.wire_tokens.proofs.Progress.{front-more}
+use Rattle.wire_tokens.proofs.PartialTokens.{none-short, field-whole, progress-field}
 use Rattle.wire_tokens.proofs.Fields.{allowed, allowed_twice}
 use Rattle.wire_tokens.proofs.Request.{four_request, request_fields, length-word_fields, bodies_len-word_fields, word_fields-push, due_word, due_source, due_none, count_is, front-spelled, same_request}
 use Rattle.compile_request.specs.Parts.{due_of, fields_before, IsAtPart}
@@ -33,22 +29,18 @@ due_before Doti count words together at sum = due_source dist_field (argc_field 
 pub due_is : (p : Partial) → Counts p → request_due (fields_of p) ≡ Some (due_in p)
 due_is p counts = due_before p.part p.count p.words p.together counts.at_part counts.sum
 
-pub scan_of-nil : (name : List ℕ) → scan_of name [] ≡ Short
-scan_of-nil name = rw (common_prefix_len-nil name) refl
-
 -- where nothing has come of the next field
-pub holds_afresh : (p : Partial) → Counts p → p.left ≡ 0 → p.body ≡ [] → p.token.items ≡ [] → Holds p
+pub holds_afresh : (p : Partial) → Counts p → p.left ≡ 0 → p.body ≡ [] → p.token ≡ [] → Holds p
 holds_afresh p counts left body token = record {
   counts = counts;
   phase = inl (record {
     nothing_left = left;
     no_body = body;
-    partial = rw token (omega arith);
-    short = ap (scan_of (due_in p).name) token ∙ scan_of-nil (due_in p).name;
+    token = none-short (due_in p) p.token token;
   });
 }
 
-pub placed_afresh : (p : Partial) (text : List ℕ) (fields : List Field) → p.body ≡ [] → p.token.items ≡ [] → fields ≡ fields_of p → Progress request_format text fields [] → IsPlaced p text
+pub placed_afresh : (p : Partial) (text : List ℕ) (fields : List Field) → p.body ≡ [] → p.token ≡ [] → fields ≡ fields_of p → Progress request_format text fields [] → IsPlaced p text
 placed_afresh p text fields body token same g =
     let bytes : [] ≡ bytes_of p = sym (ap (λ (x : List ℕ). x ++ p.body) token ∙ body) in
     subst (λ (x : List Field × List ℕ). Progress request_format text x.0 x.1) (ap (λ (x : List Field). (x, [])) same ∙ ap (λ (x : List ℕ). (fields_of p, x)) bytes) g
@@ -61,14 +53,8 @@ pub field_done : (p : Partial) (n : ℕ) → IsReady p n → (text : List ℕ) �
 field_done p n r text g =
     let due : Due RequestFault = due_in p in
     let e : request_due (fields_of p) ≡ Some due = due_is p r.counts in
-    let t = token-scan due.name n p.token.items (four_request (fields_of p) due e) r.has_token.number in
-    let token : IsToken due.name n p.token.items = subst (IsToken due.name n) (take_all 12 p.token.items (omega (arith, r.has_token.whole))) t.0 in
-    let f : IsField due (done_field n p.body) (bytes_of p) = record { token = p.token.items; is_token = token; right = r.has_token.right; sized = sym r.no_more; parts = refl } in
-    record {
-      front = g.front ++ bytes_of p;
-      is_front = front-more request_format [] (fields_of p) g.front due (done_field n p.body) (bytes_of p) g.is_front e f;
-      parts = g.parts ∙ sym (append-nil (g.front ++ bytes_of p));
-    }
+    progress-field request_format text (fields_of p) due (done_field n p.body) (bytes_of p) g e
+    (field-whole due p.token p.body n (four_request (fields_of p) due e) r.token (sym r.no_more))
 
 -- ---- by the part
 
@@ -81,12 +67,12 @@ placed_at p part text e g = subst (λ (x : Part). IsPlaced (record p { part = x 
 Goes : Partial → Partial → Type 0
 Goes old new = Holds new × ((text : List ℕ) → IsPlaced old text → IsPlaced new text)
 
-pub after_dist : (old new : Partial) (n : ℕ) → old.part ≡ Dist → IsReady old n → new.part ≡ Argc → new.together ≡ old.together → new.words ≡ old.words → new.left ≡ 0 → new.body ≡ [] → new.token.items ≡ []
+pub after_dist : (old new : Partial) (n : ℕ) → old.part ≡ Dist → IsReady old n → new.part ≡ Argc → new.together ≡ old.together → new.words ≡ old.words → new.left ≡ 0 → new.body ≡ [] → new.token ≡ []
     → Holds new × ((text : List ℕ) → IsPlaced old text → IsPlaced new text)
 after_dist old new n is r part together words left body token =
     let q = at_part old n Dist is r in
     let none : old.words ≡ [] = q.counts.at_part in
-    let one : n ≡ 1 = eqb-true n 1 (allowed (eqb n 1) _ q.has_token.right) in
+    let one : n ≡ 1 = eqb-true n 1 (allowed (eqb n 1) _ q.token.right) in
     let bare : old.body ≡ [] = nil_from_length old.body (sym q.no_more) in
     let counts : Counts new = record {
       at_part = subst (λ (x : Part). IsAtPart x new.count new.words) (sym part) (words ∙ none);
@@ -103,12 +89,12 @@ after_count : (k : ℕ) (words : List (List ℕ)) → words ≡ [] → dist_fiel
 unfolding word_fields
 after_count k words e = ap (λ (x : List (List ℕ)). dist_field ∷ argc_field k ∷ word_fields x) (sym e)
 
-pub after_argc : (old new : Partial) (n : ℕ) → old.part ≡ Argc → IsReady old n → new.part ≡ Argv → new.count ≡ n → new.together ≡ old.together → new.words ≡ old.words → new.left ≡ 0 → new.body ≡ [] → new.token.items ≡ []
+pub after_argc : (old new : Partial) (n : ℕ) → old.part ≡ Argc → IsReady old n → new.part ≡ Argv → new.count ≡ n → new.together ≡ old.together → new.words ≡ old.words → new.left ≡ 0 → new.body ≡ [] → new.token ≡ []
     → Holds new × ((text : List ℕ) → IsPlaced old text → IsPlaced new text)
 after_argc old new n is r part count together words left body token =
     let q = at_part old n Argc is r in
     let none : old.words ≡ [] = q.counts.at_part in
-    let rule = count_is (nat_le 1 n) (nat_le n 1024) _ q.has_token.right in
+    let rule = count_is (nat_le 1 n) (nat_le n 1024) _ q.token.right in
     let low : 1 ≤ n = leb-true 1 n rule.0 in
     let high : n ≤ 1024 = leb-true n 1024 rule.1 in
     let bare : old.body ≡ [] = nil_from_length old.body (sym q.no_more) in
@@ -126,14 +112,14 @@ after_argc old new n is r part count together words left body token =
       λ text g. placed_afresh new text (dist_field ∷ done_field n old.body ∷ []) body token fields (field_done (record old { part = Argc }) n q text (placed_at old Argc text is g)),
     )
 
-pub after_argv : (old new : Partial) (n : ℕ) → old.part ≡ Argv → IsReady old n → new.count ≡ old.count → new.together ≡ old.together + length old.body → new.words ≡ old.words ++ old.body ∷ [] → new.left ≡ 0 → new.body ≡ [] → new.token.items ≡ []
+pub after_argv : (old new : Partial) (n : ℕ) → old.part ≡ Argv → IsReady old n → new.count ≡ old.count → new.together ≡ old.together + length old.body → new.words ≡ old.words ++ old.body ∷ [] → new.left ≡ 0 → new.body ≡ [] → new.token ≡ []
     → (new.part ≡ Argv) × (length new.words ≢ new.count) ⊎ (new.part ≡ Doti) × (length new.words ≡ new.count)
     → Holds new × ((text : List ℕ) → IsPlaced old text → IsPlaced new text)
 after_argv old new n is r count together words left body token part =
     let q = at_part old n Argv is r in
     let at : IsAtPart Argv old.count old.words = q.counts.at_part in
     let is_n : n ≡ length old.body = q.no_more in
-    let rule = allowed_twice (nat_le n 65536) (nat_le (old.together + n) 1048576) _ _ q.has_token.right in
+    let rule = allowed_twice (nat_le n 65536) (nat_le (old.together + n) 1048576) _ _ q.token.right in
     let small : old.together + n ≤ 1048576 = leb-true (old.together + n) 1048576 rule.1 in
     let len : length new.words ≡ length old.words + 1 = ap length words ∙ length-append old.words (old.body ∷ []) in
     let sum : new.together ≡ sum_by length new.words = together ∙ ap (λ (k : ℕ). k + length old.body) r.counts.sum ∙ sym (ap (sum_by length) words ∙ sum_by_push length old.words old.body) in

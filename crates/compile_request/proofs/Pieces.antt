@@ -5,8 +5,8 @@ use Rattle.std.proofs.Math.Seq.{take-append-add}
 use Rattle.farm_types.specs.declared.request.Request.{Request}
 use Rattle.wire_tokens.specs.Step.{step_of, wants}
 use Rattle.wire_tokens.specs.Request.{request_format, SpellsRequest, BeginsRequest, IsShortRequest}
-use Rattle.wire_tokens.proofs.Tokens.{number-longer}
-use Rattle.wire_tokens.proofs.Steps.{step-short, step-partial}
+use Rattle.wire_tokens.proofs.Steps.{step-short}
+use Rattle.wire_tokens.proofs.PartialTokens.{body-wanted}
 use Rattle.wire_tokens.proofs.Readings.{short}
 use Rattle.wire_tokens.proofs.Progress.{progress-reads}
 use Rattle.wire_tokens.proofs.Texts.{reads-short}
@@ -20,15 +20,12 @@ wants_more : (p : Partial) → Holds p → step_of request_format (due_in p) (by
 wants_more p h =
     elim h.phase [
       | inl t ↦
-          let same : bytes_of p ≡ p.token.items = ap (λ (x : List ℕ). p.token.items ++ x) t.no_body ∙ append-nil p.token.items in
-          ap (step_of request_format (due_in p)) same ∙ step-short request_format (due_in p) p.token.items t.short
+          let same : bytes_of p ≡ p.token = ap (λ (x : List ℕ). p.token ++ x) t.no_body ∙ append-nil p.token in
+          ap (step_of request_format (due_in p)) same ∙ step-short request_format (due_in p) p.token t.token.short
       | inr b ↦
-          let t = b.has_token in
           let missing = b.missing in
           let some = b.some_left in
-          let whole = t.whole in
-          let scan = number-longer (due_in p).name p.token.items p.body p.number (four_request (fields_of p) (due_in p) (due_is p h.counts)) t.number in
-          step-partial request_format (due_in p) (bytes_of p) p.number scan t.right (omega (arith, length-append p.token.items p.body))
+          body-wanted request_format (due_in p) p.token p.body p.number (four_request (fields_of p) (due_in p) (due_is p h.counts)) b.token (omega arith)
     ]
 
 pub short_there : (p : Partial) → Holds p → (text : List ℕ) → IsPlaced p text → IsShortRequest text

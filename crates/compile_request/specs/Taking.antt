@@ -1,9 +1,8 @@
 -- What a reader has taken of a request, and what it makes of more bytes.
-use Rattle.std.specs.Prelude.{ℕ, ◌≡◌, ◌<◌, ◌≤◌, ◌+◌, ◌⊎◌, List, [], ◌++◌, length, take, sum_by, None}
+use Rattle.std.specs.Prelude.{ℕ, ◌≡◌, ◌<◌, ◌≤◌, ◌+◌, ◌⊎◌, List, [], ◌++◌, length, take, sum_by}
 use Rattle.wire_tokens.specs.declared.faults.RequestFault.{RequestFault}
-use Rattle.wire_tokens.specs.declared.token.Scan.TheVariants.{Number, Short}
-use Rattle.wire_tokens.specs.Scan.{scan_of}
 use Rattle.wire_tokens.specs.Format.{Field, Due, body_len, Stands, Progress}
+use Rattle.wire_tokens.specs.Partial.{IsShortToken, IsDueToken}
 use Rattle.wire_tokens.specs.Request.{request_format, SpellsRequest}
 use Rattle.compile_request.specs.Parts.{due_of, fields_before, IsAtPart}
 use Rattle.compile_request.specs.declared.partial.Partial.{Partial}
@@ -15,7 +14,7 @@ abbrev pub fields_of : Partial → List Field
 fields_of p = fields_before p.part p.count p.words
 
 abbrev pub bytes_of : Partial → List ℕ
-bytes_of p = p.token.items ++ p.body
+bytes_of p = p.token ++ p.body
 
 abbrev pub due_in : Partial → Due RequestFault
 due_in p = due_of p.part p.together
@@ -33,18 +32,11 @@ pub record Counts (p : Partial) : Type 0 where
 pub record InToken (p : Partial) : Type 0 where
   pub nothing_left : p.left ≡ 0
   pub no_body : p.body ≡ []
-  pub partial : length p.token.items < 12
-  pub short : scan_of (due_in p).name p.token.items ≡ Short
-
--- the token is there, of this number, which is right
-pub record HasToken (p : Partial) (n : ℕ) : Type 0 where
-  pub whole : length p.token.items ≡ 12
-  pub number : scan_of (due_in p).name p.token.items ≡ Number n
-  pub right : (due_in p).refused n ≡ None
+  pub token : IsShortToken (due_in p) p.token
 
 -- its body is on its way
 pub record InBody (p : Partial) : Type 0 where
-  pub has_token : HasToken p p.number
+  pub token : IsDueToken (due_in p) p.token p.number
   pub missing : body_len (due_in p) p.number ≡ length p.body + p.left
   pub some_left : 0 < p.left
 
@@ -56,7 +48,7 @@ pub record Holds (p : Partial) : Type 0 where
 -- a field is whole
 pub record IsReady (p : Partial) (n : ℕ) : Type 0 where
   pub counts : Counts p
-  pub has_token : HasToken p n
+  pub token : IsDueToken (due_in p) p.token n
   pub no_more : body_len (due_in p) n ≡ length p.body
 
 -- What a turn makes of the bytes that it takes from the front of a piece.

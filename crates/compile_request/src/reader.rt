@@ -11,7 +11,7 @@ use crate::partial::{Partial, Turn, run};
 use farm_types::{Bytes, Request, Words};
 use std::alloc::Global;
 use std::marker::Model;
-use wire_tokens::RequestFault;
+use wire_tokens::{PartialToken, RequestFault};
 
 /// What a piece came to.
 #[derive(Debug, Drop)]
@@ -62,7 +62,7 @@ impl RequestReader {
             count: 0,
             together: 0,
             words: Words::new(alloc),
-            token: Vec::new(alloc),
+            token: PartialToken::new(),
             number: 0,
             left: 0,
             body: Bytes::new(alloc),

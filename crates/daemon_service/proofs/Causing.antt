@@ -47,5 +47,5 @@ replied_station (Refused at fault) text status old new before after done none = 
 replied_station (Cut have) text status old new before after done none = none
 replied_station LinkFault text status old new before after done none = none
 replied_station Stopped text status old new before after done none = none
-replied_station StationFault text status old new before after done none = absurd done.1
+replied_station StationFault text status old new before after done none = absurd done
 replied_station Memory text status old new before after done none = none

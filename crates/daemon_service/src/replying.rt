@@ -1,42 +1,17 @@
 //! Writing the reply of a connection.
 
-ghost use Rattle.std.specs.Prelude.{◌≡◌, [], OnOk, IfErr};
+ghost use Rattle.std.specs.Prelude.{◌≡◌, []};
 ghost use Rattle.farm_types.specs.Fits.{OutcomeFits};
 ghost use Rattle.wire_tokens.specs.Reply.{reply_text};
 ghost use Rattle.edge_traits.specs.Told.{Grew};
-ghost use Rattle.edge_traits.specs.Causes.{Still};
 ghost use Rattle.daemon_service.specs.Services.{LinkCause};
-ghost use Rattle.daemon_service.specs.Parts.{SentPart, SendStops, Replied};
+ghost use Rattle.daemon_service.specs.Parts.{Replied};
 
 use crate::Served;
 use compile_reply::{encode, encode_head};
-use edge_traits::{EdgeFault, Link};
+use edge_traits::{Link, send_all};
 use farm_types::Outcome;
 use std::alloc::Global;
-
-// Sends all the bytes.
-fn send_all<L: Link>(link: &mut L, bytes: &[u8]) -> Result<(), Served>
-    ensures all { OnOk result (Grew (L.shows link.old).sent (L.shows link.new).sent bytes.now) }
-    ensures running { OnOk result ((L.shows link.new).stopped ≡ (L.shows link.old).stopped) }
-    ensures part { IfErr result (λ _. SentPart bytes.now (L.shows link.old).sent (L.shows link.new).sent) }
-    ensures stops { IfErr result (SendStops (L.shows link.old) (L.shows link.new)) }
-    ensures given { Grew (L.shows link.old).given (L.shows link.new).given [] }
-    ensures ended { (L.shows link.new).ended ≡ (L.shows link.old).ended }
-    ensures follows { L.follows link.old link.new }
-    ensures done { OnOk result (Still (L.shows link.old).faults (L.shows link.new).faults) }
-    ensures cause { IfErr result (λ served. LinkCause served (L.shows link.old).faults (L.shows link.new).faults) }
-{
-    let mut sent = 0;
-    while sent < bytes.len() {
-        match link.send(&bytes[sent..]) {
-            Ok(0) => return Err(Served::Stopped),
-            Ok(count) => sent += count,
-            Err(EdgeFault::Failed) => return Err(Served::LinkFault),
-            Err(EdgeFault::Memory) => return Err(Served::Memory),
-        }
-    }
-    Ok(())
-}
 
 // Makes the whole text of a reply, and then sends it at once.
 fn reply_whole<L: Link>(alloc: Global, link: &mut L, outcome: &Outcome) -> Served
@@ -52,7 +27,7 @@ fn reply_whole<L: Link>(alloc: Global, link: &mut L, outcome: &Outcome) -> Serve
     };
     match send_all(link, text.as_slice()) {
         Ok(()) => Served::Answered(outcome.status),
-        Err(served) => served,
+        Err(fault) => Served::from(fault),
     }
 }
 
@@ -68,12 +43,12 @@ fn reply_apart<L: Link>(alloc: Global, link: &mut L, outcome: &Outcome) -> Serve
     let Ok(head) = encode_head(alloc, outcome) else {
         return Served::Memory;
     };
-    if let Err(served) = send_all(link, head.as_slice()) {
-        return served;
+    if let Err(fault) = send_all(link, head.as_slice()) {
+        return Served::from(fault);
     }
     match send_all(link, outcome.object.as_slice()) {
         Ok(()) => Served::Answered(outcome.status),
-        Err(served) => served,
+        Err(fault) => Served::from(fault),
     }
 }
 

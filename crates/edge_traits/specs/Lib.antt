@@ -2,6 +2,7 @@ pub mod Calls
 pub mod Told
 pub mod Causes
 pub mod Links
+pub mod Sends
 pub mod Dialers
 pub mod Stations
 pub mod FileMaps

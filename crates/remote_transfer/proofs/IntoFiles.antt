@@ -15,7 +15,9 @@ use Rattle.edge_traits.specs.declared.cause.Cause.TheVariants.{Dial, Send, Recv,
 use Rattle.remote_transfer.specs.declared.answers.Landing.{Landing}
 use Rattle.remote_transfer.specs.declared.answers.Stop.{Stop}
 use Rattle.remote_transfer.specs.declared.answers.Stop.TheVariants.{Broke, Memory}
-use Rattle.remote_transfer.specs.Answers.{answer_of, landed_of}
+use Rattle.edge_traits.specs.declared.sending.SendFault.{SendFault}
+use Rattle.edge_traits.specs.declared.sending.SendFault.TheVariants as sends
+use Rattle.remote_transfer.specs.Answers.{answer_of, landed_of, stop_of}
 use Rattle.remote_transfer.specs.Attempts.{Adds, DialCause}
 use Rattle.remote_transfer.specs.declared.landing.ObjectState.{ObjectState}
 use Rattle.remote_transfer.specs.declared.landing.ObjectState.TheVariants.{Waiting, Begun, Lost}
@@ -90,14 +92,10 @@ longer object bytes some = omega (arith, length-append object bytes, some)
 -- ---- the answer of an attempt that lands its object
 
 -- the keeper wasn't asked
-pub never-asked : (stop : Stop) (keeper : KeeperView) → IsUnasked (landed_of (Err stop)) keeper keeper
-never-asked (Broke Dial) keeper = refl
-never-asked (Broke Send) keeper = refl
-never-asked (Broke Recv) keeper = tt
-never-asked (Broke (Truncated have)) keeper = tt
-never-asked (Broke (BadReply at fault)) keeper = tt
-never-asked (Broke Stopped) keeper = refl
-never-asked Memory keeper = tt
+pub never-asked : (fault : SendFault) (keeper : KeeperView) → IsUnasked (landed_of (Err (stop_of fault))) keeper keeper
+never-asked sends.Failed keeper = refl
+never-asked sends.Stopped keeper = refl
+never-asked sends.Memory keeper = tt
 
 -- behind a request that was sent whole it may have been
 pub maybe-asked : (talked : Result (Outcome × Landing) Stop) (object : List ℕ) (old new : LinkView) (given : List ℕ) (before now : KeeperView) → ReplyIs (received_of talked object) old new given → IsUnasked (landed_of talked) before now

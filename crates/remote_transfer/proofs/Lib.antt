@@ -1,4 +1,3 @@
-mod Parts
 mod ByPieces
 mod IntoFiles
 mod Passing

@@ -9,14 +9,17 @@ use Rattle.edge_traits.specs.declared.cause.Cause.TheVariants.{Dial, Send, Recv,
 use Rattle.edge_traits.specs.Told.{Grew}
 use Rattle.edge_traits.specs.Causes.{Rose, Still}
 use Rattle.edge_traits.specs.Links.{LinkView, IsNew}
+use Rattle.edge_traits.specs.Sends.{SentPart, SendStops}
+use Rattle.edge_traits.specs.declared.sending.SendFault.{SendFault}
+use Rattle.edge_traits.specs.declared.sending.SendFault.TheVariants as sends
 use Rattle.edge_traits.specs.Exchanges.{IsBegun}
 use Rattle.edge_traits.proofs.ToldLemmas.{Grew-join, Grew-still}
 use Rattle.remote_transfer.specs.declared.answers.Attempt.{Attempt}
 use Rattle.remote_transfer.specs.declared.answers.Stop.{Stop}
 use Rattle.remote_transfer.specs.declared.answers.Stop.TheVariants.{Broke, Memory}
-use Rattle.remote_transfer.specs.Answers.{answer_of}
+use Rattle.remote_transfer.specs.Answers.{answer_of, stop_of}
 use Rattle.remote_transfer.specs.Attempts.{ExchangeIs, EndsBy}
-use Rattle.remote_transfer.specs.Links.{SentPart, SendStops, ReplyIs, Given, IsFor, entry_of, Passed}
+use Rattle.remote_transfer.specs.Links.{ReplyIs, Given, IsFor, entry_of, Passed}
 
 rose_above_none : (before now : ℕ) → Rose before now → 0 < now
 rose_above_none before now rose = omega (arith, rose)
@@ -38,26 +41,23 @@ module _ (q : Request) (h : Host) (text : List ℕ) (old new : LinkView) (is_for
   }
 
   -- the text was not sent whole
-  pub not_sent : (stop : Stop) → SentPart text old.sent new.sent → SendStops old new stop → Grew old.given new.given [] → new.ended ≡ old.ended → Says q h (answer_of (Err stop)) old new
-  not_sent (Broke Dial) part stops none ended = absurd stops
-  not_sent (Broke Send) part stops none ended = record {
+  pub not_sent : (fault : SendFault) → SentPart text old.sent new.sent → SendStops old new fault → Grew old.given new.given [] → new.ended ≡ old.ended
+      → Says q h (answer_of (Err (stop_of fault))) old new
+  not_sent sends.Failed part stops none ended = record {
     sent = part.sent;
     given = [];
     grew_sent = part.grew;
     grew_given = none;
     is = (record { begun = begun part.sent part.unsent [] part.parts; shown = (record { dialed = refl; unsent = part.unsent; prefix = sym is_for.spelled ∙ part.parts; proper = part.proper; given = refl }, rose_above_none _ _ stops.0) }, record { ended = ended ∙ fresh.ended; stopped = stops.1 ∙ fresh.stopped; faults = λ unlike. failed_not unlike _ });
   }
-  not_sent (Broke Recv) part stops none ended = absurd stops
-  not_sent (Broke (Truncated have)) part stops none ended = absurd stops
-  not_sent (Broke (BadReply at fault)) part stops none ended = absurd stops
-  not_sent (Broke Stopped) part stops none ended = record {
+  not_sent sends.Stopped part stops none ended = record {
     sent = part.sent;
     given = [];
     grew_sent = part.grew;
     grew_given = none;
     is = (record { begun = begun part.sent part.unsent [] part.parts; shown = (record { dialed = refl; unsent = part.unsent; prefix = sym is_for.spelled ∙ part.parts; proper = part.proper; given = refl }, stops.0) }, record { ended = ended ∙ fresh.ended; stopped = stops.0; faults = λ none. stops.1 ∙ fresh.faults });
   }
-  not_sent Memory part stops none ended = record {
+  not_sent sends.Memory part stops none ended = record {
     sent = part.sent;
     given = [];
     grew_sent = part.grew;

@@ -1,32 +1,17 @@
 -- What was sent and given over a link. The contracts of the parts of an attempt cite this.
-use Rattle.std.specs.Prelude.{◌≡◌, ◌≢◌, ℕ, true, List, [], ◌++◌, length, Result, Ok, Err}
+use Rattle.std.specs.Prelude.{◌≡◌, ℕ, true, List, length, Result, Ok, Err}
 use Rattle.farm_types.specs.declared.request.Request.{Request}
 use Rattle.farm_types.specs.declared.ran.Outcome.{Outcome}
 use Rattle.farm_types.specs.declared.hosts.Host.{Host}
 use Rattle.wire_tokens.specs.Request.{request_text}
 use Rattle.wire_tokens.specs.Reply.{BeginsReply, IsShortReply, ReplyFaultStands}
 use Rattle.edge_traits.specs.declared.entries.Exchange.{Exchange}
-use Rattle.edge_traits.specs.declared.cause.Cause.TheVariants.{Send, Recv, Truncated, BadReply, Stopped}
+use Rattle.edge_traits.specs.declared.cause.Cause.TheVariants.{Recv, Truncated, BadReply}
 use Rattle.edge_traits.specs.Told.{Told, Grew}
 use Rattle.edge_traits.specs.Causes.{Rose, Still}
 use Rattle.edge_traits.specs.Links.{LinkView}
 use Rattle.remote_transfer.specs.declared.answers.Stop.{Stop}
 use Rattle.remote_transfer.specs.declared.answers.Stop.TheVariants.{Broke, Memory}
-
--- a front of these bytes was sent, and not all of them
-pub record SentPart (bytes : List ℕ) (old new : Told (List ℕ)) : Type 0 where
-  pub sent : List ℕ
-  pub unsent : List ℕ
-  pub parts : bytes ≡ sent ++ unsent
-  pub proper : unsent ≢ []
-  pub grew : Grew old new sent
-
--- why not all was sent
-abbrev pub SendStops : LinkView → LinkView → Stop → Type 0
-SendStops old new (Broke Send) = Rose old.faults new.faults × (new.stopped ≡ old.stopped)
-SendStops old new (Broke Stopped) = (new.stopped ≡ true) × Still old.faults new.faults
-SendStops old new (Broke other) = ⊥
-SendStops old new Memory = (new.stopped ≡ old.stopped) × Still old.faults new.faults
 
 -- what the bytes that were given are to the result, whether the link gave its end, and whether a receive failed
 abbrev pub ReplyIs : Result Outcome Stop → LinkView → LinkView → List ℕ → Type 0

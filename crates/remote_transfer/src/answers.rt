@@ -1,7 +1,8 @@
 ghost use Rattle.std.specs.Prelude.{◌≡◌};
+ghost use Rattle.remote_transfer.specs.Answers.{stop_of};
 ghost use Rattle.remote_transfer.specs.declared.answers.Stop.TheVariants.{Memory as StopMemory};
 
-use edge_traits::Cause;
+use edge_traits::{Cause, SendFault};
 use farm_types::Outcome;
 use std::alloc::AllocError;
 
@@ -50,5 +51,17 @@ impl From<AllocError> for Stop {
 
     fn from(_: AllocError) -> Self {
         Stop::Memory
+    }
+}
+
+impl From<SendFault> for Stop {
+    ghost from_gives = { λ fault stop. stop ≡ stop_of fault };
+
+    fn from(fault: SendFault) -> Self {
+        match fault {
+            SendFault::Failed => Stop::Broke(Cause::Send),
+            SendFault::Stopped => Stop::Broke(Cause::Stopped),
+            SendFault::Memory => Stop::Memory,
+        }
     }
 }

@@ -15,9 +15,8 @@ ghost use Rattle.remote_transfer.specs.Links.{IsFor, Passed};
 use crate::answers::{Attempt, Landed, Landing, Stop};
 use crate::landing::receive_into;
 use crate::receiving::receive_reply;
-use crate::sending::send_all;
 use compile_request::encode;
-use edge_traits::{Cause, Dialer, EdgeFault, Keeper, Link};
+use edge_traits::{Cause, Dialer, EdgeFault, Keeper, Link, send_all};
 use farm_types::{Bytes, Host, Outcome, Request};
 use std::alloc::{AllocError, Global};
 

@@ -6,7 +6,6 @@ mod answers;
 mod exchange;
 mod landing;
 mod receiving;
-mod sending;
 
 pub use answers::{Attempt, Landed, Landing};
 pub use exchange::{attempt, attempt_into};

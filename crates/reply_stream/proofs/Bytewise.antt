@@ -1,14 +1,13 @@
 -- Taking bytes of a token and of a body.
-use Rattle.std.proofs.Common.{◌≡◌, ℕ, zero, suc, ◌+◌, ◌<◌, ◌≤◌, Bool, false, true, List, [], ◌∷◌, ◌++◌, length, get_or, take, drop, refl, sym, ap, subst, ◌∙◌, append_assoc, arith, inl, inr}
+use Rattle.std.proofs.Common.{◌≡◌, ℕ, zero, suc, ◌+◌, ◌<◌, ◌≤◌, Bool, false, true, List, [], ◌∷◌, ◌++◌, length, get_or, take, refl, sym, ap, subst, ◌∙◌, append_assoc, arith, inl, inr}
 use Rattle.std.specs.Prelude.{nat_lt, ◌&&◌}
-use Rattle.std.proofs.lemmas.List.{append-nil, take-append-drop, nil_from_length, length-append}
+use Rattle.std.proofs.lemmas.List.{append-nil, nil_from_length, length-append}
 use Rattle.std.proofs.lemmas.Bool.{lt-ltb, ltb-true}
-use Rattle.std.proofs.Math.Seq.{take-add}
 use Rattle.wire_tokens.specs.declared.faults.ReplyFault.{ReplyFault}
 use Rattle.wire_tokens.specs.Format.{Field, Stands, Progress}
 use Rattle.wire_tokens.specs.Reply.{reply_format, SpellsReply}
 use Rattle.wire_tokens.specs.Step.{step_of, refuses}
-use Rattle.wire_tokens.proofs.Progress.{progress-stands}
+use Rattle.wire_tokens.proofs.PartialTokens.{progress-longer, longer-stands}
 use Rattle.wire_tokens.proofs.Longer.{stands-longer}
 use Rattle.wire_tokens.proofs.Readings.{fields_len}
 use Rattle.wire_tokens.proofs.Reply.{four_reply}
@@ -41,11 +40,7 @@ pub placed_more : (old new : Partial) (bytes : List ℕ) → fields_of old ≡ f
 placed_more old new bytes fields same before after text object g =
     let none : object ≡ [] = nil_from_length object (g.given ∙ before) in
     let here : Progress reply_format text (fields_of old) (bytes_of old) = subst (λ (x : List ℕ). Progress reply_format text (fields_of old) x) (ap (λ (x : List ℕ). bytes_of old ++ x) none ∙ append-nil (bytes_of old)) g.progress in
-    let more : Progress reply_format (text ++ bytes) (fields_of old) (bytes_of old ++ bytes) = record {
-      front = here.front;
-      is_front = here.is_front;
-      parts = ap (λ (x : List ℕ). x ++ bytes) here.parts ∙ append_assoc here.front (bytes_of old) bytes;
-    } in
+    let more = progress-longer reply_format text (fields_of old) (bytes_of old) bytes here in
     let rest : bytes_of old ++ bytes ≡ bytes_of new ++ object = sym (ap (λ (x : List ℕ). bytes_of new ++ x) none ∙ append-nil (bytes_of new) ∙ same) in
     record {
       progress = subst (λ (x : List Field × List ℕ). Progress reply_format (text ++ bytes) x.0 x.1) (ap (λ (x : List Field). (x, bytes_of old ++ bytes)) fields ∙ ap (λ (x : List ℕ). (fields_of new, x)) rest) more;
@@ -55,37 +50,29 @@ placed_more old new bytes fields same before after text object g =
 -- the same fields and bytes that are kept, and some bytes more of the object
 pub object_more : (old new : Partial) (bytes : List ℕ) → fields_of old ≡ fields_of new → bytes_of new ≡ bytes_of old → new.given ≡ old.given + length bytes → (text object : List ℕ) → IsPlaced old text object → IsPlaced new (text ++ bytes) (object ++ bytes)
 object_more old new bytes fields same counted text object g =
-    let p = g.progress in
-    let more : Progress reply_format (text ++ bytes) (fields_of old) (bytes_of old ++ (object ++ bytes)) = record {
-      front = p.front;
-      is_front = p.is_front;
-      parts = ap (λ (x : List ℕ). x ++ bytes) p.parts ∙ append_assoc p.front (bytes_of old ++ object) bytes ∙ ap (λ (x : List ℕ). p.front ++ x) (append_assoc (bytes_of old) object bytes);
-    } in
+    let longer = progress-longer reply_format text (fields_of old) (bytes_of old ++ object) bytes g.progress in
+    let more : Progress reply_format (text ++ bytes) (fields_of old) (bytes_of old ++ (object ++ bytes)) =
+    subst (λ (x : List ℕ). Progress reply_format (text ++ bytes) (fields_of old) x) (append_assoc (bytes_of old) object bytes) longer in
     record {
       progress = subst (λ (x : List Field × List ℕ). Progress reply_format (text ++ bytes) x.0 (x.1 ++ (object ++ bytes))) (ap (λ (x : List Field). (x, bytes_of old)) fields ∙ ap (λ (x : List ℕ). (fields_of new, x)) (sym same)) more;
       given = length-append object bytes ∙ ap (λ (k : ℕ). k + length bytes) g.given ∙ sym counted;
     }
 
 -- a byte at the end of a token
-pub token_more : (items body : List ℕ) (byte : ℕ) → body ≡ [] → (items ++ byte ∷ []) ++ body ≡ (items ++ body) ++ byte ∷ []
-token_more items body byte e = ap (λ (x : List ℕ). (items ++ byte ∷ []) ++ x) e ∙ append-nil (items ++ byte ∷ []) ∙ ap (λ (x : List ℕ). x ++ byte ∷ []) (sym (append-nil items) ∙ ap (λ (x : List ℕ). items ++ x) (sym e))
+pub token_more : (token body : List ℕ) (byte : ℕ) → body ≡ [] → (token ++ byte ∷ []) ++ body ≡ (token ++ body) ++ byte ∷ []
+token_more token body byte none = rw (none, append-nil token) (append-nil (token ++ byte ∷ []))
 
 -- a fault in the token that a byte more gives
-pub fault_stands : (p : Partial) (token : List ℕ) (byte at k : ℕ) (fault : ReplyFault) → Holds p → p.left ≡ 0 → token ≡ p.token.items ++ byte ∷ [] → at ≡ bytes_before p.part p.err p.out → step_of reply_format (due_in p) token ≡ refuses k fault
-    → (text object : List ℕ) → IsPlaced p text object → Stands reply_format (text ++ byte ∷ []) (at + k) fault
-fault_stands p token byte at k fault h left is place s text object g =
+pub fault_stands : (p : Partial) (token : List ℕ) (byte at place : ℕ) (fault : ReplyFault) → Holds p → p.left ≡ 0 → token ≡ p.token ++ byte ∷ [] → at ≡ bytes_before p.part p.err p.out
+    → step_of reply_format (due_in p) token ≡ refuses place fault → (text object : List ℕ) → IsPlaced p text object → Stands reply_format (text ++ byte ∷ []) (at + place) fault
+fault_stands p token byte at place fault h left is here s text object g =
     let t = in_token p h left in
     let none : object ≡ [] = nil_from_length object (g.given ∙ t.none_given) in
-    let kept : bytes_of p ++ object ≡ p.token.items = ap (λ (x : List ℕ). bytes_of p ++ x) none ∙ append-nil (bytes_of p) ∙ ap (λ (x : List ℕ). p.token.items ++ x) t.no_body ∙ append-nil p.token.items in
+    let kept : bytes_of p ++ object ≡ p.token = ap (λ (x : List ℕ). bytes_of p ++ x) none ∙ append-nil (bytes_of p) ∙ ap (λ (x : List ℕ). p.token ++ x) t.no_body ∙ append-nil p.token in
     let bytes : (bytes_of p ++ object) ++ byte ∷ [] ≡ token = ap (λ (x : List ℕ). x ++ byte ∷ []) kept ∙ sym is in
-    let p' = g.progress in
-    let more : Progress reply_format (text ++ byte ∷ []) (fields_of p) token = record {
-      front = p'.front;
-      is_front = p'.is_front;
-      parts = ap (λ (x : List ℕ). x ++ byte ∷ []) p'.parts ∙ append_assoc p'.front (bytes_of p ++ object) (byte ∷ []) ∙ ap (λ (x : List ℕ). p'.front ++ x) bytes;
-    } in
-    let where_it_is : fields_len (fields_of p) ≡ at = fields_len-before p.part p.status p.err p.out ∙ sym place in
-    subst (λ (i : ℕ). Stands reply_format (text ++ byte ∷ []) (i + k) fault) where_it_is (progress-stands reply_format four_reply (text ++ byte ∷ []) (fields_of p) token (due_in p) k fault more (due_is p h.counts) s)
+    let where_it_is : fields_len (fields_of p) ≡ at = fields_len-before p.part p.status p.err p.out ∙ sym here in
+    subst (λ (i : ℕ). Stands reply_format (text ++ byte ∷ []) (i + place) fault) where_it_is
+    (longer-stands reply_format four_reply text (fields_of p) (due_in p) (bytes_of p ++ object) (byte ∷ []) place fault g.progress (due_is p h.counts) (ap (step_of reply_format (due_in p)) bytes ∙ s))
 
 -- the end of a field after some bytes
 pub finished : (grown : ℕ → List ℕ → List ℕ) (old mid new : Partial) (piece : List ℕ) (n : ℕ) (turn : Turn) → n ≤ length piece → ((text object : List ℕ) → IsPlaced old text object → IsPlaced mid (text ++ take n piece) (grown n object)) → Finishes mid new n turn → Says grown old new piece turn
@@ -111,12 +98,6 @@ one_byte old new (b ∷ piece) byte (Bad at fault) lt e s = λ text object g.
     let one : Stands reply_format (text ++ b ∷ []) at fault = subst (λ (x : ℕ). Stands reply_format (text ++ x ∷ []) at fault) e (s text object g) in
     subst (λ (x : List ℕ). Stands reply_format x at fault) (append_assoc text (b ∷ []) piece) (stands-longer reply_format four_reply (text ++ b ∷ []) piece at fault one)
 one_byte old new (b ∷ piece) byte Memory lt e s = tt
-
-pub join : (text piece : List ℕ) (i k : ℕ) → (text ++ take i piece) ++ take k (drop i piece) ≡ text ++ take (i + k) piece
-join text piece i k = append_assoc text (take i piece) (take k (drop i piece)) ∙ ap (λ (x : List ℕ). text ++ x) (sym (take-add i k piece))
-
-pub join_all : (text piece : List ℕ) (i : ℕ) → (text ++ take i piece) ++ drop i piece ≡ text ++ piece
-join_all text piece i = append_assoc text (take i piece) (drop i piece) ∙ ap (λ (x : List ℕ). text ++ x) (take-append-drop i piece)
 
 -- ---- the object or not
 

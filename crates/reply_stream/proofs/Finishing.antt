@@ -2,16 +2,12 @@
 use Rattle.std.proofs.Common.{◌≡◌, ℕ, ◌+◌, ◌≤◌, eqb, List, [], ◌∷◌, ◌++◌, length, Some, refl, sym, ap, subst, ◌∙◌, append_assoc, arith, inl}
 use Rattle.std.specs.Prelude.{nat_le}
 use Rattle.std.proofs.lemmas.Bool.{leb-true, eqb-true}
-use Rattle.std.proofs.lemmas.List.{append-nil, nil_from_length, length-append, take_all}
+use Rattle.std.proofs.lemmas.List.{append-nil, nil_from_length, length-append}
 use Rattle.farm_types.specs.declared.ran.Outcome.{Outcome}
 use Rattle.wire_tokens.specs.declared.faults.ReplyFault.{ReplyFault}
-use Rattle.wire_tokens.specs.declared.token.Scan.TheVariants.{Short}
-use Rattle.wire_tokens.specs.Token.{IsToken}
-use Rattle.wire_tokens.specs.Scan.{scan_of}
 use Rattle.wire_tokens.specs.Format.{Field, Due, IsField, Progress}
 use Rattle.wire_tokens.specs.Reply.{reply_format, reply_due, SpellsReply}
-use Rattle.wire_tokens.proofs.Tokens.{common_prefix_len-nil, token-scan}
-use Rattle.wire_tokens.proofs.Progress.{front-more}
+use Rattle.wire_tokens.proofs.PartialTokens.{none-short, field-whole, progress-field}
 use Rattle.wire_tokens.proofs.Fields.{allowed}
 use Rattle.wire_tokens.proofs.Reply.{four_reply, reply_fields, front-spelled, same_outcome}
 use Rattle.compile_reply.specs.Decoding.{due_of}
@@ -32,23 +28,19 @@ due_before (Doto beside) status err out at = ap (λ (k : ℕ). Some (due_of (Dot
 pub due_is : (p : Partial) → Counts p → reply_due (fields_of p) ≡ Some (due_in p)
 due_is p counts = due_before p.part p.status p.err p.out counts.at_part
 
-pub scan_of-nil : (name : List ℕ) → scan_of name [] ≡ Short
-scan_of-nil name = rw (common_prefix_len-nil name) refl
-
 -- where nothing has come of the next field
-pub holds_afresh : (p : Partial) → Counts p → p.left ≡ 0 → p.given ≡ 0 → p.body ≡ [] → p.token.items ≡ [] → Holds p
+pub holds_afresh : (p : Partial) → Counts p → p.left ≡ 0 → p.given ≡ 0 → p.body ≡ [] → p.token ≡ [] → Holds p
 holds_afresh p counts left given body token = record {
   counts = counts;
   phase = inl (record {
     nothing_left = left;
     no_body = body;
     none_given = given;
-    partial = rw token (omega arith);
-    short = ap (scan_of (due_in p).name) token ∙ scan_of-nil (due_in p).name;
+    token = none-short (due_in p) p.token token;
   });
 }
 
-pub placed_afresh : (p : Partial) (text object : List ℕ) (fields : List Field) → p.body ≡ [] → p.token.items ≡ [] → p.given ≡ 0 → object ≡ [] → fields ≡ fields_of p → Progress reply_format text fields [] → IsPlaced p text object
+pub placed_afresh : (p : Partial) (text object : List ℕ) (fields : List Field) → p.body ≡ [] → p.token ≡ [] → p.given ≡ 0 → object ≡ [] → fields ≡ fields_of p → Progress reply_format text fields [] → IsPlaced p text object
 placed_afresh p text object fields body token given none same g =
     let bytes : [] ≡ bytes_of p ++ object = sym (ap (λ (x : List ℕ). (x ++ p.body) ++ object) token ∙ ap (λ (x : List ℕ). x ++ object) body ∙ none) in
     record {
@@ -64,21 +56,10 @@ pub field_done : (p : Partial) (n : ℕ) → IsReady p n → (text object : List
 field_done p n r text object g =
     let due : Due ReplyFault = due_in p in
     let e : reply_due (fields_of p) ≡ Some due = due_is p r.counts in
-    let t = token-scan due.name n p.token.items (four_reply (fields_of p) due e) r.has_token.number in
-    let token : IsToken due.name n p.token.items = subst (IsToken due.name n) (take_all 12 p.token.items (omega (arith, r.has_token.whole))) t.0 in
     let sized = length-append p.body object ∙ ap (λ (k : ℕ). length p.body + k) g.given ∙ sym r.no_more in
-    let f : IsField due (done_field n (p.body ++ object)) (bytes_of p ++ object) = record {
-      token = p.token.items;
-      is_token = token;
-      right = r.has_token.right;
-      sized = sized;
-      parts = append_assoc p.token.items p.body object;
-    } in
-    record {
-      front = g.progress.front ++ (bytes_of p ++ object);
-      is_front = front-more reply_format [] (fields_of p) g.progress.front due (done_field n (p.body ++ object)) (bytes_of p ++ object) g.progress.is_front e f;
-      parts = g.progress.parts ∙ sym (append-nil (g.progress.front ++ (bytes_of p ++ object)));
-    }
+    let field = field-whole due p.token (p.body ++ object) n (four_reply (fields_of p) due e) r.token sized in
+    progress-field reply_format text (fields_of p) due (done_field n (p.body ++ object)) (bytes_of p ++ object) g.progress e
+    (subst (IsField due (done_field n (p.body ++ object))) (sym (append_assoc p.token p.body object)) field)
 
 -- ---- by the part
 
@@ -102,11 +83,11 @@ whole_number : (n m : ℕ) (body object : List ℕ) → n ≡ m → body ≡ [] 
 whole_number n m body object is bare none =
     ap (λ (x : List ℕ). done_field n (body ++ x)) none ∙ ap (λ (x : List ℕ). done_field n (x ++ [])) bare ∙ ap (λ (k : ℕ). done_field k []) is
 
-pub after_done : (old new : Partial) (n : ℕ) → old.part ≡ Done → IsReady old n → new.part ≡ Stat → new.err ≡ old.err → new.out ≡ old.out → new.left ≡ 0 → new.given ≡ old.given → new.body ≡ [] → new.token.items ≡ []
+pub after_done : (old new : Partial) (n : ℕ) → old.part ≡ Done → IsReady old n → new.part ≡ Stat → new.err ≡ old.err → new.out ≡ old.out → new.left ≡ 0 → new.given ≡ old.given → new.body ≡ [] → new.token ≡ []
     → Holds new × ((text object : List ℕ) → IsPlaced old text object → IsPlaced new text object)
 after_done old new n is r part err out left given body token =
     let q = at_part old n Done is r in
-    let one : n ≡ 1 = eqb-true n 1 (allowed (eqb n 1) _ q.has_token.right) in
+    let one : n ≡ 1 = eqb-true n 1 (allowed (eqb n 1) _ q.token.right) in
     let uncounted : old.given ≡ 0 = q.kept in
     let bare : old.body ≡ [] = nil_from_length old.body (omega (arith, q.no_more, uncounted)) in
     let counts : Counts new = record {
@@ -123,7 +104,7 @@ after_done old new n is r part err out left given body token =
           (field_done (record old { part = Done }) n q text object (placed_at old Done text object is g)),
     )
 
-pub after_stat : (old new : Partial) (n : ℕ) → old.part ≡ Stat → IsReady old n → new.part ≡ Serr → new.status ≡ n → new.err ≡ old.err → new.out ≡ old.out → new.left ≡ 0 → new.given ≡ old.given → new.body ≡ [] → new.token.items ≡ []
+pub after_stat : (old new : Partial) (n : ℕ) → old.part ≡ Stat → IsReady old n → new.part ≡ Serr → new.status ≡ n → new.err ≡ old.err → new.out ≡ old.out → new.left ≡ 0 → new.given ≡ old.given → new.body ≡ [] → new.token ≡ []
     → Holds new × ((text object : List ℕ) → IsPlaced old text object → IsPlaced new text object)
 after_stat old new n is r part status err out left given body token =
     let q = at_part old n Stat is r in
@@ -143,13 +124,13 @@ after_stat old new n is r part status err out left given body token =
           (field_done (record old { part = Stat }) n q text object (placed_at old Stat text object is g)),
     )
 
-pub after_serr : (old new : Partial) (n : ℕ) → old.part ≡ Serr → IsReady old n → new.part ≡ Sout → new.status ≡ old.status → new.err ≡ old.body → new.out ≡ old.out → new.left ≡ 0 → new.given ≡ old.given → new.body ≡ [] → new.token.items ≡ []
+pub after_serr : (old new : Partial) (n : ℕ) → old.part ≡ Serr → IsReady old n → new.part ≡ Sout → new.status ≡ old.status → new.err ≡ old.body → new.out ≡ old.out → new.left ≡ 0 → new.given ≡ old.given → new.body ≡ [] → new.token ≡ []
     → Holds new × ((text object : List ℕ) → IsPlaced old text object → IsPlaced new text object)
 after_serr old new n is r part status err out left given body token =
     let q = at_part old n Serr is r in
     let uncounted : old.given ≡ 0 = q.kept in
     let len : n ≡ length old.body = omega (arith, q.no_more, uncounted) in
-    let small : n ≤ 1048576 = leb-true n 1048576 (allowed (nat_le n 1048576) _ q.has_token.right) in
+    let small : n ≤ 1048576 = leb-true n 1048576 (allowed (nat_le n 1048576) _ q.token.right) in
     let counts : Counts new = record {
       at_part = subst (λ (x : Part). IsAtPart x new.status) (sym part) tt;
       small_err = rw err (omega (arith, small, len));
@@ -167,13 +148,13 @@ after_serr old new n is r part status err out left given body token =
           (field_done (record old { part = Serr }) n q text object (placed_at old Serr text object is g)),
     )
 
-pub after_sout : (old new : Partial) (n : ℕ) → old.part ≡ Sout → IsReady old n → new.part ≡ Doto old.status → new.status ≡ old.status → new.err ≡ old.err → new.out ≡ old.body → new.left ≡ 0 → new.given ≡ old.given → new.body ≡ [] → new.token.items ≡ []
+pub after_sout : (old new : Partial) (n : ℕ) → old.part ≡ Sout → IsReady old n → new.part ≡ Doto old.status → new.status ≡ old.status → new.err ≡ old.err → new.out ≡ old.body → new.left ≡ 0 → new.given ≡ old.given → new.body ≡ [] → new.token ≡ []
     → Holds new × ((text object : List ℕ) → IsPlaced old text object → IsPlaced new text object)
 after_sout old new n is r part status err out left given body token =
     let q = at_part old n Sout is r in
     let uncounted : old.given ≡ 0 = q.kept in
     let len : n ≡ length old.body = omega (arith, q.no_more, uncounted) in
-    let small : n ≤ 1048576 = leb-true n 1048576 (allowed (nat_le n 1048576) _ q.has_token.right) in
+    let small : n ≤ 1048576 = leb-true n 1048576 (allowed (nat_le n 1048576) _ q.token.right) in
     let counts : Counts new = record {
       at_part = subst (λ (x : Part). IsAtPart x new.status) (sym part) (sym status);
       small_err = rw err r.counts.small_err;

@@ -5,8 +5,8 @@ use Rattle.std.proofs.Math.Seq.{take-append-add}
 use Rattle.farm_types.specs.declared.ran.Outcome.{Outcome}
 use Rattle.wire_tokens.specs.Step.{step_of, wants}
 use Rattle.wire_tokens.specs.Reply.{reply_format, SpellsReply, BeginsReply, IsShortReply}
-use Rattle.wire_tokens.proofs.Tokens.{number-longer}
-use Rattle.wire_tokens.proofs.Steps.{step-short, step-partial}
+use Rattle.wire_tokens.proofs.Steps.{step-short}
+use Rattle.wire_tokens.proofs.PartialTokens.{body-wanted}
 use Rattle.wire_tokens.proofs.Readings.{short}
 use Rattle.wire_tokens.proofs.Progress.{progress-reads}
 use Rattle.wire_tokens.proofs.Texts.{reads-short}
@@ -21,16 +21,14 @@ wants_more p h object given =
     elim h.phase [
       | inl t ↦
           let none : object ≡ [] = nil_from_length object (given ∙ t.none_given) in
-          let same : bytes_of p ++ object ≡ p.token.items = ap (λ (x : List ℕ). bytes_of p ++ x) none ∙ append-nil (bytes_of p) ∙ ap (λ (x : List ℕ). p.token.items ++ x) t.no_body ∙ append-nil p.token.items in
-          ap (step_of reply_format (due_in p)) same ∙ step-short reply_format (due_in p) p.token.items t.short
+          let same : bytes_of p ++ object ≡ p.token = ap (λ (x : List ℕ). bytes_of p ++ x) none ∙ append-nil (bytes_of p) ∙ ap (λ (x : List ℕ). p.token ++ x) t.no_body ∙ append-nil p.token in
+          ap (step_of reply_format (due_in p)) same ∙ step-short reply_format (due_in p) p.token t.token.short
       | inr b ↦
-          let t = b.has_token in
           let missing = b.missing in
           let some = b.some_left in
-          let whole = t.whole in
-          let scan = number-longer (due_in p).name p.token.items (p.body ++ object) p.number (four_reply (fields_of p) (due_in p) (due_is p h.counts)) t.number in
-          let partial = step-partial reply_format (due_in p) (p.token.items ++ (p.body ++ object)) p.number scan t.right (omega (arith, length-append p.token.items (p.body ++ object), length-append p.body object)) in
-          ap (step_of reply_format (due_in p)) (append_assoc p.token.items p.body object) ∙ partial
+          ap (step_of reply_format (due_in p)) (append_assoc p.token p.body object)
+          ∙ body-wanted reply_format (due_in p) p.token (p.body ++ object) p.number (four_reply (fields_of p) (due_in p) (due_is p h.counts)) b.token
+          (omega (arith, length-append p.body object))
     ]
 
 pub short_there : (p : Partial) → Holds p → (text object : List ℕ) → IsPlaced p text object → IsShortReply text

@@ -173,10 +173,10 @@ so_far p h text object g =
     let c = came p.part p.status p.err p.out (bytes_of p) object text g.progress in
     elim h.phase [
       | inl t ↦
-          let few = t.partial in
+          let few = t.token.partial in
           let bare = ap length t.no_body in
           begun_so_far p.part p.status p.err p.out (bytes_of p) object text g.progress.front c (record {
-            few = omega (arith, length-append p.token.items p.body);
+            few = omega (arith, length-append p.token p.body);
             none = nil_from_length object (g.given ∙ t.none_given);
           })
       | inr b ↦
@@ -184,12 +184,12 @@ so_far p h text object g =
           let some = b.some_left in
           let given = g.given in
           within_so_far p.part p.status p.err p.out (bytes_of p) object text g.progress.front c (record {
-            token = p.token.items;
+            token = p.token;
             body = p.body;
             number = p.number;
             are = refl;
-            twelve = b.has_token.whole;
-            scan = b.has_token.number;
+            twelve = b.token.whole;
+            scan = b.token.number;
             missing = omega arith;
             kept = subst (IsKept p.part p.body) (sym g.given) b.kept;
           })

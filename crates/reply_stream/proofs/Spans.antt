@@ -12,7 +12,7 @@ use Rattle.reply_stream.specs.declared.partial.Turn.{Turn}
 use Rattle.reply_stream.specs.declared.partial.Turn.TheVariants.{More, Whole, Bad, Memory}
 use Rattle.reply_stream.specs.Objects.{with_object, spanned}
 use Rattle.reply_stream.specs.Taking.{IsPlaced, Says, TakesAll, EndsWithin, part_from, Runs, keeps, hands}
-use Rattle.reply_stream.proofs.Bytewise.{join, join_all}
+use Rattle.wire_tokens.proofs.PartialTokens.{join, join_all}
 
 abbrev pub span_of : ℕ → ℕ → Span
 span_of from to = record { from = from; to = to }

@@ -1,9 +1,8 @@
 -- What a reader has taken of a reply, and what it makes of more bytes.
-use Rattle.std.specs.Prelude.{ℕ, ◌≡◌, ◌<◌, ◌≤◌, ◌+◌, ◌^◌, ◌⊎◌, List, [], ◌++◌, length, take, false, None}
+use Rattle.std.specs.Prelude.{ℕ, ◌≡◌, ◌<◌, ◌≤◌, ◌+◌, ◌^◌, ◌⊎◌, List, [], ◌++◌, length, take, false}
 use Rattle.wire_tokens.specs.declared.faults.ReplyFault.{ReplyFault}
-use Rattle.wire_tokens.specs.declared.token.Scan.TheVariants.{Number, Short}
-use Rattle.wire_tokens.specs.Scan.{scan_of}
 use Rattle.wire_tokens.specs.Format.{Field, Due, body_len, Stands, Progress}
+use Rattle.wire_tokens.specs.Partial.{IsShortToken, IsDueToken}
 use Rattle.wire_tokens.specs.Reply.{reply_format, SpellsReply}
 use Rattle.compile_reply.specs.Decoding.{due_of}
 use Rattle.compile_reply.specs.declared.part.Part.{Part as Token}
@@ -20,7 +19,7 @@ abbrev pub fields_of : Partial → List Field
 fields_of p = fields_before p.part p.status p.err p.out
 
 abbrev pub bytes_of : Partial → List ℕ
-bytes_of p = p.token.items ++ p.body
+bytes_of p = p.token ++ p.body
 
 abbrev pub due_in : Partial → Due ReplyFault
 due_in p = due_of p.part
@@ -44,18 +43,11 @@ pub record InToken (p : Partial) : Type 0 where
   pub nothing_left : p.left ≡ 0
   pub no_body : p.body ≡ []
   pub none_given : p.given ≡ 0
-  pub partial : length p.token.items < 12
-  pub short : scan_of (due_in p).name p.token.items ≡ Short
-
--- the token is there, of this number, which is right
-pub record HasToken (p : Partial) (n : ℕ) : Type 0 where
-  pub whole : length p.token.items ≡ 12
-  pub number : scan_of (due_in p).name p.token.items ≡ Number n
-  pub right : (due_in p).refused n ≡ None
+  pub token : IsShortToken (due_in p) p.token
 
 -- its body is on its way
 pub record InBody (p : Partial) : Type 0 where
-  pub has_token : HasToken p p.number
+  pub token : IsDueToken (due_in p) p.token p.number
   pub missing : body_len (due_in p) p.number ≡ length p.body + p.given + p.left
   pub kept : IsKept p.part p.body p.given
   pub some_left : 0 < p.left
@@ -68,7 +60,7 @@ pub record Holds (p : Partial) : Type 0 where
 -- a field is whole
 pub record IsReady (p : Partial) (n : ℕ) : Type 0 where
   pub counts : Counts p
-  pub has_token : HasToken p n
+  pub token : IsDueToken (due_in p) p.token n
   pub no_more : body_len (due_in p) n ≡ length p.body + p.given
   pub kept : IsKept p.part p.body p.given
 

@@ -9,7 +9,7 @@ use compile_reply::{Part as Token, body_len, name_of, refusal};
 use farm_types::{Bytes, Outcome};
 use std::alloc::Global;
 use std::mem;
-use wire_tokens::{ReplyFault, Scan, scan_token};
+use wire_tokens::{PartialToken, ReplyFault};
 
 /// The fields that have come, and what has come of the next one. Of the object's bytes only their
 /// number is kept.
@@ -19,8 +19,7 @@ pub struct Partial {
     pub status: u32,
     pub err: Bytes,
     pub out: Bytes,
-    /// The bytes of the token.
-    pub token: Vec<u8>,
+    pub token: PartialToken,
     /// The token's number, once it is there.
     pub number: u32,
     /// How many bytes of the body are still to come.
@@ -72,7 +71,7 @@ fn finish(alloc: Global, p: &mut Partial, n: u32, taken: usize) -> Turn
     ensures goes_on { GoesOn p.old.part result }
 {
     let body = mem::replace(&mut p.body, Bytes::new(alloc));
-    p.token.clear();
+    p.token = PartialToken::new();
     p.left = 0;
     match p.part {
         Token::Done => {
@@ -115,21 +114,14 @@ fn token_byte(alloc: Global, p: &mut Partial, byte: u8) -> Turn
     ensures says { Says keeps p.old p.new (byte ∷ []) result }
     ensures some { TakesSome result }
 {
-    if p.token.push(byte).is_err() {
-        return Turn::Memory;
-    }
     let at = place(p);
-    match scan_token(&p.token, name_of(p.part)) {
-        Scan::Short => Turn::More { taken: 1 },
-        Scan::WrongName(place) => Turn::Bad {
-            at: at + u64::from(place),
-            fault: ReplyFault::WrongName,
+    match p.token.take(byte, name_of(p.part)) {
+        Ok(None) => Turn::More { taken: 1 },
+        Err(fault) => Turn::Bad {
+            at: at + u64::from(fault.at()),
+            fault: ReplyFault::from(fault),
         },
-        Scan::BadDigit(place) => Turn::Bad {
-            at: at + u64::from(place),
-            fault: ReplyFault::BadDigit,
-        },
-        Scan::Number(n) => {
+        Ok(Some(n)) => {
             if let Some(fault) = refusal(p.part, n) {
                 return Turn::Bad { at: at + 11, fault };
             }

@@ -12,7 +12,7 @@ use compile_reply::Part as Token;
 use farm_types::Bytes;
 use std::alloc::Global;
 use std::marker::Model;
-use wire_tokens::ReplyFault;
+use wire_tokens::{PartialToken, ReplyFault};
 
 /// What a reader keeps. A reader that refused, or is spent, keeps no bytes.
 #[derive(Debug, Drop)]
@@ -49,7 +49,7 @@ impl ReplyReader {
             status: 0,
             err: Bytes::new(alloc),
             out: Bytes::new(alloc),
-            token: Vec::new(alloc),
+            token: PartialToken::new(),
             number: 0,
             left: 0,
             given: 0,

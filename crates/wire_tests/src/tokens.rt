@@ -3,8 +3,9 @@ use farm_types::Bytes;
 use std::process::Abort;
 use std::test::Fail;
 use wire_tokens::{
-    ARGC, DIST, DONE, DOTI, DOTO, Name4, SERR, STAT, TokenFault, one_reading_of_replies,
-    one_reading_of_requests, push_body, push_token, read_token, write_token,
+    ARGC, DIST, DONE, DOTI, DOTO, Name4, PartialToken, SERR, STAT, TokenFault,
+    one_reading_of_replies, one_reading_of_requests, push_body, push_token, read_token,
+    write_token,
 };
 
 /// A text, the name that is wanted, and what is read.
@@ -44,6 +45,16 @@ fn expect_read<R: Abort>(rt: &R, rows: &[Read]) {
 #[test]
 fn reads_tokens(rt: HostRuntime) {
     expect_read(&rt, READ);
+}
+
+#[test]
+fn takes_a_token_byte_by_byte(rt: HostRuntime) {
+    let mut token = PartialToken::new();
+    same(&rt, &token.take(b'D', DOTI), &Ok(None), b"D");
+    same(&rt, &token.take(b'O', DOTI), &Ok(None), b"DO");
+    let fault = TokenFault::WrongName { at: 2 };
+    same(&rt, &token.take(b't', DOTI), &Err(fault), b"DOt");
+    same(&rt, &fault.at(), &2, b"DOt");
 }
 
 fn expect_written<R: Abort>(rt: &R, rows: &[Written]) {

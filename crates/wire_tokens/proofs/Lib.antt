@@ -16,3 +16,4 @@ pub mod RequestBounds
 pub mod RequestLaws
 pub mod ReplyLaws
 pub mod Lengths
+pub mod PartialTokens

@@ -6,3 +6,4 @@ pub mod Reply
 pub mod Step
 pub mod Request
 pub mod Numbers
+pub mod Partial

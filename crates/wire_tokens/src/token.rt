@@ -5,6 +5,7 @@ ghost use Rattle.std.specs.List.{AllPass};
 ghost use Rattle.wire_tokens.specs.Scan as scans;
 ghost use Rattle.wire_tokens.specs.Token as tokens;
 ghost use Rattle.wire_tokens.specs.Scan.{scan_of, IsTokenFault};
+ghost use Rattle.wire_tokens.specs.Partial.{place_in_token};
 ghost use Rattle.wire_tokens.specs.Token.{IsToken, token, lower_digit, is_digit, digit_of};
 
 /// The four letters of a token's name.
@@ -18,6 +19,17 @@ pub enum TokenFault {
     WrongName { at: u8 },
     /// The first byte after the name that is no hexadecimal digit.
     BadDigit { at: u8 },
+}
+
+impl TokenFault {
+    /// Where it stands.
+    pub fn at(self) -> u8
+        ensures { result ≡ place_in_token self }
+    {
+        match self {
+            TokenFault::WrongName { at } | TokenFault::BadDigit { at } => at,
+        }
+    }
 }
 
 fn lower_digit_of(d: u32) -> u8

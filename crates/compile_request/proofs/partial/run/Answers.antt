@@ -3,7 +3,7 @@ use Rattle.std.proofs.lemmas.List.{length-drop, take_rest}
 use Rattle.wire_tokens.specs.Format.{Stands}
 use Rattle.wire_tokens.specs.Request.{request_format, SpellsRequest}
 use Rattle.compile_request.specs.Taking.{IsPlaced}
-use Rattle.compile_request.proofs.Bytewise.{join, join_all}
+use Rattle.wire_tokens.proofs.PartialTokens.{join, join_all}
 use Rattle.compile_request.proofs.partial.run.Goals as goal
 
 pub loop-done-preserved : goal.loop-done-preserved

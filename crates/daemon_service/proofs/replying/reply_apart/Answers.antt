@@ -11,6 +11,7 @@ returns-clause-replied g c =
     ap (λ (x : List ℕ). x ++ object) c.as_slice.ensures ∙ ap (λ (x : List ℕ). c.in-Ok.head ++ x) c.as_slice-2.ensures ∙ c.in-Ok.ensures in
     let sent = c.in_default-send_all.ensures in
     let rest = c.in-Err-send_all.ensures in
-    replied_behind c.in-Err-send_all.served (reply_text c.args.outcome.now) head object c.args.outcome.now.status
+    rw c.from-in-Err-send_all.ensures
+    (replied_behind c.in-Err-send_all.fault (reply_text c.args.outcome.now) head object c.args.outcome.now.status
     (g.L.Link.shows c.args.link.now) (g.L.Link.shows c.send_all.new.link) (g.L.Link.shows c.send_all-2.new.link)
-    whole sent.all sent.running sent.done rest.part rest.stops
+    whole sent.all sent.running sent.still rest.part rest.stops)

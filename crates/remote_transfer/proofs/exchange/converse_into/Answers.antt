@@ -2,6 +2,7 @@ use Rattle.std.proofs.Common.{[], refl}
 use Rattle.std.specs.Prelude.{Err}
 use Rattle.std.proofs.lemmas.Result.{err_from_is_err_and}
 use Rattle.remote_transfer.proofs.Passing.{not_sent, replied}
+use Rattle.remote_transfer.specs.Answers.{stop_of}
 use Rattle.remote_transfer.specs.Landings.{received_of, PassedInto}
 use Rattle.edge_traits.proofs.ToldLemmas.{Grew-join, Grew-still}
 use Rattle.remote_transfer.proofs.IntoFiles.{never-asked, maybe-asked, rises-none}
@@ -30,17 +31,18 @@ pub returns-in_err-send_all-clause-passed : goal.returns-in_err-send_all-clause-
 returns-in_err-send_all-clause-passed g c =
     let p = err_from_is_err_and c.from_residual.result c.from_residual.ensures.1 in
     let s = c.in_err-send_all.ensures in
-    let into : PassedInto (Err c.in_err-send_all.field-0.0) c.args.path.now c.args.text.now (g.L.Link.shows c.args.link.now) (g.L.Link.shows c.send_all.new.link) (g.K.Keeper.shows c.args.keeper.now) (g.K.Keeper.shows c.args.keeper.now) = record {
+    let fault = c.in_err-send_all.field-0.0 in
+    let into : PassedInto (Err (stop_of fault)) c.args.path.now c.args.text.now (g.L.Link.shows c.args.link.now) (g.L.Link.shows c.send_all.new.link) (g.K.Keeper.shows c.args.keeper.now) (g.K.Keeper.shows c.args.keeper.now) = record {
       object = [];
-      passed = λ q h is_for. not_sent q h c.args.text.now (g.L.Link.shows c.args.link.now) (g.L.Link.shows c.send_all.new.link) is_for c.requires.new (g.met.L.Link.origin_stays _ _ s.follows) c.in_err-send_all.field-0.0 s.part s.stops s.given s.ended;
+      passed = λ q h is_for. not_sent q h c.args.text.now (g.L.Link.shows c.args.link.now) (g.L.Link.shows c.send_all.new.link) is_for c.requires.new (g.met.L.Link.origin_stays _ _ s.follows) fault s.part s.stops s.given s.ended;
       lands = c.requires.idle;
-      unasked = never-asked c.in_err-send_all.field-0.0 (g.K.Keeper.shows c.args.keeper.now);
+      unasked = never-asked fault (g.K.Keeper.shows c.args.keeper.now);
       rises = record {
         sent = s.part.sent;
         given = [];
         grew_sent = s.part.grew;
         grew_given = s.given;
-        is = rises-none c.in_err-send_all.field-0.0 [] (g.K.Keeper.shows c.args.keeper.now).faults;
+        is = rises-none (stop_of fault) [] (g.K.Keeper.shows c.args.keeper.now).faults;
       };
     } in
     rw (p.1, p.2) into

@@ -5,22 +5,22 @@ use Rattle.reply_stream.proofs.partial.finish.Goals as goal
 
 pub returns-in-Done-clause-finishes : goal.returns-in-Done-clause-finishes
 returns-in-Done-clause-finishes c =
-    let z = after_done c.args.p.now _ c.args.n c.in-Done.is c.requires refl refl refl refl refl (c.replace-body.ensures.after ∙ c.new.ensures) c.clear.ensures.items in
+    let z = after_done c.args.p.now _ c.args.n c.in-Done.is c.requires refl refl refl refl refl (c.replace-body.ensures.after ∙ c.new.ensures) c.new-p.ensures in
     (refl, z.0, z.1)
 
 pub returns-in-Stat-clause-finishes : goal.returns-in-Stat-clause-finishes
 returns-in-Stat-clause-finishes c =
-    let z = after_stat c.args.p.now _ c.args.n c.in-Stat.is c.requires refl refl refl refl refl refl (c.replace-body.ensures.after ∙ c.new.ensures) c.clear.ensures.items in
+    let z = after_stat c.args.p.now _ c.args.n c.in-Stat.is c.requires refl refl refl refl refl refl (c.replace-body.ensures.after ∙ c.new.ensures) c.new-p.ensures in
     (refl, z.0, z.1)
 
 pub returns-in-Serr-clause-finishes : goal.returns-in-Serr-clause-finishes
 returns-in-Serr-clause-finishes c =
-    let z = after_serr c.args.p.now _ c.args.n c.in-Serr.is c.requires refl refl c.replace-body.ensures.value refl refl refl (c.replace-body.ensures.after ∙ c.new.ensures) c.clear.ensures.items in
+    let z = after_serr c.args.p.now _ c.args.n c.in-Serr.is c.requires refl refl c.replace-body.ensures.value refl refl refl (c.replace-body.ensures.after ∙ c.new.ensures) c.new-p.ensures in
     (refl, z.0, z.1)
 
 pub returns-in-Sout-clause-finishes : goal.returns-in-Sout-clause-finishes
 returns-in-Sout-clause-finishes c =
-    let z = after_sout c.args.p.now _ c.args.n c.in-Sout.is c.requires refl refl refl c.replace-body.ensures.value refl refl (c.replace-body.ensures.after ∙ c.new.ensures) c.clear.ensures.items in
+    let z = after_sout c.args.p.now _ c.args.n c.in-Sout.is c.requires refl refl refl c.replace-body.ensures.value refl refl (c.replace-body.ensures.after ∙ c.new.ensures) c.new-p.ensures in
     (refl, z.0, z.1)
 
 pub returns-in-Doto-clause-finishes : goal.returns-in-Doto-clause-finishes

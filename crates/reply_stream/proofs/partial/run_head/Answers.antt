@@ -4,7 +4,7 @@ use Rattle.wire_tokens.specs.Format.{Stands}
 use Rattle.wire_tokens.specs.Reply.{reply_format, SpellsReply}
 use Rattle.reply_stream.specs.Objects.{with_object}
 use Rattle.reply_stream.specs.Taking.{IsPlaced}
-use Rattle.reply_stream.proofs.Bytewise.{join, join_all}
+use Rattle.wire_tokens.proofs.PartialTokens.{join, join_all}
 use Rattle.reply_stream.proofs.partial.run_head.Goals as goal
 
 pub loop-done-preserved : goal.loop-done-preserved

@@ -2,8 +2,8 @@ use Rattle.std.proofs.Common.{◌∙◌, refl, arith}
 use Rattle.std.proofs.lemmas.Grind.{common_steps}
 use Rattle.std.proofs.Math.Seq.{take-add}
 use Rattle.edge_traits.proofs.ToldLemmas.{Grew-join, Grew-by}
-use Rattle.remote_transfer.proofs.Parts.{sent_part}
-use Rattle.remote_transfer.proofs.sending.send_all.Goals as goal
+use Rattle.edge_traits.proofs.SentParts.{sent_part}
+use Rattle.edge_traits.proofs.sending.send_all.Goals as goal
 
 pub loop-sent-preserved : goal.loop-sent-preserved
 loop-sent-preserved g c =

@@ -3,7 +3,7 @@ use Rattle.std.proofs.Common.{◌≢◌, ℕ, ◌<◌, List, [], length, take, d
 use Rattle.std.proofs.lemmas.List.{take-append-drop}
 use Rattle.edge_traits.specs.Told.{Told, Grew}
 use Rattle.edge_traits.proofs.ToldLemmas.{Grew-still}
-use Rattle.remote_transfer.specs.Links.{SentPart}
+use Rattle.edge_traits.specs.Sends.{SentPart}
 
 rest_left : (n : ℕ) (bytes : List ℕ) → n < length bytes → drop n bytes ≢ []
 rest_left n bytes less none = omega (arith, less, length-drop n bytes, ap length none)
