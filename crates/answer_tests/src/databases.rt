@@ -1,10 +1,8 @@
 //! Databases with their job lists or their faults, and calls of the program.
 
-ghost use Rattle.std.specs.Prelude.{◌≡◌, false, IfOk};
-ghost use Rattle.edge_memory.specs.Sources.{source_state, source_shows};
-
+use crate::inputs::source_of;
 use compile_database::{DatabaseError, DatabaseFault, Selection, farm_jobs, job_list_of};
-use edge_memory::{MemSink, MemSource, Moves};
+use edge_memory::{MemSink, Moves};
 use edge_traits::CallNumbers;
 use farm_types::Bytes;
 use job_list::JobFault;
@@ -205,16 +203,6 @@ fn at_most_512(rt: HostRuntime) -> Result<(), Fail> {
         assert_eq!(rt; got, want.map(DatabaseError::Fault), "from {from}");
     }
     Ok(())
-}
-
-fn source_of(alloc: Global, text: &str, fails: bool) -> Result<MemSource, AllocError>
-    ensures { IfOk result (λ source. (source_shows (source_state source)).ended ≡ false) }
-{
-    let mut numbers = CallNumbers::new(alloc);
-    if fails {
-        numbers.try_push(1)?;
-    }
-    Ok(MemSource::new(Bytes::from_slice(alloc, text.as_bytes())?, numbers, 1_000))
 }
 
 fn sink_of(alloc: Global) -> MemSink {

@@ -6,6 +6,7 @@
 mod answers;
 #[cfg(test)]
 mod databases;
+pub mod inputs;
 #[cfg(test)]
 mod reports;
 #[cfg(test)]

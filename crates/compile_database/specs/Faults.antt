@@ -1,7 +1,7 @@
 -- What is printed of a fault.
 use Rattle.std.specs.Prelude.{ℕ, List, ◌++◌, codes}
 use Rattle.std.specs.Fmt.{decimal}
-use Rattle.job_list.specs.Faults.{number_of}
+use Rattle.job_list.specs.Faults.{job_fault_number}
 use Rattle.compile_database.specs.declared.fault.DatabaseFault.{DatabaseFault}
 use Rattle.compile_database.specs.declared.fault.DatabaseFault.TheVariants.{NotJson, NotArray, NoFolder, OtherFolder, NoEntries, TooMany, NoForm, OpenQuote, NoWords, BadWord, JobList}
 
@@ -16,4 +16,4 @@ fault_text (NoForm entry) = codes "entry " ++ decimal entry ++ codes ": no argum
 fault_text (OpenQuote entry) = codes "entry " ++ decimal entry ++ codes ": an open quote"
 fault_text (NoWords entry) = codes "entry " ++ decimal entry ++ codes ": no words"
 fault_text (BadWord entry) = codes "entry " ++ decimal entry ++ codes ": a word that no job list can hold"
-fault_text (JobList line fault) = codes "job list: fault " ++ decimal (number_of fault) ++ codes " at line " ++ decimal line
+fault_text (JobList line fault) = codes "job list: fault " ++ decimal (job_fault_number fault) ++ codes " at line " ++ decimal line

@@ -5,7 +5,7 @@ use Rattle.std.specs.List.{flat_map}
 use Rattle.wire_tokens.specs.Token.{lower_digits}
 use Rattle.daemon_service.specs.declared.served.Served.{Served}
 use Rattle.daemon_service.specs.declared.served.Served.TheVariants as served
-use Rattle.daemon_service.specs.Services.{number_of}
+use Rattle.daemon_service.specs.Services.{request_fault_number}
 use Rattle.daemon_worker.specs.declared.log.Met.{Met}
 use Rattle.daemon_worker.specs.declared.log.Met.TheVariants as met
 use Rattle.daemon_worker.specs.declared.log.Entry.{Entry}
@@ -14,7 +14,7 @@ use Rattle.object_cache.specs.declared.book.Stats.{Stats}
 -- the status is a wait status, as eight lower-case hexadecimal digits
 abbrev pub served_text : Served → List ℕ
 served_text (served.Answered status) = codes "answered " ++ lower_digits 8 status
-served_text (served.Refused at fault) = codes "refused " ++ decimal (number_of fault) ++ codes " at " ++ decimal at
+served_text (served.Refused at fault) = codes "refused " ++ decimal (request_fault_number fault) ++ codes " at " ++ decimal at
 served_text (served.Cut have) = codes "cut " ++ decimal have
 served_text served.LinkFault = codes "link fault"
 served_text served.Stopped = codes "stopped"

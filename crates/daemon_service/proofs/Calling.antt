@@ -14,7 +14,7 @@ use Rattle.arg_scan.specs.Class.{IsRemote}
 use Rattle.daemon_service.specs.declared.compilers.Compiler.{Compiler}
 use Rattle.daemon_service.specs.declared.served.Served.{Served}
 use Rattle.daemon_service.specs.declared.served.Served.TheVariants.{Answered, Refused, Cut, LinkFault, Stopped, StationFault, Memory}
-use Rattle.daemon_service.specs.Replies.{program_of, first_word, outcome_of}
+use Rattle.daemon_service.specs.Replies.{program_of, first_word, sent_outcome}
 use Rattle.daemon_service.specs.Parts.{RequestIs, Made, Replied}
 use Rattle.daemon_service.specs.Calls.{IsUncompiled, IsEnded, IsRefused, Tries, Asks, unasked, asked, Calls, uncalled, called}
 
@@ -31,7 +31,7 @@ module _ {S : Type 0} (goes : S → List Word → List ℕ → Bounds → Result
 
   -- a run that was tried, and its outcome
   pub tried_ok : (q : Request) (program : List ℕ) (ran : Ran) (o : Outcome) (ended : Result Ran RunStop) → ended ≡ Ok ran → IsRemote q.words → program_of table (first_word q.words) ≡ Some program
-      → Tries goes program q before after ended → o ≡ outcome_of ran → Asks goes table q before after (Ok o)
+      → Tries goes program q before after ended → o ≡ sent_outcome ran → Asks goes table q before after (Ok o)
   tried_ok q program ran o ended is remote named (inl none) made = absurd (cc (is, none.1))
   tried_ok q program ran o ended is remote named (inr went) made = asked program ended remote named went (ran, is, made)
 

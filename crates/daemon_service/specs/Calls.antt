@@ -14,7 +14,7 @@ use Rattle.daemon_service.specs.declared.compilers.Compiler.{Compiler}
 use Rattle.daemon_service.specs.declared.served.Served.{Served}
 use Rattle.daemon_service.specs.declared.served.Served.TheVariants.{Answered}
 use Rattle.daemon_service.specs.declared.served.Served.TheVariants as served
-use Rattle.daemon_service.specs.Replies.{program_of, first_word, with_program, outcome_of, compile_bounds}
+use Rattle.daemon_service.specs.Replies.{program_of, first_word, with_program, sent_outcome, compile_bounds}
 
 -- a status of a request that isn't compiled
 abbrev pub IsRefused : ℕ → Type 0
@@ -44,7 +44,7 @@ module _ {S : Type 0} (goes : S → List Word → List ℕ → Bounds → Result
     unasked : after ≡ before → IfOk result (λ o. IsRefused o.status) → Asks table q before after result
     asked : (program : List ℕ) (ended : Result Ran StationFault) → IsRemote q.words → program_of table (first_word q.words) ≡ Some program
         → goes before (with_program program (placed_words q.words)) q.source compile_bounds ended after
-        → IfOk result (λ o. (ran : Ran) × (ended ≡ Ok ran) × (o ≡ outcome_of ran)) → Asks table q before after result
+        → IfOk result (λ o. (ran : Ran) × (ended ≡ Ok ran) × (o ≡ sent_outcome ran)) → Asks table q before after result
 
   -- The station wasn't called, and the answer isn't that of a compile; or it was called once, to compile a request.
   pub data Calls (table : List Compiler) (before after : S) (answer : Served) : Type 0 where

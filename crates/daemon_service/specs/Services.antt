@@ -121,9 +121,9 @@ StationCause StationFault before now = Rose before.faults now.faults ⊎ Rose be
 StationCause other before now = NoneRose before now
 
 -- the number of a fault of a request
-abbrev pub number_of : RequestFault → ℕ
-number_of WrongName = 1
-number_of BadDigit = 2
-number_of (BadVersion n) = 3
-number_of (Count n) = 4
-number_of (TooLarge which len) = 5
+abbrev pub request_fault_number : RequestFault → ℕ
+request_fault_number WrongName = 1
+request_fault_number BadDigit = 2
+request_fault_number (BadVersion n) = 3
+request_fault_number (Count n) = 4
+request_fault_number (TooLarge which len) = 5

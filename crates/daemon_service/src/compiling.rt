@@ -76,7 +76,7 @@ fn refusal(alloc: Global, status: u32, message: Bytes) -> Outcome
 
 // The outcome of a run.
 fn outcome_of(alloc: Global, ran: Ran) -> Outcome
-    ensures outcome { result ≡ replies.outcome_of ran }
+    ensures outcome { result ≡ replies.sent_outcome ran }
     ensures small { result.status < 2 ^ 32 }
 {
     let status = ran.status;

@@ -3,6 +3,7 @@
 
 #[cfg(test)]
 mod connections;
+pub mod devices;
 #[cfg(test)]
 mod loops;
 #[cfg(test)]

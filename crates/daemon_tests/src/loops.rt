@@ -1,10 +1,7 @@
 //! A loop to the daemon's service: what its links give, and how exchanges over it go.
 
-ghost use Rattle.std.specs.Prelude.{IfOk};
-ghost use Rattle.loop_link.specs.Replies.{AreOwnNames};
-
+use crate::devices::table;
 use crate::scripts::{REPLY, REQUEST};
-use daemon_service::{Compiler, CompilerVec, Compilers};
 use edge_memory::{MemStation, RanList};
 use edge_traits::{CallNumbers, Cause, Dialer, EdgeFault, Link, Station};
 use farm_types::{Bytes, Host, HostName, Ran, Request, Words};
@@ -12,16 +9,6 @@ use loop_link::{LoopDialer, attempt_over_loop};
 use remote_transfer::Attempt;
 use std::alloc::{AllocError, Global};
 use std::test::Fail;
-
-fn table(alloc: Global) -> Result<Compilers, AllocError>
-    ensures { IfOk result (λ table. AreOwnNames table.rows) }
-{
-    let name = Bytes::from_slice(alloc, b"scc")?;
-    let program = name.copy()?;
-    let mut rows = CompilerVec::new(alloc);
-    rows.try_push(Compiler { name, program })?;
-    Ok(Compilers { rows })
-}
 
 // The run of a station that leaves the object of the reply.
 fn ran(alloc: Global) -> Result<Ran, AllocError> {

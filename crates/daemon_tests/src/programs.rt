@@ -1,12 +1,10 @@
 //! Rows of the program `farmd`.
 
-ghost use Rattle.std.specs.Prelude.{◌≡◌, false, IfOk};
-ghost use Rattle.edge_memory.specs.Sinks.{sink_state, sink_shows};
-
-use crate::scripts::{REPLY, REQUEST, door, numbers};
+use crate::devices::{numbers, sink};
+use crate::scripts::{REPLY, REQUEST, door};
 use daemon_program::farmd;
 use daemon_worker::DoorKit;
-use edge_memory::{GateStation, MemDoor, MemSink, MemStation, Moves, RanList};
+use edge_memory::{GateStation, MemDoor, MemSink, MemStation, RanList};
 use edge_traits::{CallNumbers, Station};
 use farm_types::{Bytes, Ran};
 use std::alloc::{AllocError, Global};
@@ -174,19 +172,6 @@ fn strings(alloc: Global, words: &[&str]) -> Result<Vec<String>, AllocError> {
         list.push(String::from_str(alloc, word)?)?;
     }
     Ok(list)
-}
-
-// A sink of which these writes take nothing.
-fn sink(alloc: Global, zeros: &[u64]) -> Result<MemSink, AllocError>
-    ensures { IfOk result (λ s. (sink_shows (sink_state s)).stopped ≡ false) }
-{
-    let zeros = numbers(alloc, zeros)?;
-    let moves = Moves {
-        fails: CallNumbers::new(alloc),
-        zeros,
-        most: 1_000,
-    };
-    Ok(MemSink::new(alloc, moves))
 }
 
 fn station(alloc: Global, fails: &[u64]) -> Result<MemStation, AllocError> {

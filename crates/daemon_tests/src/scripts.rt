@@ -1,5 +1,6 @@
 //! What devices in memory follow.
 
+use crate::devices::numbers;
 use edge_memory::{LinkScript, LinkScripts, MemDoor, Moves, Peers};
 use edge_traits::CallNumbers;
 use farm_types::Bytes;
@@ -12,14 +13,6 @@ pub const REQUEST: &[u8] =
 /// The reply of success, 73 bytes with an object of 13.
 pub const REPLY: &[u8] =
     b"DONE00000001STAT00000000SERR00000000SOUT00000000DOTO0000000dSCO1\ndef a 1\n";
-
-pub fn numbers(alloc: Global, list: &[u64]) -> Result<CallNumbers, AllocError> {
-    let mut numbers = CallNumbers::new(alloc);
-    for number in list {
-        numbers.try_push(*number)?;
-    }
-    Ok(numbers)
-}
 
 fn peers_of(alloc: Global, list: &[u32]) -> Result<Peers, AllocError> {
     let mut peers = Peers::new(alloc);

@@ -1,6 +1,7 @@
 //! The service's answer to one connection.
 
-use crate::scripts::{REPLY, REQUEST, numbers};
+use crate::devices::numbers;
+use crate::scripts::{REPLY, REQUEST};
 use daemon_service::{Compiler, CompilerVec, Compilers, Served, fault_number, serve_connection};
 use edge_memory::{LinkScript, MemLink, MemStation, Moves, RanList};
 use farm_types::{Bytes, Ran, Word};

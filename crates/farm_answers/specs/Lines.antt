@@ -11,29 +11,29 @@ use Rattle.arg_scan.specs.Roles.{word_at}
 use Rattle.arg_scan.specs.Class.{class_of}
 
 -- the number that stands for a reason
-abbrev pub number_of : Why → ℕ
-number_of why.NoAction = 1
-number_of why.BothActions = 2
-number_of why.Preprocess = 3
-number_of why.Depend = 4
-number_of why.NoInput = 5
-number_of why.ManyInputs = 6
-number_of why.Native = 7
-number_of why.Profile = 8
-number_of why.Repo = 9
-number_of why.Specs = 10
-number_of why.Language = 11
-number_of why.SaveTemps = 12
-number_of why.Dump = 13
-number_of why.AsmListing = 14
-number_of why.ResponseFile = 15
-number_of why.Conftest = 16
-number_of why.StandardStream = 17
-number_of why.MissingOperand = 18
-number_of why.ManyOutputs = 19
-number_of why.OtherWord = 20
-number_of why.SideFile = 21
-number_of why.ReservedName = 22
+abbrev pub reason_number : Why → ℕ
+reason_number why.NoAction = 1
+reason_number why.BothActions = 2
+reason_number why.Preprocess = 3
+reason_number why.Depend = 4
+reason_number why.NoInput = 5
+reason_number why.ManyInputs = 6
+reason_number why.Native = 7
+reason_number why.Profile = 8
+reason_number why.Repo = 9
+reason_number why.Specs = 10
+reason_number why.Language = 11
+reason_number why.SaveTemps = 12
+reason_number why.Dump = 13
+reason_number why.AsmListing = 14
+reason_number why.ResponseFile = 15
+reason_number why.Conftest = 16
+reason_number why.StandardStream = 17
+reason_number why.MissingOperand = 18
+reason_number why.ManyOutputs = 19
+reason_number why.OtherWord = 20
+reason_number why.SideFile = 21
+reason_number why.ReservedName = 22
 
 abbrev pub action_text : Action → List ℕ
 action_text Compile = codes "-c"
@@ -42,7 +42,7 @@ action_text Assemble = codes "-S"
 -- `local W at P`: the number of the reason and its place. `remote -c SOURCE OUTPUT`, or with `-S`. No words have no line.
 abbrev pub line_of : List (List ℕ) → Scan → List ℕ
 line_of words scan.Empty = []
-line_of words (scan.Local why at) = codes "local " ++ decimal (number_of why) ++ codes " at " ++ decimal at ++ codes "\n"
+line_of words (scan.Local why at) = codes "local " ++ decimal (reason_number why) ++ codes " at " ++ decimal at ++ codes "\n"
 line_of words (scan.Remote action input output preprocessed ext) =
     codes "remote " ++ action_text action ++ codes " " ++ word_at words input ++ codes " " ++ output ++ codes "\n"
 line_of words scan.Memory = []

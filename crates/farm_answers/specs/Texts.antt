@@ -3,11 +3,11 @@ use Rattle.std.specs.Prelude.{ℕ, ◌+◌, List, ◌++◌, codes}
 use Rattle.std.specs.Fmt.{decimal}
 use Rattle.std.specs.List.{flat_map}
 use Rattle.host_list.specs.declared.fault.HostFault.{HostFault}
-use Rattle.host_list.specs.Faults.{number_of}
+use Rattle.host_list.specs.Faults.{host_fault_number}
 use Rattle.job_list.specs.declared.fault.JobFault.{JobFault}
-use Rattle.job_list.specs.Faults.{number_of as job_number_of}
+use Rattle.job_list.specs.Faults.{job_fault_number}
 use Rattle.job_graph.specs.declared.fault.GraphFault.{GraphFault}
-use Rattle.job_graph.specs.Faults.{number_of as graph_number_of}
+use Rattle.job_graph.specs.Faults.{graph_fault_number}
 use Rattle.stream_print.specs.declared.pieces.SinkKind.TheVariants.{Out}
 use Rattle.stream_print.specs.declared.pieces.Piece.{Piece}
 use Rattle.farm_words.specs.Help.{version}
@@ -31,15 +31,15 @@ bad_words_text place = codes "farm: bad words at word " ++ decimal place ++ code
 
 -- a fault of the host list, by its number and the place of its byte
 abbrev pub host_fault_text : ℕ → HostFault → List ℕ
-host_fault_text at fault = codes "farm: host list: fault " ++ decimal (number_of fault) ++ codes " at byte " ++ decimal at ++ codes "\n"
+host_fault_text at fault = codes "farm: host list: fault " ++ decimal (host_fault_number fault) ++ codes " at byte " ++ decimal at ++ codes "\n"
 
 -- a fault of the job list, by its number and its line
 abbrev pub job_fault_text : ℕ → JobFault → List ℕ
-job_fault_text line fault = codes "farm: job list: fault " ++ decimal (job_number_of fault) ++ codes " at line " ++ decimal line ++ codes "\n"
+job_fault_text line fault = codes "farm: job list: fault " ++ decimal (job_fault_number fault) ++ codes " at line " ++ decimal line ++ codes "\n"
 
 -- a line of needs that is wrong, by the number of its fault and its line
 abbrev pub needs_fault_text : ℕ → GraphFault → List ℕ
-needs_fault_text line fault = codes "farm: needs: fault " ++ decimal (graph_number_of fault) ++ codes " at line " ++ decimal line ++ codes "\n"
+needs_fault_text line fault = codes "farm: needs: fault " ++ decimal (graph_fault_number fault) ++ codes " at line " ++ decimal line ++ codes "\n"
 
 -- a job by its printed number, which counts from 1
 abbrev pub job_text : ℕ → List ℕ

@@ -5,7 +5,7 @@ ghost use Rattle.stream_print.specs.Prints.{sinks_view};
 ghost use Rattle.stream_print.specs.Printing.{Printing, complaint};
 ghost use Rattle.farm_answers.specs.Texts.{bad_jobs_status, cycle_text, job_text, needs_fault_text, no_memory_text};
 
-use crate::refuse::{BAD_JOBS, NO_MEMORY_TEXT, want_memory};
+use crate::refuse::{BAD_JOBS, NO_MEMORY_TEXT, refuse_by, want_memory};
 use edge_traits::Sink;
 use farm_types::Bytes;
 use job_graph::{GraphFault, Numbers};
@@ -25,10 +25,8 @@ pub fn refuse_needs<O: Sink, E: Sink>(
         (sinks_view O.shows E.shows out.new err.new) result }
 {
     let fault = fault.number();
-    match format!(in alloc; "farm: needs: fault {fault} at line {line}\n") {
-        Ok(text) => complain(text.as_bytes(), BAD_JOBS, NO_MEMORY_TEXT, out, err),
-        Err(_) => want_memory(out, err),
-    }
+    let text = format!(in alloc; "farm: needs: fault {fault} at line {line}\n");
+    refuse_by(text, BAD_JOBS, out, err)
 }
 
 // Adds the printed number of a job.

@@ -8,8 +8,8 @@ ghost use Rattle.farm_answers.specs.Lines as lines;
 use arg_scan::Why;
 
 /// The number that stands for a reason in what `scan` prints.
-pub fn number_of(why: Why) -> u8
-    ensures number { result ≡ lines.number_of why }
+pub fn reason_number(why: Why) -> u8
+    ensures number { result ≡ lines.reason_number why }
     ensures back { why_of result ≡ Some why }
 {
     match why {

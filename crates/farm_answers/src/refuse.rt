@@ -1,6 +1,6 @@
 //! How `farm` ends where it does nothing.
 
-ghost use Rattle.std.specs.Prelude.{[], ◌∷◌};
+ghost use Rattle.std.specs.Prelude.{◌≡◌, ℕ, List, [], ◌∷◌, IfOk, string_bytes};
 ghost use Rattle.stream_print.specs.Prints.{sinks_view};
 ghost use Rattle.stream_print.specs.Printing.{Printing, WantOf, complaint};
 ghost use Rattle.farm_answers.specs.Texts.{bad_hosts_status, bad_jobs_status, bad_period_text, bad_words_status, bad_words_text, cannot_read_status, cannot_read_text, host_fault_text, job_fault_text, no_memory_text};
@@ -8,7 +8,7 @@ ghost use Rattle.farm_answers.specs.Texts.{bad_hosts_status, bad_jobs_status, ba
 use edge_traits::Sink;
 use host_list::HostFault;
 use job_list::JobFault;
-use std::alloc::Global;
+use std::alloc::{AllocError, Global};
 use stream_print::{complain, no_memory};
 
 /// The exit status for words that don't fit.
@@ -32,6 +32,24 @@ pub fn want_memory<O: Sink, E: Sink>(out: &mut O, err: &mut E) -> u8
         (sinks_view O.shows E.shows out.new err.new) result }
 {
     no_memory(NO_MEMORY_TEXT, out, err)
+}
+
+// Refuses by this text; where there was no memory for it, it tells that.
+pub(crate) fn refuse_by<O: Sink, E: Sink>(
+    text: Result<String, AllocError>,
+    status: u8,
+    out: &mut O,
+    err: &mut E,
+) -> u8
+    ensures { (said : List ℕ) → IfOk text (λ made. string_bytes made ≡ said)
+        → Printing no_memory_text (complaint said ∷ []) status
+        (sinks_view O.shows E.shows out.old err.old)
+        (sinks_view O.shows E.shows out.new err.new) result }
+{
+    match text {
+        Ok(text) => complain(text.as_bytes(), status, NO_MEMORY_TEXT, out, err),
+        Err(_) => want_memory(out, err),
+    }
 }
 
 /// Refuses a back-off period that the environment names and that isn't right.
@@ -70,10 +88,8 @@ pub fn refuse_words<O: Sink, E: Sink>(alloc: Global, place: usize, out: &mut O, 
         (sinks_view O.shows E.shows out.old err.old)
         (sinks_view O.shows E.shows out.new err.new) result }
 {
-    match format!(in alloc; "farm: bad words at word {place}\n") {
-        Ok(text) => complain(text.as_bytes(), BAD_WORDS, NO_MEMORY_TEXT, out, err),
-        Err(_) => want_memory(out, err),
-    }
+    let text = format!(in alloc; "farm: bad words at word {place}\n");
+    refuse_by(text, BAD_WORDS, out, err)
 }
 
 /// Refuses a host list that has this fault at this byte.
@@ -89,10 +105,8 @@ pub fn refuse_host_list<O: Sink, E: Sink>(
         (sinks_view O.shows E.shows out.new err.new) result }
 {
     let fault = fault.number();
-    match format!(in alloc; "farm: host list: fault {fault} at byte {at}\n") {
-        Ok(text) => complain(text.as_bytes(), BAD_HOSTS, NO_MEMORY_TEXT, out, err),
-        Err(_) => want_memory(out, err),
-    }
+    let text = format!(in alloc; "farm: host list: fault {fault} at byte {at}\n");
+    refuse_by(text, BAD_HOSTS, out, err)
 }
 
 /// Refuses a job list that has this fault at this line.
@@ -108,8 +122,6 @@ pub fn refuse_job_list<O: Sink, E: Sink>(
         (sinks_view O.shows E.shows out.new err.new) result }
 {
     let fault = fault.number();
-    match format!(in alloc; "farm: job list: fault {fault} at line {line}\n") {
-        Ok(text) => complain(text.as_bytes(), BAD_JOBS, NO_MEMORY_TEXT, out, err),
-        Err(_) => want_memory(out, err),
-    }
+    let text = format!(in alloc; "farm: job list: fault {fault} at line {line}\n");
+    refuse_by(text, BAD_JOBS, out, err)
 }

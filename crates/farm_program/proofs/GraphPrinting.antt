@@ -8,11 +8,11 @@ use Rattle.stream_print.specs.declared.one.PrintStop.{PrintStop}
 use Rattle.stream_print.specs.Prints.{SinksView, Printed, BothGoOn}
 use Rattle.stream_print.specs.Printing.{PrintedFront}
 use Rattle.stream_print.proofs.PrintLemmas.{Printed-join, Printed-nothing, goes-same}
-use Rattle.farm_program.specs.Outcomes.{Outcome, outcome_pieces, pieces_from, graph_total, graph_pieces}
+use Rattle.farm_program.specs.Outcomes.{JobOutcome, outcome_pieces, pieces_from, graph_total, graph_pieces}
 use Rattle.farm_program.proofs.ReportLemmas.{PrintedFront-after}
 
 -- what was printed of the jobs before this one
-abbrev pub HasPrinted : List Host → ℕ → List Outcome → List Piece → SinksView → SinksView → Type 0
+abbrev pub HasPrinted : List Host → ℕ → List JobOutcome → List Piece → SinksView → SinksView → Type 0
 HasPrinted hosts job outcomes all old new =
     (done : List Piece) × Printed old new done × (done ++ pieces_from hosts job outcomes ≡ all)
 
@@ -24,10 +24,11 @@ one_part other (x ∷ more) some =
     let left : length more ≡ length (x ∷ more) - 1 = omega arith in
     ap (λ l. x ∷ l) (sym (take_all (length more) more (omega arith)) ∙ ap (λ n. take n more) left)
 
-module _ (hosts : List Host) (job : ℕ) (o : Outcome) (os rest : List Outcome) (all : List Piece) (is : rest ≡ o ∷ os) {a b : SinksView}
+module _ (hosts : List Host) (job : ℕ) (o : JobOutcome) (os rest : List JobOutcome) (all : List Piece) (is : rest ≡ o ∷ os)
+    {a b : SinksView}
     (before : HasPrinted hosts job rest all a b) where
   spread : before.0 ++ (outcome_pieces hosts job o ++ pieces_from hosts (job + 1) os) ≡ all
-  spread = ap (λ (ps : List Outcome). before.0 ++ pieces_from hosts job ps) (sym is) ∙ before.2
+  spread = ap (λ (ps : List JobOutcome). before.0 ++ pieces_from hosts job ps) (sym is) ∙ before.2
 
   -- a job was printed in part
   pub outcome_cut : {c : SinksView} {stop : PrintStop} → BothGoOn a b → PrintedFront (outcome_pieces hosts job o) stop b c
@@ -42,7 +43,7 @@ module _ (hosts : List Host) (job : ℕ) (o : Outcome) (os rest : List Outcome) 
     append_assoc before.0 (outcome_pieces hosts job o) (pieces_from hosts (job + 1) os) ∙ spread,
   )
 
-module _ (hosts : List Host) (outcomes : List Outcome) (a b : SinksView) where
+module _ (hosts : List Host) (outcomes : List JobOutcome) (a b : SinksView) where
   -- the jobs were printed in part
   pub outcomes_cut : {stop : PrintStop} → PrintedFront (pieces_from hosts 0 outcomes) stop a b
       → PrintedFront (graph_pieces hosts outcomes) stop a b

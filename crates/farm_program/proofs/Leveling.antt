@@ -14,7 +14,7 @@ use Rattle.job_graph.specs.Waves.{wave_of}
 use Rattle.farm_program.specs.declared.outcomes.State.{State}
 use Rattle.farm_program.specs.declared.outcomes.State.TheVariants.{Waits}
 use Rattle.farm_program.specs.Builds.{JobsDone, worker_number}
-use Rattle.farm_program.specs.Outcomes.{Outcome, waits, fates_of, all_wait, with_ends, outcomes_in}
+use Rattle.farm_program.specs.Outcomes.{JobOutcome, waits, fates_of, all_wait, with_ends, outcomes_in}
 use Rattle.farm_program.specs.Outcomes.{with_run, with_skips}
 use Rattle.farm_program.specs.Levels.{picked, level_wave, after_wave, LevelRan, level_built, level_empty, LevelsRan}
 use Rattle.farm_program.specs.Levels.{none_ran, one_more, IsPlaced, Stands, WaveRan, wave_built}
@@ -36,7 +36,7 @@ doable jobs run some few words within = record {
 
 all_waiting : {X : Type 0} (xs : List X) → outcomes_in [] (replicate (length xs) Waits) ≡ all_wait xs
 all_waiting [] = refl
-all_waiting (x ∷ xs) = ap (λ (os : List Outcome). waits ∷ os) (all_waiting xs)
+all_waiting (x ∷ xs) = ap (λ (os : List JobOutcome). waits ∷ os) (all_waiting xs)
 
 module _ {K : Type 0} (d : Devices K) (config : JobConfig) (most : ℕ) (graph : Graph) where
   -- a run list was built, and the other jobs of the level are left out
@@ -49,7 +49,7 @@ module _ {K : Type 0} (d : Devices K) (config : JobConfig) (most : ℕ) (graph :
       → Stands d config most graph (level + 1) new_states new_built first new
   level_stands level run old_states mid_states new_states old_built new_built first old new wave is runs
       (wave_built {made = made} some done built states) skips so =
-      let before : List Outcome = outcomes_in old_built old_states in
+      let before : List JobOutcome = outcomes_in old_built old_states in
       let w : Wave = level_wave graph level before in
       let run_is : run ≡ w.run = runs ∙ ap (λ (x : Wave). x.run) is in
       let one : Built = done.one in
@@ -125,7 +125,7 @@ module _ {K : Type 0} (d : Devices K) (config : JobConfig) (most : ℕ) (graph :
       → Stands d config most graph 0 states built kits kits
   none_stand states built kits waiting none = record {
     ran = subst (λ (b : List Built). LevelsRan d config most graph 0 (outcomes_in b states) b kits kits) (sym none)
-        (subst (λ (os : List Outcome). LevelsRan d config most graph 0 os [] kits kits)
+        (subst (λ (os : List JobOutcome). LevelsRan d config most graph 0 os [] kits kits)
         (sym (ap (λ (s : List State). outcomes_in [] s) waiting ∙ all_waiting graph.jobs)) none_ran);
     placed = subst (λ (s : List State). All (IsPlaced (length built)) s) (sym waiting)
         (All-replicate (IsPlaced (length built)) (length graph.jobs) Waits tt);

@@ -7,18 +7,18 @@ use Rattle.farm_types.specs.declared.hosts.Host.{Host}
 use Rattle.farm_machine.specs.declared.reports.Report.{Report}
 use Rattle.stream_print.specs.declared.pieces.Piece.{Piece}
 use Rattle.stream_print.specs.declared.one.PrintStop.{PrintStop}
-use Rattle.stream_print.specs.Prints.{SinksView, Printed, IsPart, BothGoOn}
-use Rattle.stream_print.specs.Printing.{IsFront, PrintedFront}
+use Rattle.stream_print.specs.Prints.{SinksView, Printed, IsCutPiece, BothGoOn}
+use Rattle.stream_print.specs.Printing.{IsPrintFront, PrintedFront}
 use Rattle.stream_print.proofs.PrintLemmas.{Printed-join, Printed-nothing, PrintedPart-after, IsPart-after, goes-join, goes-same}
 use Rattle.report_text.specs.Pieces.{job_pieces, jobs_pieces, total_piece, pieces}
 
 -- a front of some texts, after those before them
-pub IsFront-after : {texts done all : List Piece} (before after : List Piece) → before ++ (texts ++ after) ≡ all → IsFront texts done
-    → IsFront all (before ++ done)
+pub IsFront-after : {texts done all : List Piece} (before after : List Piece) → before ++ (texts ++ after) ≡ all → IsPrintFront texts done
+    → IsPrintFront all (before ++ done)
 IsFront-after {texts = texts} {done = done} before after are (inl (next, rest, whole)) =
     inl (next, rest ++ after, sym are ∙ ap (λ ts. before ++ (ts ++ after)) whole ∙ grind (arith, common_steps))
 IsFront-after {texts = texts} {done = done} before after are (inr (next, part)) =
-    inr (next, subst (λ ts. IsPart ts (before ++ done) next) are (IsPart-after before after part))
+    inr (next, subst (λ ts. IsCutPiece ts (before ++ done) next) are (IsPart-after before after part))
 
 -- a front of what comes after some whole texts
 pub PrintedFront-after : {stop : PrintStop} {texts : List Piece} {a b c : SinksView} (before after all : List Piece)

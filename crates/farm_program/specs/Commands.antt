@@ -3,7 +3,7 @@ use Rattle.std.specs.Prelude.{◌≡◌, ℕ, true, List, [], ◌∷◌, None}
 use Rattle.farm_types.specs.declared.jobs.JobConfig.{JobConfig}
 use Rattle.farm_types.specs.declared.hosts.Hosts.{Hosts}
 use Rattle.host_list.specs.declared.fault.HostFault.{HostFault}
-use Rattle.host_list.specs.HostLists.{HostListOf, HostFaultStands, printed}
+use Rattle.host_list.specs.HostLists.{HostListOf, HostFaultStands, printed_hosts}
 use Rattle.farm_words.specs.Commands.{IsCommand, Meaning, Build, Watch, Graph, Cc, Hosts as HostsCommand, Scan, Rehearse, Help, Version}
 use Rattle.farm_words.specs.Options.{Given, worker_count, line_count}
 use Rattle.farm_words.specs.Environment.{host_text_of, is_fallback_on, PeriodOf, HasBadPeriod}
@@ -34,7 +34,7 @@ pub data OnHosts {K : Type 0} (text : List ℕ) (variables : List (List ℕ × L
 -- The host list is printed as it is read, or refused by its fault.
 pub record ListsHosts {K : Type 0} (text : List ℕ) (old new : World K) (answer : ℕ) : Type 0 where
   pub untouched : Untouched old new
-  pub lists : ByHosts text (λ hosts. Printing no_memory_text (output (printed hosts) ∷ []) 0 old.sinks new.sinks answer) old.sinks new.sinks answer
+  pub lists : ByHosts text (λ hosts. Printing no_memory_text (output (printed_hosts hosts) ∷ []) 0 old.sinks new.sinks answer) old.sinks new.sinks answer
 
 -- how a single command is run: with retry, and at one host
 abbrev pub command_config : List (List ℕ × List ℕ) → Hosts → ℕ → JobConfig

@@ -17,7 +17,7 @@ use Rattle.farm_answers.specs.Texts.{bad_jobs_status, cycle_text, job_fault_text
 use Rattle.farm_answers.specs.Texts.{needs_fault_text, no_memory_text}
 use Rattle.farm_program.specs.Worlds.{World, Refused}
 use Rattle.farm_program.specs.Builds.{HasFaultOf, NoneRan}
-use Rattle.farm_program.specs.Outcomes.{Outcome, graph_pieces, graph_number}
+use Rattle.farm_program.specs.Outcomes.{JobOutcome, graph_pieces, graph_number}
 use Rattle.farm_program.specs.Levels.{LevelsRan, HasEnded, NeedsWereDone, level_count}
 
 -- ---- the whole text was read
@@ -25,7 +25,7 @@ use Rattle.farm_program.specs.Levels.{LevelsRan, HasEnded, NeedsWereDone, level_
 -- All levels of a graph were run, and what became of its jobs was to be printed.
 pub record LevelsDone {K : Type 0} (d : Devices K) (config : JobConfig) (most : ℕ) (graph : Graph) (old_kits new_kits : List K)
     (made : List Built) (old new : SinksView) (answer : ℕ) : Type 0 where
-  pub outcomes : List Outcome
+  pub outcomes : List JobOutcome
   pub levels : LevelsRan d config most graph (level_count graph.depths) outcomes made old_kits new_kits
   pub ended : All HasEnded outcomes
   pub needs_done : NeedsWereDone graph outcomes
@@ -35,7 +35,7 @@ pub record LevelsDone {K : Type 0} (d : Devices K) (config : JobConfig) (most : 
 pub record LevelsCut {K : Type 0} (d : Devices K) (config : JobConfig) (most : ℕ) (graph : Graph) (old_kits new_kits : List K)
     (made : List Built) (old new : SinksView) (answer : ℕ) : Type 0 where
   pub level : ℕ
-  pub outcomes : List Outcome
+  pub outcomes : List JobOutcome
   pub low : level < level_count graph.depths
   pub levels : LevelsRan d config most graph level outcomes made old_kits new_kits
   pub needs_done : NeedsWereDone graph outcomes
@@ -107,7 +107,7 @@ pub data RunsGraph {K : Type 0} (d : Devices K) (config : JobConfig) (most : ℕ
 -- Nothing is left unread, all levels of the graph were run, no job waits, and the answer is the number of what became of the jobs.
 pub record GraphCompleted {K : Type 0} (d : Devices K) (config : JobConfig) (most : ℕ) (graph : Graph) (old new : World K) (answer : ℕ) : Type 0 where
   pub nothing_left : new.source.left.value ≡ []
-  pub outcomes : List Outcome
+  pub outcomes : List JobOutcome
   pub levels : LevelsRan d config most graph (level_count graph.depths) outcomes new.built old.kits new.kits
   pub ended : All HasEnded outcomes
   pub needs_done : NeedsWereDone graph outcomes

@@ -13,27 +13,27 @@ use Rattle.job_graph.specs.Waves.{wave_of}
 use Rattle.farm_program.specs.declared.outcomes.State.{State}
 use Rattle.farm_program.specs.declared.outcomes.State.TheVariants as state
 use Rattle.farm_program.specs.Builds.{JobsDone, worker_number}
-use Rattle.farm_program.specs.Outcomes.{Outcome, waits, ran, is_good, fates_of, all_wait, with_ends, with_left_out, outcomes_in, with_run}
+use Rattle.farm_program.specs.Outcomes.{JobOutcome, waits, ran, went_well, fates_of, all_wait, with_ends, with_left_out, outcomes_in, with_run}
 
 -- the jobs at these places
 abbrev pub picked : List (List (List ℕ)) → List ℕ → List (List (List ℕ))
 picked jobs places = map (λ place. slice_index_or jobs place []) places
 
 -- which jobs of a level run and which are left out, by what became of those below it
-abbrev pub level_wave : Graph → ℕ → List Outcome → Wave
+abbrev pub level_wave : Graph → ℕ → List JobOutcome → Wave
 level_wave graph level outcomes = wave_of graph level (fates_of outcomes)
 
 -- the jobs of a level's run list
-abbrev pub level_jobs : Graph → ℕ → List Outcome → List (List (List ℕ))
+abbrev pub level_jobs : Graph → ℕ → List JobOutcome → List (List (List ℕ))
 level_jobs graph level outcomes = picked graph.jobs (level_wave graph level outcomes).run
 
 -- what became of the jobs after a level, where those of its run list have these outcomes
-abbrev pub after_wave : Wave → List Outcome → List Outcome
+abbrev pub after_wave : Wave → List JobOutcome → List JobOutcome
 after_wave wave outcomes = with_left_out outcomes wave.skip wave.by
 
 -- One level. The jobs of its run list were built, over new slots; the entries that this added are told by this build alone. Where the
 -- run list is empty there was no build, and no kit has a new entry.
-pub data LevelRan {K : Type 0} (d : Devices K) (config : JobConfig) (most : ℕ) (graph : Graph) (level : ℕ) (before after : List Outcome)
+pub data LevelRan {K : Type 0} (d : Devices K) (config : JobConfig) (most : ℕ) (graph : Graph) (level : ℕ) (before after : List JobOutcome)
     (made : List Built) (old new : List K) : Type 0 where
   level_built : 1 ≤ length (level_wave graph level before).run
       → (done : JobsDone d config (level_jobs graph level before) (worker_number most old (level_jobs graph level before)) made old new)
@@ -45,10 +45,10 @@ pub data LevelRan {K : Type 0} (d : Devices K) (config : JobConfig) (most : ℕ)
 
 -- The levels below this one, one after another: the kits of one are handed to the next as it left them, and nothing else was done with
 -- them.
-pub data LevelsRan {K : Type 0} (d : Devices K) (config : JobConfig) (most : ℕ) (graph : Graph) : ℕ → List Outcome → List Built → List K
+pub data LevelsRan {K : Type 0} (d : Devices K) (config : JobConfig) (most : ℕ) (graph : Graph) : ℕ → List JobOutcome → List Built → List K
     → List K → Type 0 where
   none_ran : {kits : List K} → LevelsRan d config most graph 0 (all_wait graph.jobs) [] kits kits
-  one_more : {level : ℕ} {before after : List Outcome} {made more : List Built} {old mid new : List K}
+  one_more : {level : ℕ} {before after : List JobOutcome} {made more : List Built} {old mid new : List K}
       → LevelsRan d config most graph level before made old mid
       → LevelRan d config most graph level before after more mid new
       → LevelsRan d config most graph (level + 1) after (made ++ more) old new
@@ -59,17 +59,17 @@ level_count [] = 0
 level_count (d ∷ ds) = max (d + 1) (level_count ds)
 
 -- a job doesn't wait any more
-abbrev pub HasEnded : Outcome → Type 0
+abbrev pub HasEnded : JobOutcome → Type 0
 HasEnded o = o ≡ waits → ⊥
 
 -- what became of a job; one that isn't there waits
-abbrev pub outcome_at : List Outcome → ℕ → Outcome
+abbrev pub outcome_at : List JobOutcome → ℕ → JobOutcome
 outcome_at outcomes job = slice_index_or outcomes job waits
 
 -- Each job that was run needs only jobs that were done with status 0. By the levels these were done before it began.
-abbrev pub NeedsWereDone : Graph → List Outcome → Type 0
+abbrev pub NeedsWereDone : Graph → List JobOutcome → Type 0
 NeedsWereDone graph outcomes = (job : ℕ) (end : End) → outcome_at outcomes job ≡ ran end
-    → All (λ need. is_good (outcome_at outcomes need) ≡ true) (needs_at graph.needs job)
+    → All (λ need. went_well (outcome_at outcomes need) ≡ true) (needs_at graph.needs job)
 
 -- ---- how the levels are run
 

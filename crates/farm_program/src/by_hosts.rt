@@ -1,7 +1,7 @@
 //! The commands that run jobs, by the environment and their host list.
 ghost use Rattle.std.specs.Prelude.{◌≡◌, ◌<◌, [], false, All, length, map, string_bytes};
 ghost use Rattle.edge_traits.specs.Keepers.{IsIdle};
-ghost use Rattle.farm_words.specs.Options.{given};
+ghost use Rattle.farm_words.specs.Options.{given_in};
 ghost use Rattle.farm_words.specs.Commands as commands;
 ghost use Rattle.farm_machine.specs.Devices.{devices};
 ghost use Rattle.edge_traits.specs.Sources.{SourceView};
@@ -72,14 +72,14 @@ pub fn build_by<
 ) -> Ended
 where
     D::Link: Send,
-    requires within { AreWithin (given call.options) }
+    requires within { AreWithin (given_in call.options) }
     requires input { (R.shows input.old).ended ≡ false }
     requires kits { AreReady 1 (λ kit. IsIdle (K.shows kit.keeper)) kits.old.items }
     ensures { Does (devices D.shows S.shows K.shows C.shows D.may_give S.ran)
         (map (λ v. (string_bytes v.0, string_bytes v.1)) call.entry.env.now)
         (world R.shows O.shows E.shows input.old kits.old.items out.old err.old [])
         (world R.shows O.shows E.shows input.new kits.new.items out.new err.new result.built) result.status
-        (meant_by call.entry.way (given call.entry.options)) }
+        (meant_by call.entry.way (given_in call.entry.options)) }
 {
     let BuildCall { way, options, env } = call;
     let settings = Settings { options, env };

@@ -98,7 +98,7 @@ pub fn set_skips(states: &mut [State], jobs: &[u32], bys: &[u32])
 
 // Whether a job was done with status 0.
 fn is_good(built: &[Built], state: State) -> bool
-    ensures { result ≡ outcomes.is_good (outcome_in built.now state) }
+    ensures { result ≡ outcomes.went_well (outcome_in built.now state) }
 {
     match state {
         State::Ran { run, place } => match report_in(built, run, place) {
@@ -111,7 +111,7 @@ fn is_good(built: &[Built], state: State) -> bool
 
 // How many jobs were done with status 0.
 fn count_good(built: &[Built], states: &[State]) -> usize
-    ensures good { result ≡ count_by outcomes.is_good (outcomes_in built.now states.now) }
+    ensures good { result ≡ count_by outcomes.went_well (outcomes_in built.now states.now) }
     ensures few { result ≤ length states.now }
 {
     let mut good = 0;

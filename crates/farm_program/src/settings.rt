@@ -1,6 +1,6 @@
 //! How the jobs of a command are run, by its options, the environment and the host list.
 ghost use Rattle.std.specs.Prelude.{◌≡◌, [], IfErr, IfOk, map, string_bytes};
-ghost use Rattle.farm_words.specs.Options.{given};
+ghost use Rattle.farm_words.specs.Options.{given_in};
 ghost use Rattle.farm_words.specs.Within.{AreWithin};
 ghost use Rattle.farm_machine.specs.Usable.{IsUsable};
 ghost use Rattle.stream_print.specs.Prints.{sinks_view};
@@ -35,11 +35,11 @@ pub enum ConfigError {
 /// The configuration that settings give: their host list, read, and what options and environment say. The period is looked at before
 /// the hosts.
 pub fn configure(alloc: Global, settings: &Settings<'_>) -> Result<JobConfig, ConfigError>
-    requires { AreWithin (given settings.now.options) }
+    requires { AreWithin (given_in settings.now.options) }
     ensures usable { IfOk result (λ config. IsUsable config) }
-    ensures made { IfOk result (λ config. IsConfigOf (given settings.now.options)
+    ensures made { IfOk result (λ config. IsConfigOf (given_in settings.now.options)
         (map (λ v. (string_bytes v.0, string_bytes v.1)) settings.now.env.now) config) }
-    ensures fault { IfErr result (λ error. ConfigFaultStands (given settings.now.options)
+    ensures fault { IfErr result (λ error. ConfigFaultStands (given_in settings.now.options)
         (map (λ v. (string_bytes v.0, string_bytes v.1)) settings.now.env.now) error) }
 {
     let Some(period) = back_off_period(settings.env) else {

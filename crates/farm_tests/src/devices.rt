@@ -5,9 +5,9 @@ ghost use Rattle.edge_traits.specs.Keepers.{IsIdle};
 ghost use Rattle.edge_traits.specs.Told.{told};
 ghost use Rattle.edge_memory.specs.Keepers.{keeper_state, keeper_shows};
 
+use crate::kits::{kit_count, standing_clock};
 use edge_memory::{
-    LinkScript, LinkScripts, MemClock, MemDialer, MemKeeper, MemSource, MemStation, Moments, Moves,
-    RanList,
+    LinkScript, LinkScripts, MemClock, MemDialer, MemKeeper, MemSource, MemStation, Moves, RanList,
 };
 use edge_traits::{CallNumbers, Clock, Dialer, EdgeFault, FileList, Keeper, Kit, Sink, Station};
 use farm_program::farm;
@@ -155,18 +155,6 @@ fn files_of(alloc: Global, script: &Script) -> Result<FileList, AllocError> {
     Ok(files)
 }
 
-/// A keeper without files.
-pub(crate) fn empty_keeper(alloc: Global) -> MemKeeper
-    ensures { IsIdle (keeper_shows (keeper_state result)) }
-{
-    MemKeeper::new(FileList::new(alloc), CallNumbers::new(alloc))
-}
-
-/// A clock that stands.
-pub(crate) fn standing_clock(alloc: Global) -> MemClock {
-    MemClock::new(Moments::new(alloc))
-}
-
 fn dialer_of(alloc: Global, script: &Script) -> Result<MemDialer, AllocError> {
     let fails = numbers(alloc, script.dial_fails)?;
     let links = links_of(alloc, script)?;
@@ -202,26 +190,13 @@ pub(crate) fn kit(alloc: Global, script: &Script) -> Result<MemKit, AllocError>
     })
 }
 
-fn kit_count(script: &Script) -> usize
-    ensures some { 1 ≤ result }
-    ensures most { result ≤ 16 }
-{
-    if script.kits == 0 {
-        1
-    } else if script.kits > 16 {
-        16
-    } else {
-        script.kits
-    }
-}
-
 /// So many kits of a script, but 1 at least and 16 at most.
 pub(crate) fn kits(alloc: Global, script: &Script) -> Result<Vec<MemKit>, AllocError>
     ensures some { IfOk result (λ kits. 1 ≤ length kits.items) }
     ensures most { IfOk result (λ kits. length kits.items ≤ 16) }
     ensures idle { IfOk result (λ kits. All (λ kit. IsIdle (keeper_shows (keeper_state kit.keeper))) kits.items) }
 {
-    let count = kit_count(script);
+    let count = kit_count(script.kits);
     let mut kits = Vec::new(alloc);
     'making: while kits.len() < count {
         kits.push(kit(alloc, script)?)?;

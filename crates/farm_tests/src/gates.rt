@@ -4,7 +4,8 @@ ghost use Rattle.std.specs.Prelude.{◌≡◌, length, All, IfOk};
 ghost use Rattle.edge_traits.specs.Keepers.{IsIdle};
 ghost use Rattle.edge_memory.specs.Keepers.{keeper_state, keeper_shows};
 
-use crate::devices::{Seen, asked_for, empty_keeper, standing_clock, told};
+use crate::devices::{Seen, asked_for, told};
+use crate::kits::{empty_keeper, standing_clock};
 use edge_memory::{
     GateDialer, GateStation, LinkScripts, MemClock, MemDialer, MemKeeper, MemStation, RanList,
 };

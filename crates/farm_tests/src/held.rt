@@ -6,7 +6,8 @@ ghost use Rattle.edge_traits.specs.Told.{told, untold};
 ghost use Rattle.edge_memory.specs.Gates.{gate_station_view, leaves_nothing};
 ghost use Rattle.edge_memory.specs.Keepers.{keeper_state, keeper_shows};
 
-use crate::devices::{Page, asked_for, call, empty_keeper};
+use crate::devices::{Page, asked_for, call};
+use crate::kits::empty_keeper;
 use edge_memory::{GateStation, LinkScripts, MemDialer, MemKeeper};
 use edge_traits::{Bounds, CallNumbers, Clock, EdgeFault, Kit, Sink, Station, StationFault};
 use farm_types::{Bytes, Ran, Word};

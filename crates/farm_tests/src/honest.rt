@@ -9,49 +9,19 @@ ghost use Rattle.farm_program.specs.Builds.{JobsDone};
 ghost use Rattle.farm_machine.specs.Usable.{job_at};
 ghost use Rattle.rehearsal.specs.Loops.{IsLoop, loop_kits, AllCompilers};
 
-use crate::devices::{Page, content_of, empty_keeper, standing_clock, strings};
-use edge_memory::{MemClock, MemKeeper, MemSource};
-use edge_traits::{CallNumbers, Kit};
+use crate::devices::{Page, content_of, strings};
+use crate::kits::{LoopKit, one_kit};
+use edge_memory::MemSource;
+use edge_traits::CallNumbers;
 use farm_program::{Ended, farm};
 use farm_types::Bytes;
 use job_driver::run_means;
-use loop_link::LoopDialer;
-use rehearsal::{compiler_table, loops_answer_as_the_compiler, loops_are_fully_honest};
-use sample_compiler::SampleStation;
-use std::alloc::{AllocError, Global};
+use rehearsal::{loops_answer_as_the_compiler, loops_are_fully_honest};
+use std::alloc::Global;
 use std::process::Abort;
 use std::sync::Wait;
 use std::test::Fail;
 use std::thread::Threads;
-use workload::make;
-
-type LoopKit = Kit<LoopDialer<SampleStation>, SampleStation, MemKeeper, MemClock>;
-
-// A kit whose loop and station run the compiler over the files of one job of the workload.
-fn loop_kit(alloc: Global) -> Result<LoopKit, AllocError>
-    ensures loops { IfOk result (λ kit. IsLoop kit) }
-    ensures idle { IfOk result (λ kit. IsIdle (keeper_shows (keeper_state kit.keeper))) }
-{
-    let there = SampleStation::new(make(alloc, 1)?.files);
-    let here = SampleStation::new(make(alloc, 1)?.files);
-    Ok(Kit {
-        dialer: LoopDialer::new(there, compiler_table(alloc)?),
-        station: here,
-        keeper: empty_keeper(alloc),
-        clock: standing_clock(alloc),
-    })
-}
-
-fn one_kit(alloc: Global) -> Result<Vec<LoopKit>, AllocError>
-    ensures one { IfOk result (λ kits. length kits.items ≤ 1) }
-    ensures some { IfOk result (λ kits. 1 ≤ length kits.items) }
-    ensures loops { IfOk result (λ kits. All (λ kit. IsLoop kit) kits.items) }
-    ensures idle { IfOk result (λ kits. All (λ kit. IsIdle (keeper_shows (keeper_state kit.keeper))) kits.items) }
-{
-    let mut kits = Vec::new(alloc);
-    kits.push(loop_kit(alloc)?)?;
-    Ok(kits)
-}
 
 // A build over such kits. Each object that a job puts is the sample compiler's, of the job's own preprocessed source and words.
 fn build_over_loops<W: Threads + Wait + Sync>(

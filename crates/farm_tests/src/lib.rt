@@ -17,6 +17,7 @@ mod held;
 mod honest;
 #[cfg(test)]
 mod jobs;
+pub mod kits;
 #[cfg(test)]
 mod loops;
 #[cfg(test)]

@@ -4,7 +4,8 @@ ghost use Rattle.std.specs.Prelude.{◌≤◌, length, All, IfOk};
 ghost use Rattle.edge_traits.specs.Keepers.{IsIdle};
 ghost use Rattle.edge_memory.specs.Keepers.{keeper_state, keeper_shows};
 
-use crate::devices::{Seen, asked_for, content_of, empty_keeper, standing_clock, told};
+use crate::devices::{Seen, asked_for, content_of, told};
+use crate::kits::{empty_keeper, standing_clock};
 use edge_memory::{MemClock, MemKeeper};
 use edge_traits::{Exchange, Kit};
 use farm_types::Bytes;

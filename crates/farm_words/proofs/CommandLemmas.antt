@@ -3,8 +3,8 @@ use Rattle.std.proofs.Common.{◌≡◌, ℕ, suc, List, [], ◌∷◌, length, 
 use Rattle.std.proofs.lemmas.List.{length-map}
 use Rattle.farm_words.specs.declared.name.CommandName.{CommandName}
 use Rattle.farm_words.specs.declared.command.Command.{Command}
-use Rattle.farm_words.specs.Numbers.{jobs_of}
-use Rattle.farm_words.specs.Names.{first_word}
+use Rattle.farm_words.specs.Numbers.{jobs_number}
+use Rattle.farm_words.specs.Names.{first_word_named}
 use Rattle.farm_words.specs.Commands.{Meaning, meaning, command_meant, counted, rehearse_words, is_help_first, asks_help, ByFirstWord, WordsRead, IsCommand, BadAt}
 
 -- what an answer means is its place in the contract
@@ -26,14 +26,14 @@ module _ {X : Type 0} (f : X → List ℕ) where
   nothing_asked name (word ∷ words) none = absurd (let e : suc (length words) ≡ 0 = none in cc)
 
   module _ (words : List X) (word : X) (more : List X) (text : List ℕ) (are : words ≡ word ∷ more) (spelled : text ≡ f word) where
-    pub first_read : (answer : Result Meaning ℕ) → ByFirstWord (first_word text) (map f more) answer → WordsRead (map f words) answer
+    pub first_read : (answer : Result Meaning ℕ) → ByFirstWord (first_word_named text) (map f more) answer → WordsRead (map f words) answer
     first_read answer read =
-        subst (λ (ws : List X). WordsRead (map f ws) answer) (sym are) (subst (λ t. ByFirstWord (first_word t) (map f more) answer) spelled read)
+        subst (λ (ws : List X). WordsRead (map f ws) answer) (sym are) (subst (λ t. ByFirstWord (first_word_named t) (map f more) answer) spelled read)
 
-    pub first_counted : counted (jobs_of text) (map f words) ≡ rehearse_words (map f words)
+    pub first_counted : counted (jobs_number text) (map f words) ≡ rehearse_words (map f words)
     first_counted =
-        ap (λ t. counted (jobs_of t) (map f words)) spelled
-        ∙ subst (λ (ws : List X). counted (jobs_of (f word)) (map f ws) ≡ rehearse_words (map f ws)) (sym are) refl
+        ap (λ t. counted (jobs_number t) (map f words)) spelled
+        ∙ subst (λ (ws : List X). counted (jobs_number (f word)) (map f ws) ≡ rehearse_words (map f ws)) (sym are) refl
 
     pub first_asked : (name : CommandName) → is_help_first name text (length more) ≡ asks_help name (map f words)
     first_asked name =

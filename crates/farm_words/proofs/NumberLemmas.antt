@@ -4,7 +4,7 @@ use Rattle.std.specs.Prelude.{◌⊎◌}
 use Rattle.std.specs.Char.{digit_value}
 use Rattle.std.specs.Str.Parse.{AllDigits, digits_value}
 use Rattle.std.proofs.lemmas.Bool.{and_from, and_parts, ltb-true, lt-ltb, leb-true, le-leb}
-use Rattle.farm_words.specs.Numbers.{all_digits, is_short_number, number_of, IsNumber}
+use Rattle.farm_words.specs.Numbers.{all_digits, is_short_number, number_within, IsNumber}
 
 digits_pass : (word : List ℕ) → AllDigits 10 word → all_digits word ≡ true
 digits_pass [] h = refl
@@ -53,10 +53,10 @@ module _ (digits least greatest : ℕ) (word : List ℕ) where
         most = leb-true (digits_value 10 word) greatest all.1;
       }
 
-  pub number_some : (n : ℕ) → IsNumber digits least greatest word n → Some n ≡ number_of digits least greatest word
+  pub number_some : (n : ℕ) → IsNumber digits least greatest word n → Some n ≡ number_within digits least greatest word
   number_some n is = some_value (is_short_number digits word && nat_le least (digits_value 10 word) && nat_le (digits_value 10 word) greatest) (digits_value 10 word) n (passes n is) is.value
 
-  pub number_none : ((n : ℕ) → ¬ (IsNumber digits least greatest word n)) → None ≡ number_of digits least greatest word
+  pub number_none : ((n : ℕ) → ¬ (IsNumber digits least greatest word n)) → None ≡ number_within digits least greatest word
   number_none none = no_value (is_short_number digits word && nat_le least (digits_value 10 word) && nat_le (digits_value 10 word) greatest) (digits_value 10 word) (λ h. none (digits_value 10 word) (is_number h))
 
   -- the word spells a number so, or none

@@ -5,7 +5,7 @@ use Rattle.farm_words.specs.declared.name.CommandName.{CommandName}
 use Rattle.farm_words.specs.declared.name.CommandName.TheVariants as name
 use Rattle.farm_words.specs.declared.name.FirstWord.{FirstWord}
 use Rattle.farm_words.specs.declared.name.FirstWord.TheVariants as first
-use Rattle.farm_words.specs.Names.{first_word}
+use Rattle.farm_words.specs.Names.{first_word_named}
 use Rattle.farm_words.specs.Options.{Given}
 use Rattle.farm_words.specs.Commands.{BadAt, IsCommand, Meaning, Build, Watch, Graph, Cc, Hosts, Scan, Help, Version, at_most, at_least_one, rehearse_words, with_options, asks_help, NamedCommand, ByFirstWord, WordsRead}
 use Rattle.farm_words.proofs.OptionReading.{options_read, all_read, read_once}
@@ -30,7 +30,7 @@ by_first_word (Some (first.Name name)) words =
 -- what words mean, computed
 abbrev read_words : List (List ℕ) → Result Meaning ℕ
 read_words [] = Err 0
-read_words (word ∷ words) = by_first_word (first_word word) words
+read_words (word ∷ words) = by_first_word (first_word_named word) words
 
 named_some : (name : CommandName) (words : List (List ℕ)) → NamedCommand name words (command_words name words)
 named_some name.Build words = (options_read name.Build words, all_read name.Build words, refl)
@@ -73,11 +73,11 @@ first_one (Some (first.Name name)) words answer read = help_one (asks_help name 
 -- words are read in one way
 read_some : (words : List (List ℕ)) → WordsRead words (read_words words)
 read_some [] = refl
-read_some (word ∷ words) = first_some (first_word word) words
+read_some (word ∷ words) = first_some (first_word_named word) words
 
 read_one : (words : List (List ℕ)) (answer : Result Meaning ℕ) → WordsRead words answer → answer ≡ read_words words
 read_one [] answer is = is
-read_one (word ∷ words) answer read = first_one (first_word word) words answer read
+read_one (word ∷ words) answer read = first_one (first_word_named word) words answer read
 
 pub some_reading : (words : List (List ℕ)) → ((meant : Meaning) × IsCommand words meant) ⊎ ((place : ℕ) × BadAt words place)
 some_reading words = elim (read_words words) as (λ r. WordsRead words r → ((meant : Meaning) × IsCommand words meant) ⊎ ((place : ℕ) × BadAt words place)) [

@@ -10,10 +10,10 @@ use Rattle.farm_words.specs.declared.name.FirstWord.{FirstWord}
 use Rattle.farm_words.specs.declared.name.FirstWord.TheVariants as first
 use Rattle.farm_words.specs.declared.name.OptionName.TheVariants as option
 use Rattle.farm_words.specs.Limits.{count_digits, workers_max, jobs_max, tries_digits, tries_max, lines_max}
-use Rattle.farm_words.specs.Numbers.{is_short_number, number_of, jobs_of}
+use Rattle.farm_words.specs.Numbers.{is_short_number, number_within, jobs_number}
 use Rattle.farm_words.specs.Commands.{Meaning, Cc, Scan, Rehearse, Help, Version, IsCommand, ByFirstWord, NamedCommand, asks_help, at_most, counted, rehearse_words}
 use Rattle.farm_words.specs.Options.{given_by}
-use Rattle.farm_words.specs.Names.{first_word, option_text}
+use Rattle.farm_words.specs.Names.{first_word_named, option_text}
 use Rattle.option_words.specs.Items.{Item, value_in}
 use Rattle.farm_words.specs.Within.{AreWithin, IsWithin}
 
@@ -24,15 +24,15 @@ numbered true true false least greatest n low high m is = absurd (grind (arith, 
 numbered true false high' least greatest n low high m is = absurd (grind (arith, is))
 numbered false low' high' least greatest n low high m is = absurd (grind (arith, is))
 
-number-within : (digits least greatest : ℕ) (word : List ℕ) (m : ℕ) → number_of digits least greatest word ≡ Some m → (least ≤ m) × (m ≤ greatest)
+number-within : (digits least greatest : ℕ) (word : List ℕ) (m : ℕ) → number_within digits least greatest word ≡ Some m → (least ≤ m) × (m ≤ greatest)
 number-within digits least greatest word m is = numbered (is_short_number digits word) (nat_le least (digits_value 10 word)) (nat_le (digits_value 10 word) greatest) least greatest (digits_value 10 word) refl refl m is
 
 -- a value that isn't there stands for its default
-within-or : (digits greatest default : ℕ) (o : Option (List ℕ)) → (1 ≤ default) × (default ≤ greatest) → (1 ≤ unwrap_or (option_and_then (number_of digits 1 greatest) o) default) × (unwrap_or (option_and_then (number_of digits 1 greatest) o) default ≤ greatest)
+within-or : (digits greatest default : ℕ) (o : Option (List ℕ)) → (1 ≤ default) × (default ≤ greatest) → (1 ≤ unwrap_or (option_and_then (number_within digits 1 greatest) o) default) × (unwrap_or (option_and_then (number_within digits 1 greatest) o) default ≤ greatest)
 within-or digits greatest default None known = known
-within-or digits greatest default (Some word) known = go (number_of digits 1 greatest word) refl
+within-or digits greatest default (Some word) known = go (number_within digits 1 greatest word) refl
   where
-    go : (o : Option ℕ) → number_of digits 1 greatest word ≡ o → (1 ≤ unwrap_or o default) × (unwrap_or o default ≤ greatest)
+    go : (o : Option ℕ) → number_within digits 1 greatest word ≡ o → (1 ≤ unwrap_or o default) × (unwrap_or o default ≤ greatest)
     go None is = known
     go (Some m) is = number-within digits 1 greatest word m is
 
@@ -64,9 +64,9 @@ any-words meant false within = within
 
 rehearsed : (words : List (List ℕ)) → ResultWithin (rehearse_words words)
 rehearsed [] = tt
-rehearsed (word ∷ words) = go (jobs_of word) refl
+rehearsed (word ∷ words) = go (jobs_number word) refl
   where
-    go : (o : Option ℕ) → jobs_of word ≡ o → ResultWithin (counted o (word ∷ words))
+    go : (o : Option ℕ) → jobs_number word ≡ o → ResultWithin (counted o (word ∷ words))
     go None is = tt
     go (Some jobs) is = let few = number-within count_digits 1 jobs_max word jobs is in either (nat_le (length (word ∷ words)) 1) (Rehearse jobs) 2 (record { some = few.0; most = few.1 })
 
@@ -95,4 +95,4 @@ by-first (Some (first.Name command)) words answer read = go (asks_help command w
 
 pub command-within : (words : List (List ℕ)) (meant : Meaning) → IsCommand words meant → IsWithin meant
 command-within [] meant is = absurd (grind (arith, is))
-command-within (word ∷ words) meant read = by-first (first_word word) words (Ok meant) read
+command-within (word ∷ words) meant read = by-first (first_word_named word) words (Ok meant) read

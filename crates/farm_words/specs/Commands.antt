@@ -7,9 +7,9 @@ use Rattle.farm_words.specs.declared.name.FirstWord.{FirstWord}
 use Rattle.farm_words.specs.declared.name.FirstWord.TheVariants as first
 use Rattle.farm_words.specs.declared.command.Command.{Command}
 use Rattle.farm_words.specs.declared.command.Command.TheVariants as command
-use Rattle.farm_words.specs.Names.{first_word, takes_any_words}
-use Rattle.farm_words.specs.Numbers.{jobs_of}
-use Rattle.farm_words.specs.Options.{Given, given, OptionsRead}
+use Rattle.farm_words.specs.Names.{first_word_named, takes_any_words}
+use Rattle.farm_words.specs.Numbers.{jobs_number}
+use Rattle.farm_words.specs.Options.{Given, given_in, OptionsRead}
 
 -- what a command is to do
 pub data Meaning : Type 0 where
@@ -24,9 +24,9 @@ pub data Meaning : Type 0 where
   Version : Meaning
 
 abbrev pub meaning : Command → Meaning
-meaning (command.Build options) = Build (given options)
-meaning (command.Watch options) = Watch (given options)
-meaning (command.Graph options) = Graph (given options)
+meaning (command.Build options) = Build (given_in options)
+meaning (command.Watch options) = Watch (given_in options)
+meaning (command.Graph options) = Graph (given_in options)
 meaning (command.Cc words) = Cc (map string_bytes words.now)
 meaning (command.Hosts hosts) = Hosts (option_copied hosts)
 meaning (command.Scan words) = Scan (map string_bytes words.now)
@@ -53,7 +53,7 @@ counted (Some jobs) words = at_most 1 (Rehearse jobs) words
 
 abbrev pub rehearse_words : List (List ℕ) → Result Meaning ℕ
 rehearse_words [] = Err 1
-rehearse_words (word ∷ words) = counted (jobs_of word) (word ∷ words)
+rehearse_words (word ∷ words) = counted (jobs_number word) (word ∷ words)
 
 abbrev pub with_options : (Given → Meaning) → Result Given ℕ → Result Meaning ℕ
 with_options meant (Ok options) = Ok (meant options)
@@ -92,7 +92,7 @@ ByFirstWord (Some (first.Name name)) words answer =
 -- what the words of `farm` mean, or the place of the first that doesn't fit; that of a missing word is their number
 abbrev pub WordsRead : List (List ℕ) → Result Meaning ℕ → Type 0
 WordsRead [] answer = answer ≡ Err 0
-WordsRead (word ∷ words) answer = ByFirstWord (first_word word) words answer
+WordsRead (word ∷ words) answer = ByFirstWord (first_word_named word) words answer
 
 -- the words are this command
 abbrev pub IsCommand : List (List ℕ) → Meaning → Type 0

@@ -8,8 +8,8 @@ use Rattle.farm_words.specs.declared.name.OptionName.{OptionName}
 use Rattle.farm_words.specs.declared.name.OptionName.TheVariants as option
 
 -- what the first word asks for
-abbrev pub first_word : List ℕ → Option FirstWord
-first_word word =
+abbrev pub first_word_named : List ℕ → Option FirstWord
+first_word_named word =
     if bytes_eq word (codes "build") then Some (first.Name command.Build)
     else (if bytes_eq word (codes "watch") then Some (first.Name command.Watch)
     else (if bytes_eq word (codes "graph") then Some (first.Name command.Graph)

@@ -22,25 +22,25 @@ abbrev pub is_short_number : ℕ → List ℕ → Bool
 is_short_number digits word = nat_le 1 (length word) && nat_le (length word) digits && all_digits word
 
 -- the number that the word spells so
-abbrev pub number_of : ℕ → ℕ → ℕ → List ℕ → Option ℕ
-number_of digits least greatest word =
+abbrev pub number_within : ℕ → ℕ → ℕ → List ℕ → Option ℕ
+number_within digits least greatest word =
     if is_short_number digits word && nat_le least (digits_value 10 word) && nat_le (digits_value 10 word) greatest then Some (digits_value 10 word) else None
 
 -- the number of `--workers`
-abbrev pub workers_of : List ℕ → Option ℕ
-workers_of word = number_of count_digits 1 workers_max word
+abbrev pub workers_number : List ℕ → Option ℕ
+workers_number word = number_within count_digits 1 workers_max word
 
 -- the number of `--tries`
-abbrev pub tries_of : List ℕ → Option ℕ
-tries_of word = number_of tries_digits 1 tries_max word
+abbrev pub tries_number : List ℕ → Option ℕ
+tries_number word = number_within tries_digits 1 tries_max word
 
 -- the number of `--lines`
-abbrev pub lines_of : List ℕ → Option ℕ
-lines_of word = number_of count_digits 1 lines_max word
+abbrev pub lines_number : List ℕ → Option ℕ
+lines_number word = number_within count_digits 1 lines_max word
 
 -- the number of jobs of a rehearsal
-abbrev pub jobs_of : List ℕ → Option ℕ
-jobs_of word = number_of count_digits 1 jobs_max word
+abbrev pub jobs_number : List ℕ → Option ℕ
+jobs_number word = number_within count_digits 1 jobs_max word
 
 -- the word spells this back-off period
 abbrev pub IsPeriod : List ℕ → ℕ → Type 0

@@ -11,7 +11,7 @@ use Rattle.farm_words.specs.declared.name.OptionName.TheVariants as option
 use Rattle.farm_words.specs.declared.options.Options.{Options}
 use Rattle.farm_words.specs.Limits.{workers_default, tries_default, lines_default}
 use Rattle.farm_words.specs.Names.{option_text, option_named, takes_value, has_option}
-use Rattle.farm_words.specs.Numbers.{workers_of, tries_of, lines_of}
+use Rattle.farm_words.specs.Numbers.{workers_number, tries_number, lines_number}
 
 -- what options say
 pub record Given : Type 0 where
@@ -22,8 +22,9 @@ pub record Given : Type 0 where
   pub fallback : Bool
   pub retry : Bool
 
-abbrev pub given : Options → Given
-given options = record { hosts = option_copied options.hosts; workers = options.workers; tries = options.tries; lines = options.lines; fallback = options.fallback; retry = options.retry }
+-- what is given in these
+abbrev pub given_in : Options → Given
+given_in options = record { hosts = option_copied options.hosts; workers = options.workers; tries = options.tries; lines = options.lines; fallback = options.fallback; retry = options.retry }
 
 -- the number of workers, and of exchanges that a job may make
 abbrev pub worker_count : Given → ℕ
@@ -46,9 +47,9 @@ row_of command (Some name) = if has_option command name then Some (record { take
 -- the word may be the value of this option
 abbrev pub value_fits : Option OptionName → List ℕ → Bool
 value_fits (Some option.Hosts) word = true
-value_fits (Some option.Workers) word = is_some (workers_of word)
-value_fits (Some option.Tries) word = is_some (tries_of word)
-value_fits (Some option.Lines) word = is_some (lines_of word)
+value_fits (Some option.Workers) word = is_some (workers_number word)
+value_fits (Some option.Tries) word = is_some (tries_number word)
+value_fits (Some option.Lines) word = is_some (lines_number word)
 value_fits _ word = false
 
 -- the options of a command
@@ -62,9 +63,9 @@ options_of command = record {
 abbrev pub given_by : List Item → Given
 given_by items = record {
   hosts = value_in (option_text option.Hosts) items;
-  workers = option_and_then workers_of (value_in (option_text option.Workers) items);
-  tries = option_and_then tries_of (value_in (option_text option.Tries) items);
-  lines = option_and_then lines_of (value_in (option_text option.Lines) items);
+  workers = option_and_then workers_number (value_in (option_text option.Workers) items);
+  tries = option_and_then tries_number (value_in (option_text option.Tries) items);
+  lines = option_and_then lines_number (value_in (option_text option.Lines) items);
   fallback = not (stands_in (option_text option.NoFallback) items);
   retry = not (stands_in (option_text option.NoRetry) items);
 }
@@ -75,5 +76,5 @@ OptionsRead command words (Ok says) = (items : List Item) × AreOptions (options
 OptionsRead command words (Err place) = (at : ℕ) × BadOptionAt (options_of command) words at × (place ≡ 1 + at)
 
 abbrev pub options_meant : Result Options ℕ → Result Given ℕ
-options_meant (Ok options) = Ok (given options)
+options_meant (Ok options) = Ok (given_in options)
 options_meant (Err place) = Err place

@@ -2,8 +2,8 @@
 
 ghost use Rattle.std.specs.Prelude.{◌≡◌, ◌≤◌, map, string_bytes, MatchResult};
 ghost use Rattle.farm_words.specs.Commands.{BadAt, ByFirstWord, IsCommand, NamedCommand, asks_help, at_least_one, at_most, command_meant, counted, is_help_first, meaning, rehearse_words};
-ghost use Rattle.farm_words.specs.Names.{first_word};
-ghost use Rattle.farm_words.specs.Numbers.{jobs_of};
+ghost use Rattle.farm_words.specs.Names.{first_word_named};
+ghost use Rattle.farm_words.specs.Numbers.{jobs_number};
 
 use crate::name::{CommandName, FirstWord, is_help, parse_first_word};
 use crate::number::parse_jobs;
@@ -115,7 +115,7 @@ fn parse_hosts(words: &[String]) -> Result<Command<'_>, usize>
 
 // A rehearsal of as many jobs as a word says, which is the first of these.
 fn with_jobs<'a>(word: &str, words: &'a [String]) -> Result<Command<'a>, usize>
-    ensures { command_meant result ≡ counted (jobs_of word.now) (map string_bytes words.now) }
+    ensures { command_meant result ≡ counted (jobs_number word.now) (map string_bytes words.now) }
 {
     match parse_jobs(word) {
         Some(jobs) => with_at_most(Command::Rehearse { jobs }, words, 1),
@@ -159,7 +159,7 @@ fn parse_by_name(name: CommandName, words: &[String]) -> Result<Command<'_>, usi
 
 // The command by its first word and the others.
 fn parse_after<'a>(first: &str, words: &'a [String]) -> Result<Command<'a>, usize>
-    ensures { ByFirstWord (first_word first.now) (map string_bytes words.now) (command_meant result) }
+    ensures { ByFirstWord (first_word_named first.now) (map string_bytes words.now) (command_meant result) }
 {
     match parse_first_word(first) {
         None => Err(0),

@@ -1,7 +1,7 @@
 //! The names of commands and of options.
 
 ghost use Rattle.std.specs.Prelude.{◌≡◌, bytes_eq, codes};
-ghost use Rattle.farm_words.specs.Names.{first_word, has_option, option_named, takes_any_words, takes_value};
+ghost use Rattle.farm_words.specs.Names.{first_word_named, has_option, option_named, takes_any_words, takes_value};
 
 /// The name of a command.
 #[derive(Clone, Copy, Debug, PartialEq, Eq)]
@@ -80,7 +80,7 @@ pub(crate) fn is_help(word: &str) -> bool
 
 // What the first word asks for.
 pub(crate) fn parse_first_word(word: &str) -> Option<FirstWord>
-    ensures { result ≡ first_word word.now }
+    ensures { result ≡ first_word_named word.now }
 {
     match word {
         "build" => Some(FirstWord::Name(CommandName::Build)),

@@ -1,7 +1,7 @@
 //! Numbers in words.
 
 ghost use Rattle.std.specs.Prelude.{◌≡◌, ◌≤◌, ℕ, MatchOption};
-ghost use Rattle.farm_words.specs.Numbers.{IsNumber, IsPeriod, jobs_of, lines_of, tries_of, workers_of};
+ghost use Rattle.farm_words.specs.Numbers.{IsNumber, IsPeriod, jobs_number, lines_number, tries_number, workers_number};
 
 use farm_types::limits::{JOBS_MAX, PERIOD_MAX, WORKERS_MAX};
 
@@ -36,7 +36,7 @@ fn parse_number(word: &str, digits: usize, least: u32, greatest: u32) -> Option<
 
 // The number of workers that a word spells.
 pub(crate) fn parse_workers(word: &str) -> Option<u8>
-    ensures { result ≡ workers_of word.now }
+    ensures { result ≡ workers_number word.now }
 {
     match parse_number(word, COUNT_DIGITS, 1, WORKERS_MAX as u32) {
         Some(workers) => Some(workers as u8),
@@ -46,7 +46,7 @@ pub(crate) fn parse_workers(word: &str) -> Option<u8>
 
 // The number of tries that a word spells.
 pub(crate) fn parse_tries(word: &str) -> Option<u8>
-    ensures { result ≡ tries_of word.now }
+    ensures { result ≡ tries_number word.now }
 {
     match parse_number(word, TRIES_DIGITS, 1, TRIES_MAX) {
         Some(tries) => Some(tries as u8),
@@ -56,7 +56,7 @@ pub(crate) fn parse_tries(word: &str) -> Option<u8>
 
 // The number of lines that a word spells.
 pub(crate) fn parse_lines(word: &str) -> Option<u8>
-    ensures { result ≡ lines_of word.now }
+    ensures { result ≡ lines_number word.now }
 {
     match parse_number(word, COUNT_DIGITS, 1, LINES_MAX) {
         Some(lines) => Some(lines as u8),
@@ -66,7 +66,7 @@ pub(crate) fn parse_lines(word: &str) -> Option<u8>
 
 // The number of jobs that a word spells.
 pub(crate) fn parse_jobs(word: &str) -> Option<u16>
-    ensures { result ≡ jobs_of word.now }
+    ensures { result ≡ jobs_number word.now }
 {
     match parse_number(word, COUNT_DIGITS, 1, JOBS_MAX as u32) {
         Some(jobs) => Some(jobs as u16),

@@ -4,8 +4,8 @@ ghost use Rattle.std.specs.Prelude.{◌≡◌, List, map, string_bytes};
 ghost use Rattle.std.specs.Option.{option_and_then, option_copied};
 ghost use Rattle.option_words.specs.Items.{Item};
 ghost use Rattle.option_words.specs.Readings.{AreOptions};
-ghost use Rattle.farm_words.specs.Numbers.{lines_of, tries_of, workers_of};
-ghost use Rattle.farm_words.specs.Options.{OptionsRead, given, given_by, line_count, options_meant, options_of, row_of, try_count, value_fits, worker_count};
+ghost use Rattle.farm_words.specs.Numbers.{lines_number, tries_number, workers_number};
+ghost use Rattle.farm_words.specs.Options.{OptionsRead, given_in, given_by, line_count, options_meant, options_of, row_of, try_count, value_fits, worker_count};
 ghost use Rattle.farm_words.specs.Names.{option_named};
 
 use crate::name::{CommandName, OptionName, parse_option_name};
@@ -39,21 +39,21 @@ const LINES_DEFAULT: u8 = 10;
 impl Options<'_> {
     /// The number of workers: that of `--workers`, or else 4.
     pub fn worker_count(&self) -> u8
-        ensures { result ≡ worker_count (given self.now) }
+        ensures { result ≡ worker_count (given_in self.now) }
     {
         self.workers.unwrap_or(WORKERS_DEFAULT as u8)
     }
 
     /// How many exchanges a job may make: the number of `--tries`, or else 1.
     pub fn try_count(&self) -> u8
-        ensures { result ≡ try_count (given self.now) }
+        ensures { result ≡ try_count (given_in self.now) }
     {
         self.tries.unwrap_or(TRIES_DEFAULT)
     }
 
     /// How many lines tell of a build while it goes on: the number of `--lines`, or else 10.
     pub fn line_count(&self) -> u8
-        ensures { result ≡ line_count (given self.now) }
+        ensures { result ≡ line_count (given_in self.now) }
     {
         self.lines.unwrap_or(LINES_DEFAULT)
     }
@@ -104,7 +104,7 @@ impl OptionTable for CommandName {
 
 // The number of workers that the value of an option spells.
 fn workers_in(value: Option<&str>) -> Option<u8>
-    ensures { result ≡ option_and_then workers_of (option_copied value.entry) }
+    ensures { result ≡ option_and_then workers_number (option_copied value.entry) }
 {
     match value {
         Some(word) => parse_workers(word),
@@ -114,7 +114,7 @@ fn workers_in(value: Option<&str>) -> Option<u8>
 
 // The number of tries that the value of an option spells.
 fn tries_in(value: Option<&str>) -> Option<u8>
-    ensures { result ≡ option_and_then tries_of (option_copied value.entry) }
+    ensures { result ≡ option_and_then tries_number (option_copied value.entry) }
 {
     match value {
         Some(word) => parse_tries(word),
@@ -124,7 +124,7 @@ fn tries_in(value: Option<&str>) -> Option<u8>
 
 // The number of lines that the value of an option spells.
 fn lines_in(value: Option<&str>) -> Option<u8>
-    ensures { result ≡ option_and_then lines_of (option_copied value.entry) }
+    ensures { result ≡ option_and_then lines_number (option_copied value.entry) }
 {
     match value {
         Some(word) => parse_lines(word),
@@ -134,7 +134,7 @@ fn lines_in(value: Option<&str>) -> Option<u8>
 
 // What options say.
 fn options_in(command: CommandName, words: &[String]) -> Options<'_>
-    ensures { (items : List Item) → AreOptions (options_of command) (map string_bytes words.now) items → given result ≡ given_by items }
+    ensures { (items : List Item) → AreOptions (options_of command) (map string_bytes words.now) items → given_in result ≡ given_by items }
 {
     Options {
         hosts: value_of(&command, words, "--hosts"),

@@ -9,7 +9,7 @@ use Rattle.host_list.specs.declared.fault.HostFault.{HostFault}
 use Rattle.host_list.specs.TextWords.{TextWord, WordsOf}
 use Rattle.host_list.specs.Runs.{words_of}
 use Rattle.host_list.specs.HostWords.{HostWord}
-use Rattle.host_list.specs.HostLists.{HostWords, entries_of, hosts_of, HostListOf, HostFaultStands, IsWrongWord}
+use Rattle.host_list.specs.HostLists.{HostWords, hosts_in, hosts_of, HostListOf, HostFaultStands, IsWrongWord}
 use Rattle.host_list.proofs.Cutting.{are_words}
 use Rattle.host_list.proofs.EveryWord.{every_word}
 
@@ -17,7 +17,7 @@ use Rattle.host_list.proofs.EveryWord.{every_word}
 record AllRight (count : ℕ) (words : List TextWord) : Type 0 where
   meanings : List Meaning
   each : HostWords words meanings
-  few : count + length (entries_of meanings) ≤ 16
+  few : count + length (hosts_in meanings) ≤ 16
 
 -- behind this many entries one of these words is the first that isn't right
 record OneWrong (count : ℕ) (words : List TextWord) : Type 0 where
@@ -29,8 +29,8 @@ record OneWrong (count : ℕ) (words : List TextWord) : Type 0 where
   fault : HostFault
   split : words ≡ before ++ word ∷ after
   right : HostWords before meanings
-  few : count + length (entries_of meanings) ≤ 16
-  wrong : IsWrongWord (count + length (entries_of meanings)) word at fault
+  few : count + length (hosts_in meanings) ≤ 16
+  wrong : IsWrongWord (count + length (hosts_in meanings)) word at fault
 
 -- all are right, or one is wrong
 abbrev AreRead : ℕ → List TextWord → Type 0
@@ -54,7 +54,7 @@ wrong_first count w ws at fault few wrong = inr (record {
 })
 
 -- a right word comes first, after which there are so many entries
-right_first : (count next : ℕ) (w : TextWord) (ws : List TextWord) (m : Meaning) → HostWord w.bytes m → ((ms : List Meaning) → next + length (entries_of ms) ≡ count + length (entries_of (m ∷ ms))) → AreRead next ws → AreRead count (w ∷ ws)
+right_first : (count next : ℕ) (w : TextWord) (ws : List TextWord) (m : Meaning) → HostWord w.bytes m → ((ms : List Meaning) → next + length (hosts_in ms) ≡ count + length (hosts_in (m ∷ ms))) → AreRead next ws → AreRead count (w ∷ ws)
 right_first count next w ws m here same (inl all) = inl (record {
   meanings = m ∷ all.meanings;
   each = (here, all.each);
@@ -116,7 +116,7 @@ every_text text = ⊎_elim
         split = subst (WordsOf text) one.split (are_words text);
         right = one.right;
         few = let few = one.few in omega arith;
-        wrong = subst (λ n. IsWrongWord n one.word one.at one.fault) (no_entries (length (entries_of one.meanings))) one.wrong;
+        wrong = subst (λ n. IsWrongWord n one.word one.at one.fault) (no_entries (length (hosts_in one.meanings))) one.wrong;
       },
     ))
     (words_read 0 (words_of text) (omega arith))

@@ -13,7 +13,7 @@ use Rattle.host_list.specs.declared.meaning.Meaning.TheVariants.{Entry, LocalSlo
 use Rattle.host_list.specs.declared.fault.HostFault.{HostFault}
 use Rattle.host_list.specs.declared.fault.HostFault.TheVariants.{Ssh, HostOption, Zeroconf, BadPort, BadLimit, BadName, UnknownOption}
 use Rattle.host_list.specs.Names.{IsLimit}
-use Rattle.host_list.specs.HostWords.{HostWord, WordFault, OptionFault, PlusFault, EntryFault, SlotsFault, PartFault, WrongPart, SpellsParts, SpellsSlots, EndsPart, is_separator, name_reach, begins_with_name, begins_with, holds, host_of}
+use Rattle.host_list.specs.HostWords.{HostWord, WordFault, OptionFault, PlusFault, EntryFault, SlotsFault, PartFault, WrongPart, SpellsParts, SpellsSlots, EndsPart, is_separator, name_reach, begins_with_name, begins_with, has_byte, host_of}
 use Rattle.host_list.proofs.NameLemmas.{name_front, reach_within}
 use Rattle.host_list.proofs.PartLemmas.{adds_port, adds_limit}
 use Rattle.host_list.proofs.PartReading.{number_or_none}
@@ -184,6 +184,6 @@ pub every_word : (word : List ℕ) → ((meaning : Meaning) × HostWord word mea
 every_word word =
     tested (begins_with (codes "--") word) word _ _ (λ is. option_read word)
     (λ no_option. tested (begins_with (codes "+") word) word _ _ (λ is. plus_read word)
-    (λ no_plus. tested (holds 64 word) word _ _ (λ is. inr (0, Ssh, (refl, refl)))
-    (λ no_at. tested (holds 44 word) word _ _ (λ is. inr (0, HostOption, (refl, refl)))
+    (λ no_plus. tested (has_byte 64 word) word _ _ (λ is. inr (0, Ssh, (refl, refl)))
+    (λ no_at. tested (has_byte 44 word) word _ _ (λ is. inr (0, HostOption, (refl, refl)))
     (λ no_comma. entry_read word))))

@@ -12,8 +12,8 @@ use Rattle.host_list.specs.declared.meaning.Meaning.TheVariants.{Entry, LocalSlo
 use Rattle.host_list.specs.declared.fault.HostError.{HostError}
 use Rattle.host_list.specs.Names.{IsHostName, IsNumber}
 use Rattle.host_list.specs.TextWords.{TextWord}
-use Rattle.host_list.specs.HostWords.{SpellsHost, SpellsParts, host_of, is_local}
-use Rattle.host_list.specs.HostLists.{HostWords, entries_of, last_slots, last_cpp, hosts_of, HostListOf, IsHost, AreHosts}
+use Rattle.host_list.specs.HostWords.{SpellsHost, SpellsParts, host_of, names_this_machine}
+use Rattle.host_list.specs.HostLists.{HostWords, hosts_in, last_slots, last_cpp, hosts_of, HostListOf, IsHost, AreHosts}
 
 abbrev InRange : ℕ → Option ℕ → Type 0
 InRange most None = Unit {0}
@@ -33,7 +33,7 @@ default_limit : (b : Bool) → (1 ≤ cond b 2 4) × (cond b 2 4 ≤ 255)
 default_limit true = (omega arith, omega arith)
 default_limit false = (omega arith, omega arith)
 
-local_name : (name : List ℕ) (port : Option ℕ) → is_local name port ≡ true → (name ≡ codes "localhost") × (port ≡ None)
+local_name : (name : List ℕ) (port : Option ℕ) → names_this_machine name port ≡ true → (name ≡ codes "localhost") × (port ≡ None)
 local_name name None h = let two = and_parts (bytes_eq name (codes "localhost")) true h in ((bytes_eq-Decides name (codes "localhost")).0 two.0, refl)
 local_name name (Some port) h = let two = and_parts (bytes_eq name (codes "localhost")) false h in absurd (false≢true two.1)
 
@@ -42,7 +42,7 @@ port_of None h = (omega arith, omega arith)
 port_of (Some port) h = h
 
 limit_of : (name : List ℕ) (port limit : Option ℕ) → InRange 255 limit → (1 ≤ (host_of name port limit).limit) × ((host_of name port limit).limit ≤ 255)
-limit_of name port None h = default_limit (is_local name port)
+limit_of name port None h = default_limit (names_this_machine name port)
 limit_of name port (Some limit) h = h
 
 made : (name : List ℕ) (port limit : Option ℕ) → IsHostName name → InRange 65535 port → InRange 255 limit → IsHost (host_of name port limit)
@@ -61,11 +61,11 @@ made name port limit named p l =
 host_within : (word : List ℕ) (host : Host) → SpellsHost word host → IsHost host
 host_within word host h = let ranges = parts_range h.port h.limit h.parts h.behind in subst IsHost (sym h.meant) (made h.name h.port h.limit h.named ranges.0 ranges.1)
 
-entries_within : (ws : List TextWord) (ms : List Meaning) → HostWords ws ms → All IsHost (entries_of ms)
+entries_within : (ws : List TextWord) (ms : List Meaning) → HostWords ws ms → All IsHost (hosts_in ms)
 entries_within [] [] h = All-nil IsHost
 entries_within [] (m ∷ ms) h = absurd h
 entries_within (w ∷ ws) [] h = absurd h
-entries_within (w ∷ ws) (Entry host ∷ ms) h = All-cons IsHost host (entries_of ms) (host_within w.bytes host h.0) (entries_within ws ms h.1)
+entries_within (w ∷ ws) (Entry host ∷ ms) h = All-cons IsHost host (hosts_in ms) (host_within w.bytes host h.0) (entries_within ws ms h.1)
 entries_within (w ∷ ws) (LocalSlots n ∷ ms) h = entries_within ws ms h.1
 entries_within (w ∷ ws) (LocalCpp n ∷ ms) h = entries_within ws ms h.1
 entries_within (w ∷ ws) (Randomize ∷ ms) h = entries_within ws ms h.1
@@ -88,7 +88,7 @@ cpp_within slots (w ∷ ws) (LocalSlots n ∷ ms) low high h = cpp_within slots 
 cpp_within slots (w ∷ ws) (LocalCpp n ∷ ms) low high h = cpp_within n ws ms h.0.1.low h.0.1.high h.1
 cpp_within slots (w ∷ ws) (Randomize ∷ ms) low high h = cpp_within slots ws ms low high h.1
 
-meant_within : (ws : List TextWord) (ms : List Meaning) → HostWords ws ms → length (entries_of ms) ≤ 16 → AreHosts (hosts_of ms)
+meant_within : (ws : List TextWord) (ms : List Meaning) → HostWords ws ms → length (hosts_in ms) ≤ 16 → AreHosts (hosts_of ms)
 meant_within ws ms h few =
     let slots = slots_within 4 ws ms (omega arith) (omega arith) h in
     let cpp = cpp_within 8 ws ms (omega arith) (omega arith) h in

@@ -13,7 +13,7 @@ use Rattle.host_list.specs.TextWords.{TextWord, WordsOf}
 use Rattle.host_list.specs.Runs.{words_of}
 use Rattle.host_list.proofs.Cutting.{are_words}
 use Rattle.host_list.specs.HostWords.{HostWord}
-use Rattle.host_list.specs.HostLists.{HostWords, entries_of, last_slots, last_cpp, asks_randomize, hosts_of, HostListOf, HostFaultStands, IsWrongWord}
+use Rattle.host_list.specs.HostLists.{HostWords, hosts_in, last_slots, last_cpp, asks_randomize, hosts_of, HostListOf, HostFaultStands, IsWrongWord}
 use Rattle.host_list.specs.Steps.{words_from, with_meaning, ReadsUpTo, TakesWord}
 
 pub HostWords-push : (ws : List TextWord) (ms : List Meaning) (w : TextWord) (m : Meaning) → HostWords ws ms → HostWord w.bytes m → HostWords (ws ++ w ∷ []) (ms ++ m ∷ [])
@@ -23,28 +23,28 @@ HostWords-push (v ∷ ws) [] w m h one = absurd h
 HostWords-push (v ∷ ws) (n ∷ ms) w m h one = (h.0, HostWords-push ws ms w m h.1 one)
 
 -- one entry more, at the end
-entries-host : (ms : List Meaning) (host : Host) → entries_of (ms ++ Entry host ∷ []) ≡ entries_of ms ++ host ∷ []
+entries-host : (ms : List Meaning) (host : Host) → hosts_in (ms ++ Entry host ∷ []) ≡ hosts_in ms ++ host ∷ []
 entries-host [] host = refl
 entries-host (Entry h ∷ ms) host = ap (λ hs. h ∷ hs) (entries-host ms host)
 entries-host (LocalSlots n ∷ ms) host = entries-host ms host
 entries-host (LocalCpp n ∷ ms) host = entries-host ms host
 entries-host (Randomize ∷ ms) host = entries-host ms host
 
-entries-slots : (ms : List Meaning) (n : ℕ) → entries_of (ms ++ LocalSlots n ∷ []) ≡ entries_of ms
+entries-slots : (ms : List Meaning) (n : ℕ) → hosts_in (ms ++ LocalSlots n ∷ []) ≡ hosts_in ms
 entries-slots [] n = refl
 entries-slots (Entry h ∷ ms) n = ap (λ hs. h ∷ hs) (entries-slots ms n)
 entries-slots (LocalSlots k ∷ ms) n = entries-slots ms n
 entries-slots (LocalCpp k ∷ ms) n = entries-slots ms n
 entries-slots (Randomize ∷ ms) n = entries-slots ms n
 
-entries-cpp : (ms : List Meaning) (n : ℕ) → entries_of (ms ++ LocalCpp n ∷ []) ≡ entries_of ms
+entries-cpp : (ms : List Meaning) (n : ℕ) → hosts_in (ms ++ LocalCpp n ∷ []) ≡ hosts_in ms
 entries-cpp [] n = refl
 entries-cpp (Entry h ∷ ms) n = ap (λ hs. h ∷ hs) (entries-cpp ms n)
 entries-cpp (LocalSlots k ∷ ms) n = entries-cpp ms n
 entries-cpp (LocalCpp k ∷ ms) n = entries-cpp ms n
 entries-cpp (Randomize ∷ ms) n = entries-cpp ms n
 
-entries-randomize : (ms : List Meaning) → entries_of (ms ++ Randomize ∷ []) ≡ entries_of ms
+entries-randomize : (ms : List Meaning) → hosts_in (ms ++ Randomize ∷ []) ≡ hosts_in ms
 entries-randomize [] = refl
 entries-randomize (Entry h ∷ ms) = ap (λ hs. h ∷ hs) (entries-randomize ms)
 entries-randomize (LocalSlots k ∷ ms) = entries-randomize ms

@@ -19,8 +19,8 @@ use Rattle.host_list.specs.declared.meaning.Meaning.TheVariants.{Entry, LocalSlo
 use Rattle.host_list.specs.Names.{IsNumber, IsPort, IsLimit}
 use Rattle.host_list.specs.TextWords.{without_comments}
 use Rattle.host_list.specs.Runs.{runs, words_of}
-use Rattle.host_list.specs.HostWords.{HostWord, SpellsHost, is_local}
-use Rattle.host_list.specs.HostLists.{HostWords, entries_of, last_slots, last_cpp, asks_randomize, hosts_of, HostListOf, IsHost, AreHosts, host_line, slots_line, options_text, printed}
+use Rattle.host_list.specs.HostWords.{HostWord, SpellsHost, names_this_machine}
+use Rattle.host_list.specs.HostLists.{HostWords, hosts_in, last_slots, last_cpp, asks_randomize, hosts_of, HostListOf, IsHost, AreHosts, host_line, slots_line, options_text, printed_hosts}
 use Rattle.host_list.proofs.Numbers.{digit_at}
 use Rattle.host_list.proofs.Cutting.{in_word, word_cut, are_words}
 use Rattle.host_list.proofs.WordReading.{is_host_byte, host_bytes}
@@ -67,7 +67,7 @@ here_again host h local =
     let limit : ℕ = host.limit in
     let at_port : ℕ → Host = λ p. record { name = record { text = name }; port = p; limit = limit; local = host.local } in
     let at_local : Bool → Host = λ b. record { name = record { text = name }; port = 3632; limit = limit; local = b } in
-    let alone : is_local name None ≡ true = ap (λ t. is_local t None) is.0 in
+    let alone : names_this_machine name None ≡ true = ap (λ t. names_this_machine t None) is.0 in
     record {
       name = name;
       port = None;
@@ -177,7 +177,7 @@ options_mean hosts h =
 
 -- ---- the list
 
-entries-map : (list : List Host) (ms : List Meaning) → entries_of (map Entry list ++ ms) ≡ list ++ entries_of ms
+entries-map : (list : List Host) (ms : List Meaning) → hosts_in (map Entry list ++ ms) ≡ list ++ hosts_in ms
 entries-map [] ms = refl
 entries-map (host ∷ list) ms = ap (λ hs. host ∷ hs) (entries-map list ms)
 
@@ -193,7 +193,7 @@ randomize-map : (list : List Host) (ms : List Meaning) → asks_randomize (map E
 randomize-map [] ms = refl
 randomize-map (host ∷ list) ms = randomize-map list ms
 
-no_entries : (b : Bool) → entries_of (randomize_of b) ≡ []
+no_entries : (b : Bool) → hosts_in (randomize_of b) ≡ []
 no_entries true = refl
 no_entries false = refl
 
@@ -209,7 +209,7 @@ same_randomize : (b : Bool) → asks_randomize (randomize_of b) ≡ b
 same_randomize true = refl
 same_randomize false = refl
 
-entries_again : (hosts : Hosts) → entries_of (map Entry hosts.list ++ options_of hosts) ≡ hosts.list
+entries_again : (hosts : Hosts) → hosts_in (map Entry hosts.list ++ options_of hosts) ≡ hosts.list
 entries_again hosts = entries-map hosts.list (options_of hosts) ∙ ap (λ t. hosts.list ++ t) (no_entries hosts.randomize) ∙ append-nil hosts.list
 
 hosts_again : (hosts : Hosts) → hosts ≡ hosts_of (map Entry hosts.list ++ options_of hosts)
@@ -219,11 +219,11 @@ hosts_again hosts =
     let randomize = randomize-map hosts.list (options_of hosts) ∙ same_randomize hosts.randomize in
     rw (entries_again hosts, slots, cpp, randomize) refl
 
-pub print_again : (hosts : Hosts) → AreHosts hosts → HostListOf (printed hosts) hosts
+pub print_again : (hosts : Hosts) → AreHosts hosts → HostListOf (printed_hosts hosts) hosts
 print_again hosts h = record {
-  words = words_of (printed hosts);
+  words = words_of (printed_hosts hosts);
   meanings = map Entry hosts.list ++ options_of hosts;
-  split = are_words (printed hosts);
+  split = are_words (printed_hosts hosts);
   each = hosts_mean hosts.list (options_text hosts) (options_of hosts) h.each (options_mean hosts h) 0;
   few = let same = ap length (entries_again hosts) in let few = h.few in omega arith;
   meant = hosts_again hosts;

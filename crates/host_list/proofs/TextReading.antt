@@ -13,7 +13,7 @@ use Rattle.host_list.specs.TextWords.{TextWord}
 use Rattle.host_list.specs.Runs.{words_of}
 use Rattle.host_list.proofs.Cutting.{words_are}
 use Rattle.host_list.specs.HostWords.{HostWord, WordFault}
-use Rattle.host_list.specs.HostLists.{HostWords, entries_of, hosts_of, HostListOf, HostFaultStands, IsWrongWord}
+use Rattle.host_list.specs.HostLists.{HostWords, hosts_in, hosts_of, HostListOf, HostFaultStands, IsWrongWord}
 use Rattle.host_list.proofs.WordReading.{Reading, reading_of, word_right, word_wrong, one_meaning}
 
 -- what words mean, one by one, is one list
@@ -56,14 +56,14 @@ randomize_next : (count : ℕ) (w : TextWord) (ws : List TextWord) → HostWord 
 randomize_next count w ws h = let is = word_right w.bytes Randomize h in rw is refl
 
 -- right words are passed over
-passed : (count : ℕ) (before : List TextWord) (ms : List Meaning) (rest : List TextWord) → HostWords before ms → count + length (entries_of ms) ≤ 16 → first_wrong count (before ++ rest) ≡ first_wrong (count + length (entries_of ms)) rest
+passed : (count : ℕ) (before : List TextWord) (ms : List Meaning) (rest : List TextWord) → HostWords before ms → count + length (hosts_in ms) ≤ 16 → first_wrong count (before ++ rest) ≡ first_wrong (count + length (hosts_in ms)) rest
 passed count [] [] rest h few = let e : count ≡ count + 0 = omega arith in ap (λ n. first_wrong n rest) e
 passed count [] (m ∷ ms) rest h few = absurd h
 passed count (w ∷ ws) [] rest h few = absurd h
 passed count (w ∷ ws) (Entry host ∷ ms) rest h few =
     let here = host_next count w (ws ++ rest) host h.0 (omega arith) in
     let later = passed (count + 1) ws ms rest h.1 (omega arith) in
-    let e : count + 1 + length (entries_of ms) ≡ count + suc (length (entries_of ms)) = omega arith in
+    let e : count + 1 + length (hosts_in ms) ≡ count + suc (length (hosts_in ms)) = omega arith in
     here ∙ later ∙ ap (λ n. first_wrong n rest) e
 passed count (w ∷ ws) (LocalSlots n ∷ ms) rest h few = slots_next count w (ws ++ rest) n h.0 ∙ passed count ws ms rest h.1 few
 passed count (w ∷ ws) (LocalCpp n ∷ ms) rest h few = cpp_next count w (ws ++ rest) n h.0 ∙ passed count ws ms rest h.1 few
@@ -88,9 +88,9 @@ list_right text hosts h =
 
 text_wrong : (text : List ℕ) (at : ℕ) (fault : HostFault) → HostFaultStands text at fault → first_wrong 0 (words_of text) ≡ Some (at, fault)
 text_wrong text at fault h =
-    let zero : 0 + length (entries_of h.meanings) ≡ length (entries_of h.meanings) = omega arith in
+    let zero : 0 + length (hosts_in h.meanings) ≡ length (hosts_in h.meanings) = omega arith in
     ap (first_wrong 0) (sym (words_are text (h.before ++ h.word ∷ h.after) h.split)) ∙ passed 0 h.before h.meanings (h.word ∷ h.after) h.right (let few = h.few in omega arith)
-    ∙ ap (λ n. first_wrong n (h.word ∷ h.after)) zero ∙ stopped (length (entries_of h.meanings)) h.word h.after at fault h.wrong
+    ∙ ap (λ n. first_wrong n (h.word ∷ h.after)) zero ∙ stopped (length (hosts_in h.meanings)) h.word h.after at fault h.wrong
 
 pub one_hosts : (text : List ℕ) (one other : Hosts) → HostListOf text one → HostListOf text other → one ≡ other
 one_hosts text one other h k =

@@ -15,8 +15,8 @@ use Rattle.host_list.specs.declared.meaning.Meaning.{Meaning}
 use Rattle.host_list.specs.declared.meaning.Meaning.TheVariants.{Entry, LocalSlots, LocalCpp, Randomize}
 use Rattle.host_list.specs.declared.fault.HostFault.{HostFault}
 use Rattle.host_list.specs.declared.fault.HostFault.TheVariants.{Ssh, HostOption, Zeroconf, BadLimit, BadName, UnknownOption}
-use Rattle.host_list.specs.Names.{IsNumber, is_name_byte, IsHostName}
-use Rattle.host_list.specs.HostWords.{HostWord, WordFault, SpellsParts, SpellsPort, SpellsLimit, EndsPart, is_separator, name_reach, begins_with_name, begins_with, holds, host_of, SpellsHost, SlotsFault, OptionFault, PlusFault, EntryFault, IsAtStart}
+use Rattle.host_list.specs.Names.{IsNumber, is_host_name_byte, IsHostName}
+use Rattle.host_list.specs.HostWords.{HostWord, WordFault, SpellsParts, SpellsPort, SpellsLimit, EndsPart, is_separator, name_reach, begins_with_name, begins_with, has_byte, host_of, SpellsHost, SlotsFault, OptionFault, PlusFault, EntryFault, IsAtStart}
 use Rattle.host_list.proofs.Numbers.{digit_at}
 use Rattle.host_list.proofs.AnyLemmas.{any_none}
 use Rattle.host_list.proofs.PartReading.{chosen, number_at, number_found, number_none, cut, check, parts_right, parts_wrong, Verdict}
@@ -35,10 +35,10 @@ prefix_all p (x ∷ xs) ys h s =
     let later = prefix_all p xs ys (All-tail (λ c. p c ≡ true) x xs h) s in
     rw (here, later) (omega arith)
 
-not_name : (c : ℕ) → is_separator c ≡ true → is_name_byte c ≡ false
+not_name : (c : ℕ) → is_separator c ≡ true → is_host_name_byte c ≡ false
 not_name c h = grind (arith, nat_tests)
 
-name_stops : (parts : List ℕ) → EndsPart parts → stops is_name_byte parts
+name_stops : (parts : List ℕ) → EndsPart parts → stops is_host_name_byte parts
 name_stops [] h = tt
 name_stops (c ∷ cs) h = not_name c h
 
@@ -49,10 +49,10 @@ reach_of : (name parts : List ℕ) → IsHostName name → EndsPart parts → na
 reach_of [] parts h ends = let some = h.some in absurd (omega arith)
 reach_of (c ∷ cs) parts h ends =
     let no_dash = not_dash c h.first in
-    let all = prefix_all is_name_byte (c ∷ cs) parts h.each (name_stops parts ends) in
+    let all = prefix_all is_host_name_byte (c ∷ cs) parts h.each (name_stops parts ends) in
     let few = h.few in
     let least : min 255 (length (c ∷ cs)) ≡ length (c ∷ cs) = omega arith in
-    ap (λ b. cond b 0 (min 255 (prefix_len is_name_byte (c ∷ (cs ++ parts))))) no_dash ∙ ap (min 255) all ∙ least
+    ap (λ b. cond b 0 (min 255 (prefix_len is_host_name_byte (c ∷ (cs ++ parts))))) no_dash ∙ ap (min 255) all ∙ least
 
 or_true : (b : Bool) → (b || true) ≡ true
 or_true true = refl
@@ -77,9 +77,9 @@ named name parts h ends =
 -- ---- the bytes of a host
 
 abbrev pub is_host_byte : ℕ → Bool
-is_host_byte c = is_name_byte c || is_separator c
+is_host_byte c = is_host_name_byte c || is_separator c
 
-name_host_byte : (c : ℕ) → is_name_byte c ≡ true → is_host_byte c ≡ true
+name_host_byte : (c : ℕ) → is_host_name_byte c ≡ true → is_host_byte c ≡ true
 name_host_byte c h = rw h refl
 
 digit_host_byte : (c : ℕ) → digit_value c < 10 → is_host_byte c ≡ true
@@ -118,7 +118,7 @@ parts_end (Some port) (Some limit) parts h =
 
 pub host_bytes : (word : List ℕ) (host : Host) → SpellsHost word host → AllPass is_host_byte word
 host_bytes word host h =
-    let name = All-weaker (λ c. is_name_byte c ≡ true) (λ c. is_host_byte c ≡ true) name_host_byte h.name h.named.each in
+    let name = All-weaker (λ c. is_host_name_byte c ≡ true) (λ c. is_host_byte c ≡ true) name_host_byte h.name h.named.each in
     subst (AllPass is_host_byte) (sym h.spelled) (All-append (λ c. is_host_byte c ≡ true) h.name h.parts name (parts_bytes h.port h.limit h.parts h.behind))
 
 no_at : (c : ℕ) → is_host_byte c ≡ true → (c == 64) ≡ true → ⊥
@@ -127,10 +127,10 @@ no_at c h is = let at : c ≡ 64 = eqb-true c 64 is in absurd (false≢true (ap 
 no_comma : (c : ℕ) → is_host_byte c ≡ true → (c == 44) ≡ true → ⊥
 no_comma c h is = let at : c ≡ 44 = eqb-true c 44 is in absurd (false≢true (ap is_host_byte (sym at) ∙ h))
 
-holds_no_at : (word : List ℕ) → AllPass is_host_byte word → holds 64 word ≡ false
+holds_no_at : (word : List ℕ) → AllPass is_host_byte word → has_byte 64 word ≡ false
 holds_no_at word h = any_none (λ x. x == 64) word (λ k lt is. no_at (get_or word k 0) (All-get_or (λ c. is_host_byte c ≡ true) word k 0 lt h) is)
 
-holds_no_comma : (word : List ℕ) → AllPass is_host_byte word → holds 44 word ≡ false
+holds_no_comma : (word : List ℕ) → AllPass is_host_byte word → has_byte 44 word ≡ false
 holds_no_comma word h = any_none (λ x. x == 44) word (λ k lt is. no_comma (get_or word k 0) (All-get_or (λ c. is_host_byte c ≡ true) word k 0 lt h) is)
 
 -- the first byte of a host
@@ -144,8 +144,8 @@ no_options (c ∷ cs) parts h = let other = other_first 45 c h.first in rw other
 no_plus : (name parts : List ℕ) → IsHostName name → begins_with (codes "+") (name ++ parts) ≡ false
 no_plus [] parts h = let some = h.some in absurd (omega arith)
 no_plus (c ∷ cs) parts h =
-    let here = All-head (λ c. is_name_byte c ≡ true) c cs h.each in
-    let other = other_first 43 c (λ e. false≢true (ap is_name_byte (sym e) ∙ here)) in
+    let here = All-head (λ c. is_host_name_byte c ≡ true) c cs h.each in
+    let other = other_first 43 c (λ e. false≢true (ap is_host_name_byte (sym e) ∙ here)) in
     rw other refl
 
 -- ---- the word
@@ -182,8 +182,8 @@ unfoldable pub reading_of : List ℕ → Reading
 reading_of word =
     cond (begins_with (codes "--") word) (option_reading word)
     (cond (begins_with (codes "+") word) (cond (bytes_eq word (codes "+zeroconf")) (Err (0, Zeroconf)) (Err (0, BadName)))
-    (cond (holds 64 word) (Err (0, Ssh))
-    (cond (holds 44 word) (Err (0, HostOption)) (entry_reading word))))
+    (cond (has_byte 64 word) (Err (0, Ssh))
+    (cond (has_byte 44 word) (Err (0, HostOption)) (entry_reading word))))
 
 -- what is spelled so is read
 entry_right : (word : List ℕ) (host : Host) → SpellsHost word host → entry_reading word ≡ Ok (Entry host)
@@ -254,9 +254,9 @@ word_wrong word at fault h =
     (λ is option. option_wrong word at fault option)
     (λ h1. chosen (begins_with (codes "+") word) _ _ _ _ (Err (at, fault)) h1
     (λ is plus. plus_wrong word at fault plus)
-    (λ h2. chosen (holds 64 word) _ _ _ _ (Err (at, fault)) h2
+    (λ h2. chosen (has_byte 64 word) _ _ _ _ (Err (at, fault)) h2
     (λ is ssh. whole Ssh fault at ssh)
-    (λ h3. chosen (holds 44 word) _ _ _ _ (Err (at, fault)) h3
+    (λ h3. chosen (has_byte 44 word) _ _ _ _ (Err (at, fault)) h3
     (λ is option. whole HostOption fault at option)
     (λ h4. entry_wrong word at fault h4))))
 

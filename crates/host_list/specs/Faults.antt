@@ -4,12 +4,12 @@ use Rattle.host_list.specs.declared.fault.HostFault.{HostFault}
 use Rattle.host_list.specs.declared.fault.HostFault.TheVariants.{Ssh, HostOption, Zeroconf, BadPort, BadLimit, BadName, TooMany, UnknownOption}
 
 -- the number that stands for a fault in messages
-abbrev pub number_of : HostFault → ℕ
-number_of Ssh = 1
-number_of HostOption = 2
-number_of Zeroconf = 3
-number_of BadPort = 4
-number_of BadLimit = 5
-number_of BadName = 6
-number_of TooMany = 7
-number_of UnknownOption = 8
+abbrev pub host_fault_number : HostFault → ℕ
+host_fault_number Ssh = 1
+host_fault_number HostOption = 2
+host_fault_number Zeroconf = 3
+host_fault_number BadPort = 4
+host_fault_number BadLimit = 5
+host_fault_number BadName = 6
+host_fault_number TooMany = 7
+host_fault_number UnknownOption = 8

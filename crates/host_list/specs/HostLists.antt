@@ -22,12 +22,12 @@ HostWords (w ∷ ws) [] = ⊥
 HostWords (w ∷ ws) (m ∷ ms) = HostWord w.bytes m × HostWords ws ms
 
 -- the entries, in order
-abbrev pub entries_of : List Meaning → List Host
-entries_of [] = []
-entries_of (Entry host ∷ ms) = host ∷ entries_of ms
-entries_of (LocalSlots n ∷ ms) = entries_of ms
-entries_of (LocalCpp n ∷ ms) = entries_of ms
-entries_of (Randomize ∷ ms) = entries_of ms
+abbrev pub hosts_in : List Meaning → List Host
+hosts_in [] = []
+hosts_in (Entry host ∷ ms) = host ∷ hosts_in ms
+hosts_in (LocalSlots n ∷ ms) = hosts_in ms
+hosts_in (LocalCpp n ∷ ms) = hosts_in ms
+hosts_in (Randomize ∷ ms) = hosts_in ms
 
 -- the last number of local slots, or the one before them all
 abbrev pub last_slots : ℕ → List Meaning → ℕ
@@ -56,7 +56,7 @@ asks_randomize (LocalCpp n ∷ ms) = asks_randomize ms
 -- the entries in order, and the last option of each kind; 4 local slots and 8 local preprocessors where none are given
 abbrev pub hosts_of : List Meaning → Hosts
 hosts_of ms = record {
-  list = entries_of ms;
+  list = hosts_in ms;
   local_slots = last_slots 4 ms;
   local_cpp = last_cpp 8 ms;
   randomize = asks_randomize ms;
@@ -68,7 +68,7 @@ pub record HostListOf (text : List ℕ) (hosts : Hosts) : Type 0 where
   pub meanings : List Meaning
   pub split : WordsOf text words
   pub each : HostWords words meanings
-  pub few : length (entries_of meanings) ≤ 16
+  pub few : length (hosts_in meanings) ≤ 16
   pub meant : hosts ≡ hosts_of meanings
 
 -- ---- the fault
@@ -87,8 +87,8 @@ pub record HostFaultStands (text : List ℕ) (at : ℕ) (fault : HostFault) : Ty
   pub meanings : List Meaning
   pub split : WordsOf text (before ++ word ∷ after)
   pub right : HostWords before meanings
-  pub few : length (entries_of meanings) ≤ 16
-  pub wrong : IsWrongWord (length (entries_of meanings)) word at fault
+  pub few : length (hosts_in meanings) ≤ 16
+  pub wrong : IsWrongWord (length (hosts_in meanings)) word at fault
 
 -- ---- the print
 
@@ -110,8 +110,8 @@ options_text hosts =
     ++ (if hosts.randomize then codes "--randomize\n" else [])
 
 -- the entries in order, then the options
-abbrev pub printed : Hosts → List ℕ
-printed hosts = flat_map host_line hosts.list ++ options_text hosts
+abbrev pub printed_hosts : Hosts → List ℕ
+printed_hosts hosts = flat_map host_line hosts.list ++ options_text hosts
 
 -- what an entry of a host list has
 pub record IsHost (host : Host) : Type 0 where

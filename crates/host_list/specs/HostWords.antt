@@ -8,7 +8,7 @@ use Rattle.host_list.specs.declared.meaning.Meaning.TheVariants.{Entry, LocalSlo
 use Rattle.host_list.specs.declared.fault.HostFault.{HostFault}
 use Rattle.host_list.specs.declared.fault.HostFault.TheVariants.{Ssh, HostOption, Zeroconf, BadPort, BadLimit, BadName, UnknownOption}
 use Rattle.host_list.specs.Bytes.{comma, dash, slash, colon, at_sign}
-use Rattle.host_list.specs.Names.{is_name_byte, IsHostName, IsPort, IsLimit}
+use Rattle.host_list.specs.Names.{is_host_name_byte, IsHostName, IsPort, IsLimit}
 
 -- ---- what a word means
 
@@ -30,8 +30,8 @@ SpellsParts (Some port) (Some limit) parts =
     × ((SpellsPort first port × SpellsLimit second limit) ⊎ (SpellsLimit first limit × SpellsPort second port))
 
 -- `localhost` without a port means this machine, without the network
-abbrev pub is_local : List ℕ → Option ℕ → Bool
-is_local name port = bytes_eq name (codes "localhost") && is_none port
+abbrev pub names_this_machine : List ℕ → Option ℕ → Bool
+names_this_machine name port = bytes_eq name (codes "localhost") && is_none port
 
 -- the entry of a name with the port and limit that are given: the port is 3632 where none is,
 -- and the limit 4, or 2 for a local entry
@@ -39,8 +39,8 @@ abbrev pub host_of : List ℕ → Option ℕ → Option ℕ → Host
 host_of name port limit = record {
   name = record { text = name };
   port = unwrap_or port 3632;
-  limit = unwrap_or limit (if is_local name port then 2 else 4);
-  local = is_local name port;
+  limit = unwrap_or limit (if names_this_machine name port then 2 else 4);
+  local = names_this_machine name port;
 }
 
 -- a name, and behind it the port and the limit that are given
@@ -70,8 +70,8 @@ HostWord word Randomize = word ≡ codes "--randomize"
 abbrev pub begins_with : List ℕ → List ℕ → Bool
 begins_with front word = starts_with nat_eq word front
 
-abbrev pub holds : ℕ → List ℕ → Bool
-holds c word = list_any (λ x. x == c) word
+abbrev pub has_byte : ℕ → List ℕ → Bool
+has_byte c word = list_any (λ x. x == c) word
 
 -- this fault, at the word's first byte
 abbrev pub IsAtStart : HostFault → ℕ → HostFault → Type 0
@@ -101,7 +101,7 @@ is_separator c = c == colon || c == slash
 
 -- how far a name can reach from the word's first byte on
 abbrev pub name_reach : List ℕ → ℕ
-name_reach word = if slice_index word 0 == dash then 0 else min 255 (prefix_len is_name_byte word)
+name_reach word = if slice_index word 0 == dash then 0 else min 255 (prefix_len is_host_name_byte word)
 
 -- a name isn't empty, and reaches to the first separator or to the word's end
 abbrev pub begins_with_name : List ℕ → Bool
@@ -146,6 +146,6 @@ abbrev pub WordFault : List ℕ → ℕ → HostFault → Type 0
 WordFault word at fault =
     MatchBool (begins_with (codes "--") word) (OptionFault word at fault)
     (MatchBool (begins_with (codes "+") word) (PlusFault word at fault)
-    (MatchBool (holds at_sign word) (IsAtStart Ssh at fault)
-    (MatchBool (holds comma word) (IsAtStart HostOption at fault)
+    (MatchBool (has_byte at_sign word) (IsAtStart Ssh at fault)
+    (MatchBool (has_byte comma word) (IsAtStart HostOption at fault)
     (EntryFault word at fault))))

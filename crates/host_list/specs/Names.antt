@@ -6,14 +6,14 @@ use Rattle.std.specs.Str.Parse.{AllDigits, digits_value}
 use Rattle.host_list.specs.Bytes.{dash, dot, underscore}
 
 -- a letter, a digit, `.`, `-` or `_`
-abbrev pub is_name_byte : ℕ → Bool
-is_name_byte c = is_ascii_alphanumeric c || c == dot || c == dash || c == underscore
+abbrev pub is_host_name_byte : ℕ → Bool
+is_host_name_byte c = is_ascii_alphanumeric c || c == dot || c == dash || c == underscore
 
 -- the name of a host: 1 to 255 bytes that a name may have, of which the first isn't `-`
 pub record IsHostName (name : List ℕ) : Type 0 where
   pub some : 1 ≤ length name
   pub few : length name ≤ 255
-  pub each : AllPass is_name_byte name
+  pub each : AllPass is_host_name_byte name
   pub first : slice_index name 0 ≢ dash
 
 -- a number from 1 to the greatest, in 1 to `most` decimal digits

@@ -9,7 +9,7 @@ use Rattle.host_list.specs.Names.{IsPort, IsLimit}
 use Rattle.host_list.specs.TextWords.{TextWord, is_blank, without_comments}
 use Rattle.host_list.specs.Runs.{runs, words_of}
 use Rattle.host_list.specs.HostWords.{HostWord}
-use Rattle.host_list.specs.HostLists.{HostWords, entries_of, hosts_of}
+use Rattle.host_list.specs.HostLists.{HostWords, hosts_in, hosts_of}
 
 -- one part more: a port or a limit where none was
 abbrev pub AddsPart : Parts → ℕ → List ℕ → Parts → Type 0
@@ -48,7 +48,7 @@ pub record ReadsUpTo (text : List ℕ) (from : ℕ) (hosts : Hosts) : Type 0 whe
   pub meanings : List Meaning
   pub words : words_of text ≡ before ++ words_from from text
   pub right : HostWords before meanings
-  pub few : length (entries_of meanings) ≤ 16
+  pub few : length (hosts_in meanings) ≤ 16
   pub meant : hosts ≡ hosts_of meanings
 
 -- a word more was read into a list of hosts, which has at most 16 entries still

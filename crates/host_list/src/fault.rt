@@ -1,7 +1,7 @@
 //! What can be wrong with a host list.
 
 ghost use Rattle.std.specs.Prelude.{◌≡◌};
-ghost use Rattle.host_list.specs.Faults.{number_of};
+ghost use Rattle.host_list.specs.Faults.{host_fault_number};
 
 use std::alloc::AllocError;
 use thiserror::Error;
@@ -30,7 +30,7 @@ pub enum HostFault {
 impl HostFault {
     /// The number that stands for the fault in messages.
     pub fn number(self) -> u8
-        ensures { result ≡ number_of self }
+        ensures { result ≡ host_fault_number self }
     {
         match self {
             HostFault::Ssh => 1,

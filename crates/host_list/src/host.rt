@@ -24,7 +24,7 @@ pub const LOCALHOST: &[u8] = b"localhost";
 const NAME_MAX: usize = 255;
 
 fn is_name_byte(byte: u8) -> bool
-    ensures { result ≡ names.is_name_byte byte }
+    ensures { result ≡ names.is_host_name_byte byte }
 {
     byte.is_ascii_alphanumeric() || byte == b'.' || byte == b'-' || byte == b'_'
 }

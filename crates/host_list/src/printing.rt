@@ -2,7 +2,7 @@
 
 ghost use Rattle.std.specs.Prelude.{ℕ, ◌≡◌, ◌++◌, IfOk, OnOk};
 ghost use Rattle.std.specs.Fmt.{decimal};
-ghost use Rattle.host_list.specs.HostLists.{host_line, slots_line, options_text, printed, AreHosts, HostListOf};
+ghost use Rattle.host_list.specs.HostLists.{host_line, slots_line, options_text, printed_hosts, AreHosts, HostListOf};
 
 use crate::host::LOCALHOST;
 use crate::word::{LOCAL_CPP, LOCAL_SLOTS};
@@ -56,7 +56,7 @@ fn put_options(alloc: Global, text: &mut Bytes, hosts: &Hosts) -> Result<(), All
 /// The text of a list of hosts: a line `NAME:PORT/LIMIT` for each entry, or `localhost/LIMIT` for a
 /// local one, then one for each option. Of a list that `parse` gave, it is read as that list again.
 pub fn print(alloc: Global, hosts: &Hosts) -> Result<Bytes, AllocError>
-    ensures text { IfOk result (λ text. text ≡ printed hosts.now) }
+    ensures text { IfOk result (λ text. text ≡ printed_hosts hosts.now) }
     ensures again { AreHosts hosts.now → IfOk result (λ text. HostListOf text hosts.now) }
 {
     let mut text = Bytes::new(alloc);

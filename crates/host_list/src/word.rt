@@ -26,7 +26,7 @@ const RANDOMIZE: &[u8] = b"--randomize";
 const ZEROCONF: &[u8] = b"+zeroconf";
 
 fn holds(byte: u8, word: &[u8]) -> bool
-    ensures { result ≡ words.holds byte word.now }
+    ensures { result ≡ words.has_byte byte word.now }
 {
     memchr(byte, word).is_some()
 }

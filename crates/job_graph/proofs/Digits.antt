@@ -6,7 +6,7 @@ use Rattle.std.specs.Char.{digit_value, is_ascii_digit}
 use Rattle.std.specs.Str.{all_ascii_digits}
 use Rattle.std.proofs.lemmas.Bool.Decides.{nat_tests}
 use Rattle.std.proofs.Math.Nat.{pow-le-pow_right}
-use Rattle.job_graph.specs.Needs.{is_short_number, short_number}
+use Rattle.job_graph.specs.Needs.{is_need_number, short_number}
 
 pub digit_value-digit : (c : ℕ) → is_ascii_digit c ≡ true → digit_value c ≡ c - 48
 digit_value-digit c h = grind (arith, nat_tests)
@@ -28,6 +28,6 @@ bad_digit (c ∷ cs) (suc k) lt h = ap (λ b. is_ascii_digit c && b) (bad_digit 
 
 pub no_number : (word : List ℕ) → all_ascii_digits word ≡ false → None ≡ short_number word
 no_number word e =
-    let f : is_short_number word ≡ false = ap (λ b. nat_le 1 (length word) && nat_le (length word) 3 && b) e
+    let f : is_need_number word ≡ false = ap (λ b. nat_le 1 (length word) && nat_le (length word) 3 && b) e
     ∙ and_false (nat_le 1 (length word) && nat_le (length word) 3) in
     rw f refl

@@ -13,12 +13,12 @@ use Rattle.job_graph.specs.Lines.{is_needs, needed_words}
 -- ---- a word
 
 -- 1 to 3 decimal digits
-abbrev pub is_short_number : List ℕ → Bool
-is_short_number word = nat_le 1 (length word) && nat_le (length word) 3 && all_ascii_digits word
+abbrev pub is_need_number : List ℕ → Bool
+is_need_number word = nat_le 1 (length word) && nat_le (length word) 3 && all_ascii_digits word
 
 -- the number that a word spells so
 abbrev pub short_number : List ℕ → Option ℕ
-short_number word = if is_short_number word then Some (digits_value 10 word) else None
+short_number word = if is_need_number word then Some (digits_value 10 word) else None
 
 -- the place of the job with this printed number, which is 1 to the number of jobs
 abbrev pub job_numbered : ℕ → Option ℕ → Option ℕ

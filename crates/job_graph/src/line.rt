@@ -3,7 +3,7 @@
 ghost use Rattle.std.specs.Prelude.{◌≡◌, ◌∷◌, [], ◌<◌, ◌≤◌, not, true, false, length, slice_range, slice_index, IfSome, IfNone};
 ghost use Rattle.std.specs.List.{AllPass};
 ghost use Rattle.job_list.specs.Parts as parts;
-ghost use Rattle.job_graph.specs.Lines.{words_of, is_needs, needed_words};
+ghost use Rattle.job_graph.specs.Lines.{plain_words, is_needs, needed_words};
 
 use job_list::is_blank;
 use memchr::memchr2;
@@ -22,8 +22,8 @@ fn word_end(line: &[u8]) -> usize
 
 /// The first word of a line, between spaces and tabs, and what stands behind it.
 pub fn next_word(line: &[u8]) -> Option<(&[u8], &[u8])>
-    ensures none { IfNone result (words_of line.now ≡ []) }
-    ensures word { IfSome result (λ cut. words_of line.now ≡ cut.0.now ∷ words_of cut.1.now) }
+    ensures none { IfNone result (plain_words line.now ≡ []) }
+    ensures word { IfSome result (λ cut. plain_words line.now ≡ cut.0.now ∷ plain_words cut.1.now) }
     ensures shorter { IfSome result (λ cut. length cut.1.now < length line.now) }
 {
     let mut rest = line;
@@ -41,7 +41,7 @@ pub fn next_word(line: &[u8]) -> Option<(&[u8], &[u8])>
 pub fn needs_behind(line: &[u8]) -> Option<&[u8]>
     ensures none { IfNone result (is_needs line.now ≡ false) }
     ensures is { IfSome result (λ rest. is_needs line.now ≡ true) }
-    ensures words { IfSome result (λ rest. needed_words line.now ≡ words_of rest.now) }
+    ensures words { IfSome result (λ rest. needed_words line.now ≡ plain_words rest.now) }
 {
     match next_word(line) {
         Some((word, rest)) => {

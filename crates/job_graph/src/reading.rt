@@ -2,7 +2,7 @@
 
 ghost use Rattle.std.specs.Prelude.{ℕ, ◌≡◌, ◌<◌, ◌≤◌, ◌++◌, ◌∷◌, [], true, false, length, IfOk, IfErr, None};
 ghost use Rattle.job_list.specs.Texts.{lines_of};
-ghost use Rattle.job_graph.specs.Lines.{words_of};
+ghost use Rattle.job_graph.specs.Lines.{plain_words};
 ghost use Rattle.job_graph.specs.Needs.{all_named, jobs_named, needs_fault, needs_of};
 ghost use Rattle.job_graph.specs.Steps.{IsNeedsError, job_count};
 
@@ -15,8 +15,8 @@ use std::alloc::{AllocError, Global};
 
 // Adds the jobs that the words of a line name, and tells whether each word names one.
 fn add_needs(ahead: &mut Numbers, words: &[u8], count: usize) -> Result<bool, AllocError>
-    ensures all { IfOk result (λ right. right ≡ all_named count (words_of words.now)) }
-    ensures added { IfOk result (λ right. right ≡ true → ahead.new ≡ ahead.old ++ jobs_named count (words_of words.now)) }
+    ensures all { IfOk result (λ right. right ≡ all_named count (plain_words words.now)) }
+    ensures added { IfOk result (λ right. right ≡ true → ahead.new ≡ ahead.old ++ jobs_named count (plain_words words.now)) }
 {
     let mut rest = words;
     while let Some((word, behind)) = next_word(rest) {

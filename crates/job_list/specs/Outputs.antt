@@ -5,19 +5,19 @@ use Rattle.arg_scan.specs.declared.class.Scan.{Scan}
 use Rattle.arg_scan.specs.declared.class.Scan.TheVariants as scan
 use Rattle.arg_scan.specs.Class.{class_of}
 
-abbrev pub output_in : Scan → Option (List ℕ)
-output_in (scan.Remote action input output preprocessed ext) = Some output
-output_in scan.Empty = None
-output_in (scan.Local why at) = None
-output_in scan.Memory = None
+abbrev pub scan_output : Scan → Option (List ℕ)
+scan_output (scan.Remote action input output preprocessed ext) = Some output
+scan_output scan.Empty = None
+scan_output (scan.Local why at) = None
+scan_output scan.Memory = None
 
 -- the output of a command that may be sent, by its class
-abbrev pub output_of : List (List ℕ) → Option (List ℕ)
-output_of words = output_in (class_of words)
+abbrev pub command_output : List (List ℕ) → Option (List ℕ)
+command_output words = scan_output (class_of words)
 
 -- the outputs of jobs, one by one
 abbrev pub outputs_of : List (List (List ℕ)) → List (Option (List ℕ))
-outputs_of jobs = map output_of jobs
+outputs_of jobs = map command_output jobs
 
 -- the jobs at two places, which count from 0, have this same output
 abbrev pub SameOutputAt : List (Option (List ℕ)) → ℕ → ℕ → Type 0

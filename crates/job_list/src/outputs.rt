@@ -11,7 +11,7 @@ use std::collections::BTreeMap;
 
 // The output of a command that may be sent.
 fn output_of(alloc: Global, words: &Words) -> Result<Option<Bytes>, AllocError>
-    ensures { IfOk result (λ output. output ≡ spec.output_of words.now) }
+    ensures { IfOk result (λ output. output ≡ spec.command_output words.now) }
 {
     match classify(words) {
         Verdict::Remote(plan) => Ok(Some(output_name(alloc, words, &plan)?)),

@@ -19,7 +19,7 @@ use Rattle.farm_machine.specs.Course.{Next, Ends, Reach, From, Course}
 use Rattle.farm_machine.specs.Jobs.{Job, CanRequest, output_name}
 use Rattle.course_laws.proofs.InTable.{in-table, from-table}
 use Rattle.course_laws.proofs.Tables.{table}
-use Rattle.job_run.specs.Courses.{AreCompiles, AreBounded, IsFront, IsJobCourse}
+use Rattle.job_run.specs.Courses.{AreCompiles, AreBounded, IsCourseFront, IsJobCourse}
 use Rattle.job_run.specs.Gives.{IsUnhurt}
 use Rattle.job_run.specs.Strict.{IsStrict}
 use Rattle.job_run.proofs.Asking.{StrictFrom, StrictCourse, is-course}
@@ -356,7 +356,7 @@ reach-join : (j : Job) (xs ys : List Act) (at b : At) (end : End) → Reach j at
 reach-join j [] ys at b end is from = subst (λ (c : At). From j c ys end) (sym is) from
 reach-join j (x ∷ xs) ys at b end (c, next, more) from = (c, next, reach-join j xs ys c b end more from)
 
-leads-front : (j : Job) (acts : List Act) → LeadsOn j Start acts → IsFront j acts
+leads-front : (j : Job) (acts : List Act) → LeadsOn j Start acts → IsCourseFront j acts
 leads-front j acts on =
     let goes = on.goes in
     record {

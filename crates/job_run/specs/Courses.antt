@@ -28,7 +28,7 @@ AreBounded (Met TakesLocal ∷ Did (ran x) ∷ acts) = IsWithin in_place_bounds 
 AreBounded acts = AreCompiles acts
 
 -- these acts are the front of a whole course, and not all of it
-pub record IsFront (j : Job) (acts : List Act) : Type 0 where
+pub record IsCourseFront (j : Job) (acts : List Act) : Type 0 where
   pub next : Act
   pub rest : List Act
   pub end : End
@@ -42,5 +42,5 @@ EndsUnhurt acts = (front : List Act) (x : Exchange) (host : ℕ) → acts ≡ fr
 -- nothing went wrong, or the job could have gone on behind it. Each run and each fetch is within its bounds.
 pub record IsJobCourse (j : Job) (acts : List Act) (end : End) : Type 0 where
   pub of_table : IsOfTable j acts end
-  pub hides_none : end ≡ Failed Memory → EndsUnhurt acts ⊎ IsFront j acts
+  pub hides_none : end ≡ Failed Memory → EndsUnhurt acts ⊎ IsCourseFront j acts
   pub bounded : AreBounded acts

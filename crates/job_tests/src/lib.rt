@@ -13,3 +13,4 @@ mod rows;
 mod same;
 #[cfg(test)]
 mod scripted;
+pub mod slots;

@@ -1,21 +1,22 @@
 //! Jobs by rows: what the devices do, and what becomes of the job.
-ghost use Rattle.std.specs.Prelude.{◌≡◌, ◌+◌, ◌*◌, ◌<◌, ◌≤◌, [], length, IfOk};
+ghost use Rattle.std.specs.Prelude.{◌≡◌, ◌+◌, ◌*◌, ◌<◌, ◌≤◌, [], length};
 ghost use Rattle.edge_traits.specs.Keepers.{IsIdle};
 ghost use Rattle.slot_table.specs.History.{outstanding};
 ghost use Rattle.slot_table.specs.Grants.{cost};
 ghost use Rattle.farm_machine.specs.Jobs.{AreLimitsOf};
 
 use crate::same::{same, same_bytes};
+use crate::slots::slots_of;
 use edge_memory::{
     LinkScript, LinkScripts, MemClock, MemDialer, MemKeeper, MemStation, Moments, Moves, RanList,
 };
 use edge_traits::{
     CallNumbers, Clock, Dialer, Exchange, FileList, Keeper, Kit, Run, Station, is_staged,
 };
-use farm_machine::{By, End, Event, Places, Report, Why5, limits_of};
+use farm_machine::{By, End, Event, Places, Report, Why5};
 use farm_types::{Bytes, Ext, Host, HostName, HostVec, Hosts, Items, JobConfig, Ran, Word, Words};
 use job_run::{EventRoom, run_job};
-use slot_table::{Grants, OneThread};
+use slot_table::Grants;
 use std::alloc::Global;
 use std::process::Abort;
 use std::sync::Wait;
@@ -265,20 +266,6 @@ fn job_at<R: Wait, D: Dialer, S: Station, K: Keeper, C: Clock, G: Grants>(
         &mut places,
         room,
     ))
-}
-
-/// The slots of one thread for these entries, with room for two jobs.
-fn slots_of(alloc: Global, hosts: &Hosts) -> Result<OneThread<16>, Fail>
-    requires { length hosts.now.list ≤ 16 }
-    ensures limits { IfOk result (λ slots. AreLimitsOf slots.limits hosts.now) }
-    ensures mine { IfOk result (λ slots. slots.mine ≡ []) }
-    ensures spare { IfOk result (λ slots. 128 ≤ slots.spare) }
-{
-    let limits = limits_of(hosts, 8);
-    if !limits.are_valid() {
-        return Err("the limits are valid".into());
-    }
-    Ok(OneThread::new(alloc, limits, 256)?)
 }
 
 /// Does this job, and where it is to be done again a second one with the same slots.

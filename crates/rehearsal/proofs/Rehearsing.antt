@@ -16,7 +16,7 @@ use Rattle.job_driver.proofs.Building.{first-of}
 use Rattle.workload.specs.Loads.{job_words, jobs_of, files_of}
 use Rattle.rehearsal.specs.declared.numbers.Count.{Count}
 use Rattle.rehearsal.specs.Counts.{RehearsalKit, puts_of, CountsDone}
-use Rattle.rehearsal.specs.Rehearsals.{rehearsal_config, worker_count, loop_devices, IsFresh, IsRehearsal}
+use Rattle.rehearsal.specs.Rehearsals.{rehearsal_config, rehearsal_workers, loop_devices, IsFresh, IsRehearsal}
 use Rattle.rehearsal.proofs.OneJob.{RunLaws}
 use Rattle.rehearsal.proofs.Reporting.{telling}
 use Rattle.rehearsal.proofs.Counting.{all_returned, all_told}
@@ -34,24 +34,24 @@ doable n some most = record {
 
 module _ (laws : RunLaws) (put_law : PutLaw) (n : ℕ) (some : 1 ≤ n) (most : n ≤ 512) where
   pub rehearsed : (built : Built) (jobs : List (List (List ℕ))) (config : JobConfig) (workers : ℕ) (old new seen : List RehearsalKit) (reports : List Report) (count : Option Count)
-      → jobs ≡ jobs_of n → config ≡ rehearsal_config → workers ≡ worker_count n → length old ≡ workers → All (IsFresh (files_of n)) old
+      → jobs ≡ jobs_of n → config ≡ rehearsal_config → workers ≡ rehearsal_workers n → length old ≡ workers → All (IsFresh (files_of n)) old
       → AreLimitsOf built.last.limits config.hosts → built.last.limits.jobs ≡ length jobs
       → JobsRan loop_devices built.last.limits (job_at jobs config) config.period workers built.reports (seen_of built.pass) built.last.state old new
       → seen ≡ new → reports ≡ built.reports → CountsDone (puts_of seen) reports count → IsRehearsal n built count
   rehearsed built jobs config workers old new seen reports count jobs_are config_is workers_are many fresh limits number ran seen_are reports_are counts =
       let l = built.last.limits in
       let all : l.jobs ≡ n = number ∙ ap length jobs_are ∙ job_number n in
-      let ran_by : JobsRan loop_devices l (job_at (jobs_of n) rehearsal_config) 60 (worker_count n) built.reports (seen_of built.pass) built.last.state old new =
+      let ran_by : JobsRan loop_devices l (job_at (jobs_of n) rehearsal_config) 60 (rehearsal_workers n) built.reports (seen_of built.pass) built.last.state old new =
       subst (λ w. JobsRan loop_devices l (job_at (jobs_of n) rehearsal_config) 60 w built.reports (seen_of built.pass) built.last.state old new) workers_are
       (subst (λ (c : JobConfig). JobsRan loop_devices l (job_at (jobs_of n) c) c.period workers built.reports (seen_of built.pass) built.last.state old new) config_is
       (subst (λ js. JobsRan loop_devices l (job_at js config) config.period workers built.reports (seen_of built.pass) built.last.state old new) jobs_are ran)) in
       let one_each : length built.reports ≡ n = ran_by.are_read.one ∙ all in
       let counted : CountsDone (puts_of new) built.reports count =
       subst (λ ks. CountsDone (puts_of ks) built.reports count) seen_are (subst (λ rs. CountsDone (puts_of seen) rs count) reports_are counts) in
-      let enough : worker_count n ≤ length old = omega (arith, many, workers_are) in
+      let enough : rehearsal_workers n ≤ length old = omega (arith, many, workers_are) in
       let kits : 0 < length old = omega (arith, many, workers_are, some) in
       first-of (IsRehearsal n built count) old kits (λ other.
-      let told = telling laws put_law n most l all (worker_count n) built.reports (seen_of built.pass) built.last.state old new fresh
+      let told = telling laws put_law n most l all (rehearsal_workers n) built.reports (seen_of built.pass) built.last.state old new fresh
       enough ran_by other in
       record {
         of_hosts = subst (λ (c : JobConfig). AreLimitsOf l c.hosts) config_is limits;

@@ -44,8 +44,8 @@ abbrev pub rehearsal_config : JobConfig
 rehearsal_config = record { hosts = rehearsal_hosts; fallback = true; retry = true; period = 60; tries = 1 }
 
 -- four workers, but no more than there are jobs
-abbrev pub worker_count : ℕ → ℕ
-worker_count n = min n 4
+abbrev pub rehearsal_workers : ℕ → ℕ
+rehearsal_workers n = min n 4
 
 -- what is seen of the kits
 abbrev pub loop_devices : Devices RehearsalKit
@@ -112,7 +112,7 @@ pub record IsRehearsal (n : ℕ) (built : Built) (count : Option Count) : Type 0
   pub old : List RehearsalKit
   pub fresh : All (λ kit. IsFresh (files_of n) kit) old
   pub new : List RehearsalKit
-  pub ran : JobsRan loop_devices built.last.limits (job_at (jobs_of n) rehearsal_config) 60 (worker_count n) built.reports (seen_of built.pass) built.last.state old new
+  pub ran : JobsRan loop_devices built.last.limits (job_at (jobs_of n) rehearsal_config) 60 (rehearsal_workers n) built.reports (seen_of built.pass) built.last.state old new
   pub one_each : length built.reports ≡ n
   pub returned : All (λ report. is_done_or_wanted report.end ≡ true) built.reports
   pub tells : Tells n built.reports count

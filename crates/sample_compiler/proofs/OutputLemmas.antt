@@ -13,7 +13,7 @@ use Rattle.sample_compiler.specs.declared.meaning.Command.TheVariants.{Expand, B
 use Rattle.sample_compiler.specs.declared.task.Product.{Product}
 use Rattle.sample_compiler.specs.declared.task.Gathered.{Gathered}
 use Rattle.sample_compiler.specs.declared.task.Task.{Task}
-use Rattle.sample_compiler.specs.Tasks.{HasPlainOutput, made_as, named_product, derived_product, unnamed_product, product_of, with_product, with_input, with_command, asked}
+use Rattle.sample_compiler.specs.Tasks.{HasPlainOutput, made_as, named_product, derived_product, unnamed_product, product_of, with_product, with_only_input, with_command, asked}
 
 last_of : (xs : List ℕ) (a : ℕ) → get_or (xs ++ a ∷ []) (length xs) 0 ≡ a
 last_of [] a = refl
@@ -62,7 +62,7 @@ plain_with : (g : Gathered) (input : List ℕ) (product : Option Product) → If
 plain_with g input None plain = tt
 plain_with g input (Some product) plain = plain
 
-plain_input : (g : Gathered) (command : Command) (inputs : List (List ℕ)) → IfSome (with_input g command inputs) (λ task. HasPlainOutput task.product)
+plain_input : (g : Gathered) (command : Command) (inputs : List (List ℕ)) → IfSome (with_only_input g command inputs) (λ task. HasPlainOutput task.product)
 plain_input g command [] = tt
 plain_input g command (input ∷ []) = plain_with g input (product_of command input g.outputs) (plain_product command input g.outputs)
 plain_input g command (input ∷ other ∷ more) = tt

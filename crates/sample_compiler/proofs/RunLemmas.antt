@@ -12,7 +12,7 @@ use Rattle.sample_compiler.specs.Lookups.{Agrees, Stopped}
 use Rattle.sample_compiler.specs.declared.task.Product.{Product}
 use Rattle.sample_compiler.specs.declared.task.Product.TheVariants.{Text, Object}
 use Rattle.sample_compiler.specs.declared.task.Task.{Task}
-use Rattle.sample_compiler.specs.Samples.{CompilesTo, LeftBy, LeavesAsked, task_text, printed, made, failed, message_of, bad_words}
+use Rattle.sample_compiler.specs.Samples.{CompilesTo, LeftBy, LeavesAsked, task_text, printed, made, failed, expand_message, bad_words}
 
 -- each text is one source or has one fault
 pub record OneReading : Type 0 where
@@ -26,7 +26,7 @@ some_compiled text (inl (items, source)) = (made items, inl (items, source, refl
 some_compiled text (inr (line, message, fault)) = (failed line message, inr (line, message, fault, refl))
 
 some_left : OneReading → (product : Product) (text : Result (List ℕ) (ℕ × ExpandFault)) → (ran : Ran) × LeftBy product text ran
-some_left law product (Err fault) = (failed fault.0 (message_of fault.1), refl)
+some_left law product (Err fault) = (failed fault.0 (expand_message fault.1), refl)
 some_left law Text (Ok text) = (printed text, refl)
 some_left law (Object output) (Ok text) = some_compiled text (law.some text)
 
@@ -65,7 +65,7 @@ whole_agrees files absent = record { there = λ path content h. h; gone = λ pat
 
 -- a fault was told
 pub left_fault : {E : Type 0} (files : Files) (task : Task) (line : ℕ) (fault : ExpandFault) (stop : ExpandStop) (result : Result Ran E)
-    → Stopped true (task_text files task) stop → stop ≡ Fault line fault → IfOk result (λ ran. ran ≡ failed line (message_of fault))
+    → Stopped true (task_text files task) stop → stop ≡ Fault line fault → IfOk result (λ ran. ran ≡ failed line (expand_message fault))
     → IfOk result (LeftBy task.product (task_text files task))
 left_fault files task line fault stop result stopped is said =
     let came : task_text files task ≡ Err (line, fault) = subst (λ s. Stopped true (task_text files task) s) is stopped in

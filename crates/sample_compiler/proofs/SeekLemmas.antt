@@ -5,8 +5,8 @@ use Rattle.file_map.specs.FileMaps.{Files}
 use Rattle.sample_compiler.specs.declared.defines.Define.{Define}
 use Rattle.sample_compiler.specs.declared.stops.ExpandStop.{ExpandStop}
 use Rattle.sample_compiler.specs.declared.stops.ExpandStop.TheVariants as stops
-use Rattle.sample_compiler.specs.Lines.{lines_of}
-use Rattle.sample_compiler.specs.Expanding.{Outcome, Includes, expand_line, include, find_file}
+use Rattle.sample_compiler.specs.Lines.{source_lines}
+use Rattle.sample_compiler.specs.Expanding.{ExpandResult, Includes, expand_line, include, find_file}
 use Rattle.sample_compiler.specs.Lookups.{Stopped, LookStopped}
 use Rattle.sample_compiler.specs.Seeking.{Seeks, sought, by_line, after_line, by_lines, by_content, by_include, is_known, first_unknown, StoppedAt}
 
@@ -55,7 +55,7 @@ seek_file files dirs (suc room) defines name h =
 -- where the file is there, what comes next is what its own lines look up
 pub seek_found : (known : Files) (absent : List (List ℕ)) (files : Files) (dirs : List (List ℕ)) (room : ℕ) (defines : List Define) (name content : List ℕ) → 0 < room
     → find_file files dirs name ≡ Some content → first_unknown known absent (sought files dirs name) ≡ None
-    → first_unknown known absent (by_include files dirs room defines name) ≡ first_unknown known absent (by_lines (include files dirs (room - 1)) (by_include files dirs (room - 1)) 1 defines (lines_of content))
+    → first_unknown known absent (by_include files dirs room defines name) ≡ first_unknown known absent (by_lines (include files dirs (room - 1)) (by_include files dirs (room - 1)) 1 defines (source_lines content))
 seek_found known absent files dirs room defines name content some found all =
     let seek = by_lines (include files dirs (room - 1)) (by_include files dirs (room - 1)) 1 defines in
     ap (first_unknown known absent) (seek_file files dirs room defines name some)
@@ -81,7 +81,7 @@ seek_stopped known absent files dirs room defines name whole stop some looked wa
 
 -- ---- lines
 
-line_names : (known : Files) (absent : List (List ℕ)) (includes : Includes) (seeks : Seeks) (line : ℕ) (defines : List Define) (bytes : List ℕ) (ls : List (List ℕ)) (o : Outcome)
+line_names : (known : Files) (absent : List (List ℕ)) (includes : Includes) (seeks : Seeks) (line : ℕ) (defines : List Define) (bytes : List ℕ) (ls : List (List ℕ)) (o : ExpandResult)
     → expand_line includes line defines bytes ≡ o → first_unknown known absent (by_line seeks defines bytes) ≡ None
     → first_unknown known absent (by_lines includes seeks line defines (bytes ∷ ls)) ≡ first_unknown known absent (after_line o (λ more. by_lines includes seeks (line + 1) more ls))
 line_names known absent includes seeks line defines bytes ls o is all =
@@ -90,22 +90,22 @@ line_names known absent includes seeks line defines bytes ls o is all =
 
 -- one line is done
 pub walk_more : (known : Files) (absent : List (List ℕ)) (includes : Includes) (seeks : Seeks) (line : ℕ) (defines next : List Define) (rest bytes more text : List ℕ)
-    → lines_of rest ≡ bytes ∷ lines_of more → expand_line includes line defines bytes ≡ Ok (record { defines = next; text = text })
+    → source_lines rest ≡ bytes ∷ source_lines more → expand_line includes line defines bytes ≡ Ok (record { defines = next; text = text })
     → first_unknown known absent (by_line seeks defines bytes) ≡ None
-    → first_unknown known absent (by_lines includes seeks line defines (lines_of rest)) ≡ first_unknown known absent (by_lines includes seeks (line + 1) next (lines_of more))
+    → first_unknown known absent (by_lines includes seeks line defines (source_lines rest)) ≡ first_unknown known absent (by_lines includes seeks (line + 1) next (source_lines more))
 walk_more known absent includes seeks line defines next rest bytes more text cut took all =
     ap (λ ls. first_unknown known absent (by_lines includes seeks line defines ls)) cut
-    ∙ line_names known absent includes seeks line defines bytes (lines_of more) (Ok (record { defines = next; text = text })) took all
+    ∙ line_names known absent includes seeks line defines bytes (source_lines more) (Ok (record { defines = next; text = text })) took all
 
 -- the text stopped at a line
 pub walk_stop : (known : Files) (absent : List (List ℕ)) (includes : Includes) (seeks : Seeks) (line : ℕ) (defines : List Define) (rest bytes more : List ℕ) (stop : ExpandStop)
-    → lines_of rest ≡ bytes ∷ lines_of more → Stopped false (expand_line includes line defines bytes) stop
+    → source_lines rest ≡ bytes ∷ source_lines more → Stopped false (expand_line includes line defines bytes) stop
     → StoppedAt (first_unknown known absent (by_line seeks defines bytes)) stop
-    → StoppedAt (first_unknown known absent (by_lines includes seeks line defines (lines_of rest))) stop
+    → StoppedAt (first_unknown known absent (by_lines includes seeks line defines (source_lines rest))) stop
 walk_stop known absent includes seeks line defines rest bytes more (stops.Fault l f) cut stopped walked =
     ap (λ ls. first_unknown known absent (by_lines includes seeks line defines ls)) cut
-    ∙ line_names known absent includes seeks line defines bytes (lines_of more) (Err (l, f)) stopped walked
+    ∙ line_names known absent includes seeks line defines bytes (source_lines more) (Err (l, f)) stopped walked
 walk_stop known absent includes seeks line defines rest bytes more (stops.Unknown path) cut stopped walked =
     ap (λ ls. first_unknown known absent (by_lines includes seeks line defines ls)) cut
-    ∙ front_unknown known absent (by_line seeks defines bytes) (after_line (expand_line includes line defines bytes) (λ ds. by_lines includes seeks (line + 1) ds (lines_of more))) path walked
+    ∙ front_unknown known absent (by_line seeks defines bytes) (after_line (expand_line includes line defines bytes) (λ ds. by_lines includes seeks (line + 1) ds (source_lines more))) path walked
 walk_stop known absent includes seeks line defines rest bytes more stops.Memory cut stopped walked = tt

@@ -3,11 +3,11 @@ use Rattle.std.specs.Prelude.{ℕ, ◌≡◌, ◌++◌, List, Bool, Result, Ok, 
 use Rattle.sample_compiler.specs.declared.expand.Expansion.{Expansion}
 use Rattle.sample_compiler.specs.declared.stops.ExpandFault.{ExpandFault}
 use Rattle.sample_compiler.specs.declared.stops.ExpandStop.{ExpandStop}
-use Rattle.sample_compiler.specs.Expanding.{Outcome}
+use Rattle.sample_compiler.specs.Expanding.{ExpandResult}
 use Rattle.sample_compiler.specs.Lookups.{Stopped}
 
 -- behind the text that was made before, it came to this outcome, unless it stopped for another reason
-abbrev pub Came : {T : Type 0} → Bool → Outcome → List ℕ → Expansion → Result T ExpandStop → Type 0
+abbrev pub Came : {T : Type 0} → Bool → ExpandResult → List ℕ → Expansion → Result T ExpandStop → Type 0
 Came whole outcome before now (Ok done) = (text : List ℕ) × (outcome ≡ Ok (record { defines = now.defines; text = text })) × (now.text ≡ before ++ text)
 Came whole outcome before now (Err stop) = Stopped whole outcome stop
 

@@ -5,7 +5,7 @@ use Rattle.file_map.specs.FileMaps.{Files}
 use Rattle.sample_compiler.specs.declared.defines.Define.{Define}
 use Rattle.sample_compiler.specs.declared.stops.ExpandFault.{ExpandFault}
 use Rattle.sample_compiler.specs.declared.stops.ExpandFault.TheVariants.{BadDirective, NoFile, TooDeep}
-use Rattle.sample_compiler.specs.Lines.{lines_of}
+use Rattle.sample_compiler.specs.Lines.{source_lines}
 use Rattle.sample_compiler.specs.Words.{begins, replaced}
 use Rattle.sample_compiler.specs.Directives.{Definition, include_of, define_of}
 
@@ -36,48 +36,48 @@ pub record Expanded : Type 0 where
   pub text : List ℕ
 
 -- a fault stands on a line of the file that it is in
-abbrev pub Outcome : Type 0
-Outcome = Result Expanded (ℕ × ExpandFault)
+abbrev pub ExpandResult : Type 0
+ExpandResult = Result Expanded (ℕ × ExpandFault)
 
 -- behind a text that was made
-abbrev pub behind_text : List ℕ → Outcome → Outcome
+abbrev pub behind_text : List ℕ → ExpandResult → ExpandResult
 behind_text text (Ok more) = Ok (record { defines = more.defines; text = text ++ more.text })
 behind_text text (Err fault) = Err fault
 
-abbrev pub then_lines : Outcome → (List Define → Outcome) → Outcome
+abbrev pub then_lines : ExpandResult → (List Define → ExpandResult) → ExpandResult
 then_lines (Ok made) more = behind_text made.text (more made.defines)
 then_lines (Err fault) more = Err fault
 
 -- what includes a file: by the line of the directive, the defined names and the file's name
 abbrev pub Includes : Type 0
-Includes = ℕ → List Define → List ℕ → Outcome
+Includes = ℕ → List Define → List ℕ → ExpandResult
 
 abbrev pub with_define : List Define → Definition → List Define
 with_define defines d = defines ++ record { name = d.name; value = d.value } ∷ []
 
-abbrev pub other_directive : ℕ → List Define → Option Definition → Outcome
+abbrev pub other_directive : ℕ → List Define → Option Definition → ExpandResult
 other_directive line defines (Some d) = Ok (record { defines = with_define defines d; text = [] })
 other_directive line defines None = Err (line, BadDirective)
 
-abbrev pub directive : Includes → ℕ → List Define → List ℕ → Option (List ℕ) → Outcome
+abbrev pub directive : Includes → ℕ → List Define → List ℕ → Option (List ℕ) → ExpandResult
 directive include line defines bytes (Some name) = include line defines name
 directive include line defines bytes None = other_directive line defines (define_of bytes)
 
 -- one line: a directive leaves none
-abbrev pub expand_line : Includes → ℕ → List Define → List ℕ → Outcome
+abbrev pub expand_line : Includes → ℕ → List Define → List ℕ → ExpandResult
 expand_line include line defines bytes =
     if begins (λ c. c == 35) bytes then directive include line defines bytes (include_of bytes)
     else Ok (record { defines = defines; text = replaced defines bytes ++ codes "\n" })
 
 -- the lines from this number on, in order
-abbrev pub expand_lines : Includes → ℕ → List Define → List (List ℕ) → Outcome
+abbrev pub expand_lines : Includes → ℕ → List Define → List (List ℕ) → ExpandResult
 expand_lines include line defines [] = Ok (record { defines = defines; text = [] })
 expand_lines include line defines (l ∷ ls) =
     then_lines (expand_line include line defines l) (λ more. expand_lines include (line + 1) more ls)
 
-abbrev pub from_file : (List Define → List (List ℕ) → Outcome) → ℕ → List Define → List ℕ → Option (List ℕ) → Outcome
+abbrev pub from_file : (List Define → List (List ℕ) → ExpandResult) → ℕ → List Define → List ℕ → Option (List ℕ) → ExpandResult
 from_file expand line defines name None = Err (line, NoFile name)
-from_file expand line defines name (Some content) = expand defines (lines_of content)
+from_file expand line defines name (Some content) = expand defines (source_lines content)
 
 -- an included file, where so many may still be open at once
 unfoldable pub include : Files → List (List ℕ) → ℕ → Includes
@@ -86,5 +86,5 @@ include files dirs (suc room) line defines name =
     from_file (expand_lines (include files dirs room) 1) line defines name (find_file files dirs name)
 
 -- a whole text, at most 16 files deep
-abbrev pub expanded : Files → List (List ℕ) → List Define → List ℕ → Outcome
-expanded files dirs defines text = expand_lines (include files dirs 16) 1 defines (lines_of text)
+abbrev pub expanded : Files → List (List ℕ) → List Define → List ℕ → ExpandResult
+expanded files dirs defines text = expand_lines (include files dirs 16) 1 defines (source_lines text)

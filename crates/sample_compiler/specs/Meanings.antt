@@ -20,19 +20,19 @@ use Rattle.sample_compiler.specs.declared.meaning.Reading.TheVariants.{Whole, Aw
 abbrev pub name_len : List ℕ → ℕ
 name_len text = prefix_len (λ c. not (c == 61)) text
 
-abbrev pub value_of : List ℕ → List ℕ
-value_of [] = codes "1"
-value_of (c ∷ value) = value
+abbrev pub defined_value : List ℕ → List ℕ
+defined_value [] = codes "1"
+defined_value (c ∷ value) = value
 
-abbrev pub definition_of : List ℕ → Define
-definition_of text = record { name = take (name_len text) text; value = value_of (drop (name_len text) text) }
+abbrev pub flag_definition : List ℕ → Define
+flag_definition text = record { name = take (name_len text) text; value = defined_value (drop (name_len text) text) }
 
 -- ---- one word
 
 -- an option with its operand
 abbrev pub with_operand : Sign → List ℕ → Meaning
 with_operand sign.Folder operand = meaning.Folder operand
-with_operand sign.Define operand = meaning.Define (definition_of operand)
+with_operand sign.Define operand = meaning.Define (flag_definition operand)
 with_operand sign.Output operand = meaning.Output operand
 
 -- the operand stands behind the spelling, or else is the next word

@@ -12,15 +12,15 @@ use Rattle.sample_compiler.specs.declared.task.Product.TheVariants.{Text, Object
 use Rattle.sample_compiler.specs.declared.task.Task.{Task}
 use Rattle.sample_compiler.specs.declared.stops.ExpandFault.{ExpandFault}
 use Rattle.sample_compiler.specs.declared.stops.ExpandFault.TheVariants.{BadDirective, NoFile, TooDeep}
-use Rattle.sample_compiler.specs.Objects.{object_of}
+use Rattle.sample_compiler.specs.Objects.{items_text}
 use Rattle.file_map.specs.FileMaps.{Files}
-use Rattle.sample_compiler.specs.Expanding.{Outcome, expanded}
+use Rattle.sample_compiler.specs.Expanding.{ExpandResult, expanded}
 use Rattle.sample_compiler.specs.Tasks.{task_of}
 
-abbrev pub message_of : ExpandFault → List ℕ
-message_of BadDirective = codes "bad directive"
-message_of (NoFile name) = codes "no file " ++ name
-message_of TooDeep = codes "includes too deep"
+abbrev pub expand_message : ExpandFault → List ℕ
+expand_message BadDirective = codes "bad directive"
+expand_message (NoFile name) = codes "no file " ++ name
+expand_message TooDeep = codes "includes too deep"
 
 -- a message with the line that it is about
 abbrev pub line_text : ℕ → List ℕ → List ℕ
@@ -36,7 +36,7 @@ printed text = record { status = 0; out = text; err = []; object = [] }
 
 -- an object
 abbrev pub made : List Item → Ran
-made items = record { status = 0; out = []; err = []; object = object_of items }
+made items = record { status = 0; out = []; err = []; object = items_text items }
 
 -- the source, or its fault with the line, compiled
 abbrev pub CompilesTo : List ℕ → Ran → Type 0
@@ -47,18 +47,18 @@ CompilesTo text ran =
 -- ---- the text that is compiled or printed
 
 -- the text of an outcome
-abbrev pub text_of : Outcome → Result (List ℕ) (ℕ × ExpandFault)
+abbrev pub text_of : ExpandResult → Result (List ℕ) (ℕ × ExpandFault)
 text_of (Ok done) = Ok done.text
 text_of (Err fault) = Err fault
 
 -- such a name is that of a preprocessed source
-abbrev pub is_preprocessed : List ℕ → Bool
-is_preprocessed name = ends_with nat_eq name (codes ".i") || ends_with nat_eq name (codes ".ii")
+abbrev pub is_preprocessed_name : List ℕ → Bool
+is_preprocessed_name name = ends_with nat_eq name (codes ".i") || ends_with nat_eq name (codes ".ii")
 
 -- the input is compiled as it stands
 abbrev pub is_ready : Product → List ℕ → Bool
 is_ready Text input = false
-is_ready (Object output) input = is_preprocessed input
+is_ready (Object output) input = is_preprocessed_name input
 
 -- the input preprocessed
 abbrev pub expanded_text : Files → Task → List ℕ → Result (List ℕ) (ℕ × ExpandFault)
@@ -85,7 +85,7 @@ MadeOf (Object output) text ran = CompilesTo text ran
 
 abbrev pub LeftBy : Product → Result (List ℕ) (ℕ × ExpandFault) → Ran → Type 0
 LeftBy product (Ok text) ran = MadeOf product text ran
-LeftBy product (Err fault) ran = ran ≡ failed fault.0 (message_of fault.1)
+LeftBy product (Err fault) ran = ran ≡ failed fault.0 (expand_message fault.1)
 
 abbrev pub LeavesAsked : Files → Option Task → Ran → Type 0
 LeavesAsked files (Some task) ran = LeftBy task.product (task_text files task) ran

@@ -7,8 +7,8 @@ use Rattle.sample_compiler.specs.declared.stops.ExpandStop.{ExpandStop}
 use Rattle.sample_compiler.specs.declared.stops.ExpandStop.TheVariants.{Fault, Unknown, Memory}
 use Rattle.sample_compiler.specs.declared.task.Task.{Task}
 use Rattle.sample_compiler.specs.Directives.{include_of}
-use Rattle.sample_compiler.specs.Expanding.{Outcome, Includes, expand_line, include, find_file}
-use Rattle.sample_compiler.specs.Lines.{lines_of}
+use Rattle.sample_compiler.specs.Expanding.{ExpandResult, Includes, expand_line, include, find_file}
+use Rattle.sample_compiler.specs.Lines.{source_lines}
 use Rattle.sample_compiler.specs.Lookups.{is_listed}
 use Rattle.sample_compiler.specs.Samples.{is_ready}
 use Rattle.sample_compiler.specs.Words.{begins}
@@ -45,7 +45,7 @@ abbrev pub by_line : Seeks → List Define → List ℕ → List (List ℕ)
 by_line seeks defines bytes = if begins (λ c. c == 35) bytes then by_directive seeks defines (include_of bytes) else []
 
 -- behind a line with a fault nothing is looked up
-abbrev pub after_line : Outcome → (List Define → List (List ℕ)) → List (List ℕ)
+abbrev pub after_line : ExpandResult → (List Define → List (List ℕ)) → List (List ℕ)
 after_line (Ok made) more = more made.defines
 after_line (Err fault) more = []
 
@@ -57,7 +57,7 @@ by_lines includes seeks line defines (l ∷ ls) =
 
 abbrev pub by_content : (List (List ℕ) → List (List ℕ)) → Option (List ℕ) → List (List ℕ)
 by_content seek None = []
-by_content seek (Some content) = seek (lines_of content)
+by_content seek (Some content) = seek (source_lines content)
 
 -- an included file, where so many may still be open at once
 unfoldable pub by_include : Files → List (List ℕ) → ℕ → Seeks
@@ -69,7 +69,7 @@ by_include files dirs (suc room) defines name =
 
 -- what a text of these words has looked up, at most 16 files deep
 abbrev pub by_text : Files → Task → List ℕ → List (List ℕ)
-by_text files task content = by_lines (include files task.dirs 16) (by_include files task.dirs 16) 1 task.defines (lines_of content)
+by_text files task content = by_lines (include files task.dirs 16) (by_include files task.dirs 16) 1 task.defines (source_lines content)
 
 -- what the input has looked up, where it is there
 abbrev pub by_input : Files → Task → Option (List ℕ) → List (List ℕ)

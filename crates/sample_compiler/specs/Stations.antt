@@ -31,10 +31,10 @@ own_output = 0 ∷ codes ".object"
 abbrev pub with_input : Files → List ℕ → Files
 with_input files input = insert files own_input input
 
-abbrev pub word_text : Word → List ℕ
-word_text (Text text) = text
-word_text (Input ext) = own_input
-word_text Output = own_output
+abbrev pub own_word : Word → List ℕ
+own_word (Text text) = text
+own_word (Input ext) = own_input
+own_word Output = own_output
 
 abbrev pub is_own_output : Product → Bool
 is_own_output product.Text = false
@@ -54,7 +54,7 @@ as_left words asked ran = if has_output words && is_output_named asked then ran 
 
 -- what these words ask for
 abbrev pub asked_by : List Word → Option Task
-asked_by words = task_of (map word_text words)
+asked_by words = task_of (map own_word words)
 
 -- what a run by these words on this input may leave over these files: what the compiler leaves
 pub record StationRan (files : Files) (words : List Word) (input : List ℕ) (ran : Ran) : Type 0 where

@@ -89,15 +89,15 @@ with_product g input (Some product) = Some (record { product = product; input = 
 with_product g input None = None
 
 -- exactly one input stands
-abbrev pub with_input : Gathered → Command → List (List ℕ) → Option Task
-with_input g command [] = None
-with_input g command (input ∷ []) = with_product g input (product_of command input g.outputs)
-with_input g command (input ∷ other ∷ more) = None
+abbrev pub with_only_input : Gathered → Command → List (List ℕ) → Option Task
+with_only_input g command [] = None
+with_only_input g command (input ∷ []) = with_product g input (product_of command input g.outputs)
+with_only_input g command (input ∷ other ∷ more) = None
 
 -- the first command counts
 abbrev pub with_command : Gathered → List Command → Option Task
 with_command g [] = None
-with_command g (command ∷ more) = with_input g command g.inputs
+with_command g (command ∷ more) = with_only_input g command g.inputs
 
 abbrev pub asked : Gathered → Option Task
 asked g = if g.lacking then None else with_command g g.commands

@@ -3,7 +3,7 @@
 ghost use Rattle.std.specs.Prelude.{◌≡◌, ◌++◌, ◌+◌, ◌<◌, ◌≤◌, ◌^◌, length, drop, codes, false, IfOk};
 ghost use Rattle.sample_compiler.specs.Expanding as expanding;
 ghost use Rattle.sample_compiler.specs.Expanding.{expand_lines, expand_line, include, directive, other_directive};
-ghost use Rattle.sample_compiler.specs.Lines.{lines_of};
+ghost use Rattle.sample_compiler.specs.Lines.{source_lines};
 ghost use Rattle.sample_compiler.specs.Directives as directives;
 ghost use Rattle.file_map.specs.FileMaps.{Files};
 ghost use Rattle.sample_compiler.specs.Lookups.{Agrees};
@@ -131,9 +131,9 @@ pub fn expand(
     made: &mut Expansion,
 ) -> Result<(), ExpandStop>
     ensures came { (files : Files) → Agrees sources.entry.files.now sources.entry.absent.now sources.entry.whole files
-        → Came sources.entry.whole (expand_lines (expanding.include files sources.entry.dirs.now room) 1 made.old.defines (lines_of text.now)) made.old.text made.new result }
+        → Came sources.entry.whole (expand_lines (expanding.include files sources.entry.dirs.now room) 1 made.old.defines (source_lines text.now)) made.old.text made.new result }
     ensures looked { (files : Files) → Agrees sources.entry.files.now sources.entry.absent.now sources.entry.whole files
-        → sources.entry.whole ≡ false → Walked (first_unknown sources.entry.files.now sources.entry.absent.now (seeking.by_lines (expanding.include files sources.entry.dirs.now room) (seeking.by_include files sources.entry.dirs.now room) 1 made.old.defines (lines_of text.now))) result }
+        → sources.entry.whole ≡ false → Walked (first_unknown sources.entry.files.now sources.entry.absent.now (seeking.by_lines (expanding.include files sources.entry.dirs.now room) (seeking.by_include files sources.entry.dirs.now room) 1 made.old.defines (source_lines text.now))) result }
 {
     let mut rest = text;
     let mut line = 1;

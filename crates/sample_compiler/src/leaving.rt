@@ -13,7 +13,7 @@ use std::alloc::{AllocError, Global};
 
 // The message of a fault of the preprocessor.
 fn message_of(alloc: Global, fault: &ExpandFault) -> Result<Bytes, AllocError>
-    ensures { IfOk result (λ text. text ≡ samples.message_of fault.now) }
+    ensures { IfOk result (λ text. text ≡ samples.expand_message fault.now) }
 {
     match fault {
         ExpandFault::BadDirective => Bytes::from_slice(alloc, b"bad directive"),
@@ -52,7 +52,7 @@ pub fn failed(alloc: Global, line: u64, message: &[u8]) -> Result<Ran, AllocErro
 
 /// A fault of the preprocessor.
 pub fn expand_failed(alloc: Global, line: u64, fault: &ExpandFault) -> Result<Ran, AllocError>
-    ensures { IfOk result (λ ran. ran ≡ samples.failed line (samples.message_of fault.now)) }
+    ensures { IfOk result (λ ran. ran ≡ samples.failed line (samples.expand_message fault.now)) }
 {
     let message = message_of(alloc, fault)?;
     failed(alloc, line, message.as_slice())

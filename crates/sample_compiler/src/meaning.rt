@@ -69,7 +69,7 @@ fn name_len(text: &[u8]) -> usize
 
 // The name that an operand of `-D` defines.
 fn definition_of(alloc: Global, text: &[u8]) -> Result<Define, AllocError>
-    ensures { IfOk result (λ define. define ≡ meanings.definition_of text.now) }
+    ensures { IfOk result (λ define. define ≡ meanings.flag_definition text.now) }
 {
     let len = name_len(text);
     let name = Bytes::from_slice(alloc, &text[..len])?;

@@ -4,7 +4,7 @@ ghost use Rattle.std.specs.Prelude.{◌≡◌, ◌<◌, [], length, map, IfOk, I
 ghost use Rattle.edge_traits.specs.Told.{SameRelation3};
 ghost use Rattle.edge_traits.specs.Stations.{IsWithin, bound_of};
 ghost use Rattle.sample_compiler.specs.Stations as stations;
-ghost use Rattle.sample_compiler.specs.Stations.{word_text, StationRan, station_files, station_shows};
+ghost use Rattle.sample_compiler.specs.Stations.{own_word, StationRan, station_files, station_shows};
 
 use crate::compiler::leave;
 use crate::task::{Product, Task, task_of};
@@ -27,8 +27,8 @@ pub struct SampleStation {
 }
 
 // The text of a word: the names of the station's own stand for the input and the object.
-fn word_text(alloc: Global, word: &Word) -> Result<Bytes, AllocError>
-    ensures { IfOk result (λ text. text ≡ word_text word.now) }
+fn own_word(alloc: Global, word: &Word) -> Result<Bytes, AllocError>
+    ensures { IfOk result (λ text. text ≡ own_word word.now) }
 {
     match word {
         Word::Text(text) => text.copy(),
@@ -39,11 +39,11 @@ fn word_text(alloc: Global, word: &Word) -> Result<Bytes, AllocError>
 
 // The words as the compiler reads them.
 fn spelled(alloc: Global, words: &[Word]) -> Result<Words, AllocError>
-    ensures { IfOk result (λ texts. texts ≡ map word_text words.now) }
+    ensures { IfOk result (λ texts. texts ≡ map own_word words.now) }
 {
     let mut texts = Words::new(alloc);
     for word in words {
-        texts.try_push(word_text(alloc, word)?)?;
+        texts.try_push(own_word(alloc, word)?)?;
     }
     Ok(texts)
 }

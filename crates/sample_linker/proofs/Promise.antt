@@ -20,7 +20,7 @@ use Rattle.sample_linker.specs.declared.faults.Linked.TheVariants as linked
 use Rattle.sample_linker.specs.declared.running.RunFault.TheVariants.{BadImage, NoMain}
 use Rattle.sample_linker.specs.declared.running.Value.{Value}
 use Rattle.sample_linker.specs.declared.running.Value.TheVariants as values
-use Rattle.sample_compiler.specs.Objects.{object_of}
+use Rattle.sample_compiler.specs.Objects.{items_text}
 use Rattle.sample_linker.specs.Files.{file_items, then_file, objects_items}
 use Rattle.sample_linker.specs.Right.{AreRightItems}
 use Rattle.sample_linker.specs.Orders.{GoRound, IsImageOrder}
@@ -94,13 +94,13 @@ part_holds numbers (Def name code ∷ is) js h = let rest = part_holds numbers i
 -- ---- sources
 
 objects_read : (texts : List (List ℕ)) (files : List (List Item)) (earlier : List Item) (at : ℕ) → AreSources texts files
-    → objects_items earlier at (map object_of files) ≡ Ok (earlier ++ together files)
+    → objects_items earlier at (map items_text files) ≡ Ok (earlier ++ together files)
 objects_read [] [] earlier at h = ap (λ (is : List Item). Ok is) (sym (append-nil earlier))
 objects_read [] (items ∷ files) earlier at h = absurd h
 objects_read (text ∷ texts) [] earlier at h = absurd h
 objects_read (text ∷ texts) (items ∷ files) earlier at h =
-    ap (λ read. then_file at read (λ more. objects_items (earlier ++ more) (suc at) (map object_of files)))
-    (file_reads Object (object_of items) items (source_says text items h.0))
+    ap (λ read. then_file at read (λ more. objects_items (earlier ++ more) (suc at) (map items_text files)))
+    (file_reads Object (items_text items) items (source_says text items h.0))
     ∙ objects_read texts files (earlier ++ items) (suc at) h.1
     ∙ ap (λ (is : List Item). Ok is) (append_assoc earlier items (together files))
 

@@ -21,7 +21,7 @@ use Rattle.sample_lang.specs.Grammar.{Needs, Defines, expr_tokens, term_tokens, 
 use Rattle.sample_lang.specs.Grammar.{term_code, factor_code, item_of, items_of}
 use Rattle.sample_lang.specs.Sources.{SourceOf}
 use Rattle.sample_linker.specs.declared.kind.Kind.TheVariants.{Object}
-use Rattle.sample_compiler.specs.Objects.{object_of}
+use Rattle.sample_compiler.specs.Objects.{items_text}
 use Rattle.sample_linker.specs.Lines.{begins_by, is_name, leaves_one}
 use Rattle.sample_linker.specs.Right.{AreRightParts, IsRightItem, AreRightItems, Says}
 
@@ -180,7 +180,7 @@ forms_right (form ∷ forms) h =
     (item_right form s.0, forms_right forms s.1)
 
 -- the object of a source is right, and says its items
-pub source_says : (text : List ℕ) (items : List Item) → SourceOf text items → Says Object (object_of items) items
+pub source_says : (text : List ℕ) (items : List Item) → SourceOf text items → Says Object (items_text items) items
 source_says text items s = record {
   spelled = refl;
   right = subst (AreRightItems Object) (sym s.meant)

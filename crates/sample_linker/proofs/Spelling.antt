@@ -16,7 +16,7 @@ use Rattle.sample_lang.specs.Names.{is_named, name_of, HaveNames, AreDeclared}
 use Rattle.sample_lang.specs.Names as names
 use Rattle.sample_linker.specs.declared.kind.Kind.{Kind}
 use Rattle.sample_linker.specs.declared.kind.Kind.TheVariants.{Object, Image}
-use Rattle.sample_compiler.specs.Objects.{part_text, item_line}
+use Rattle.sample_compiler.specs.Objects.{code_part_text, item_line}
 use Rattle.sample_linker.specs.Lines.{is_line_feed, is_blank, heading, has_needs, is_name, leaves_one, code_of, def_item, need_item}
 use Rattle.sample_linker.specs.Lines.{line_item}
 use Rattle.sample_linker.specs.Files.{is_known, may_follow, following, go_on, lines_items, headed_items, file_items}
@@ -49,7 +49,7 @@ after_at p xs ys y h k = ap (λ n. drop (n + 1) (xs ++ y ∷ ys)) (at_clear p xs
 -- a line without its line feed
 abbrev body_of : Item → List ℕ
 body_of (Extern name) = codes "need " ++ name
-body_of (Def name code) = codes "def " ++ name ++ flat_map part_text code
+body_of (Def name code) = codes "def " ++ name ++ flat_map code_part_text code
 
 body_is : (item : Item) → item_line item ≡ body_of item ++ 10 ∷ []
 body_is (Extern name) = refl
@@ -65,7 +65,7 @@ body_clear kind (Def name code) h = (
       refl,
       (
         refl,
-        Clear-append is_line_feed name (flat_map part_text code) (name_is_clear name h.0).1 (code_clear code h.1),
+        Clear-append is_line_feed name (flat_map code_part_text code) (name_is_clear name h.0).1 (code_clear code h.1),
       ),
     ),
   ),
@@ -75,12 +75,12 @@ abbrev def_by : List ℕ → List ℕ → Option Item
 def_by name text = cond (is_name name) (option_map (λ code. Def name code) (code_of text)) None
 
 def_reads : (name : List ℕ) (code : List Part) → is_name name ≡ true → AreRightParts code → leaves_one 0 code ≡ true
-    → def_item (name ++ flat_map part_text code) ≡ Some (Def name code)
+    → def_item (name ++ flat_map code_part_text code) ≡ Some (Def name code)
 def_reads name [] h k l = cc
 def_reads name (p ∷ ps) h k l =
-    let rest : List ℕ = part_word p ++ flat_map part_text ps in
+    let rest : List ℕ = part_word p ++ flat_map code_part_text ps in
     let clear = (name_is_clear name h).0 in
-    ap (λ t. def_item (name ++ (t ++ flat_map part_text ps))) (part_is p)
+    ap (λ t. def_item (name ++ (t ++ flat_map code_part_text ps))) (part_is p)
     ∙ ap (λ n. def_by n (after_first is_blank (name ++ 32 ∷ rest))) (before_at is_blank name rest 32 clear refl)
     ∙ ap (λ t. def_by name t) (after_at is_blank name rest 32 clear refl)
     ∙ cond_yes (is_name name) _ _ h

@@ -16,7 +16,7 @@ use Rattle.std.proofs.lemmas.List.Splits.{slice_split_none, slice_split_at}
 use Rattle.sample_lang.specs.declared.program.Part.{Part}
 use Rattle.sample_lang.specs.declared.program.Part.TheVariants.{Number, Name, Add, Sub, Mul}
 use Rattle.sample_lang.specs.Bytes.{is_name_byte, is_digit}
-use Rattle.sample_compiler.specs.Objects.{part_text}
+use Rattle.sample_compiler.specs.Objects.{code_part_text}
 use Rattle.sample_linker.specs.Lines.{is_line_feed, is_blank, begins_by, is_name, is_number, part_of, parts_behind, and_then, whole_code}
 use Rattle.sample_linker.specs.Lines.{code_of, leaves_one}
 use Rattle.sample_linker.specs.Right.{IsRightPart, AreRightParts}
@@ -144,7 +144,7 @@ part_word Add = 43 ∷ []
 part_word Sub = 45 ∷ []
 part_word Mul = 42 ∷ []
 
-pub part_is : (part : Part) → part_text part ≡ 32 ∷ part_word part
+pub part_is : (part : Part) → code_part_text part ≡ 32 ∷ part_word part
 part_is (Number n) = refl
 part_is (Name name) = refl
 part_is Add = refl
@@ -168,13 +168,13 @@ word_clear Mul h = ((refl, tt), (refl, tt))
 -- ---- codes
 
 split_words : (p : Part) (ps : List Part) → IsRightPart p → AreRightParts ps
-    → slice_split is_blank (part_word p ++ flat_map part_text ps) ≡ part_word p ∷ map part_word ps
+    → slice_split is_blank (part_word p ++ flat_map code_part_text ps) ≡ part_word p ∷ map part_word ps
 split_words p [] h k =
     ap (slice_split is_blank) (append-nil (part_word p))
     ∙ slice_split_none is_blank (part_word p) (all_clear is_blank (part_word p) (word_clear p h).0)
 split_words p (q ∷ qs) h k =
-    ap (λ t. slice_split is_blank (part_word p ++ (t ++ flat_map part_text qs))) (part_is q)
-    ∙ slice_split_at is_blank (part_word p) 32 (part_word q ++ flat_map part_text qs)
+    ap (λ t. slice_split is_blank (part_word p ++ (t ++ flat_map code_part_text qs))) (part_is q)
+    ∙ slice_split_at is_blank (part_word p) 32 (part_word q ++ flat_map code_part_text qs)
     (all_clear is_blank (part_word p) (word_clear p h).0) refl
     ∙ ap (λ ws. part_word p ∷ ws) (split_words q qs k.0 k.1)
 
@@ -185,15 +185,15 @@ parts_read code (p ∷ ps) h =
     ∙ parts_read (code ++ p ∷ []) ps h.1 ∙ ap Some (append_assoc code (p ∷ []) ps)
 
 pub code_reads : (p : Part) (ps : List Part) → AreRightParts (p ∷ ps) → leaves_one 0 (p ∷ ps) ≡ true
-    → code_of (part_word p ++ flat_map part_text ps) ≡ Some (p ∷ ps)
+    → code_of (part_word p ++ flat_map code_part_text ps) ≡ Some (p ∷ ps)
 code_reads p ps h k =
     ap (λ ws. and_then (parts_behind [] ws) whole_code) (split_words p ps h.0 h.1)
     ∙ ap (λ o. and_then o whole_code) (parts_read [] (p ∷ ps) h)
     ∙ cond_yes (leaves_one 0 (p ∷ ps)) _ _ k
 
 -- a code's text has no line feed
-pub code_clear : (ps : List Part) → AreRightParts ps → Clear is_line_feed (flat_map part_text ps)
+pub code_clear : (ps : List Part) → AreRightParts ps → Clear is_line_feed (flat_map code_part_text ps)
 code_clear [] h = tt
 code_clear (p ∷ ps) h =
-    subst (λ t. Clear is_line_feed (t ++ flat_map part_text ps)) (sym (part_is p))
-    (refl, Clear-append is_line_feed (part_word p) (flat_map part_text ps) (word_clear p h.0).1 (code_clear ps h.1))
+    subst (λ t. Clear is_line_feed (t ++ flat_map code_part_text ps)) (sym (part_is p))
+    (refl, Clear-append is_line_feed (part_word p) (flat_map code_part_text ps) (word_clear p h.0).1 (code_clear ps h.1))

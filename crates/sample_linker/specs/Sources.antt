@@ -10,7 +10,7 @@ use Rattle.sample_linker.specs.declared.faults.Linked.TheVariants as linked
 use Rattle.sample_linker.specs.declared.running.RunFault.TheVariants.{BadImage, NoMain}
 use Rattle.sample_linker.specs.declared.running.Value.{Value}
 use Rattle.sample_linker.specs.declared.running.Value.TheVariants as values
-use Rattle.sample_compiler.specs.Objects.{object_of}
+use Rattle.sample_compiler.specs.Objects.{items_text}
 use Rattle.sample_linker.specs.Orders.{LeadTo}
 use Rattle.sample_linker.specs.Links.{definitions, doubled, unresolved, IsLinked}
 use Rattle.sample_linker.specs.Values.{main_name, IsValue}
@@ -79,4 +79,4 @@ together files = flat_map (λ items. items) files
 -- whatever linking the objects of sources answers keeps the promise
 abbrev pub LinksSources : Type 0
 LinksSources = (texts : List (List ℕ)) (files : List (List Item)) (answer : Linked) → AreSources texts files
-    → IsLinked (map object_of files) answer → Promised texts (together files) answer
+    → IsLinked (map items_text files) answer → Promised texts (together files) answer

@@ -9,7 +9,7 @@ ghost use Rattle.sample_linker.specs.declared.kind.Kind.{Kind};
 ghost use Rattle.sample_linker.specs.declared.kind.Kind.TheVariants as kinds;
 ghost use Rattle.sample_linker.specs.Files.{file_items};
 ghost use Rattle.sample_linker.specs.Links.{definitions, image_of};
-ghost use Rattle.sample_compiler.specs.Objects.{object_of};
+ghost use Rattle.sample_compiler.specs.Objects.{items_text};
 ghost use Rattle.sample_linker.specs.Orders.{IsImageOrder};
 ghost use Rattle.sample_linker.specs.Right.{AreRightItems, Says};
 ghost use Rattle.sample_linker.specs.Sources.{LinksSources};
@@ -21,7 +21,7 @@ pub fn right_texts_read()
 
 /// The object of a source is right, and says the source's items.
 pub fn objects_of_sources()
-    ensures { (text : List ℕ) (items : List Item) → SourceOf text items → Says kinds.Object (object_of items) items }
+    ensures { (text : List ℕ) (items : List Item) → SourceOf text items → Says kinds.Object (items_text items) items }
 {}
 
 /// The image of the definitions of right objects, in their order, is right, and says them in that order.

@@ -5,7 +5,7 @@ ghost use Rattle.std.specs.Str.{bytes_eq};
 ghost use Rattle.sample_lang.specs.declared.program.Item.{Item};
 ghost use Rattle.sample_lang.specs.Names.{is_named};
 ghost use Rattle.sample_lang.specs.Names as names;
-ghost use Rattle.sample_compiler.specs.Objects.{object_of};
+ghost use Rattle.sample_compiler.specs.Objects.{items_text};
 ghost use Rattle.sample_linker.specs.declared.faults.Linked.TheVariants as linked;
 ghost use Rattle.sample_linker.specs.declared.kind.Kind.TheVariants as kinds;
 ghost use Rattle.sample_linker.specs.Sources.{AreSources, Promised, together};
@@ -151,7 +151,7 @@ fn make_image(alloc: Global, objects: &[Bytes]) -> Result<Bytes, LinkStop>
 /// Links objects: their definitions in one image, each behind those that it uses, or the first fault (docs/sample-linker.md).
 pub fn link(alloc: Global, objects: &Words) -> Linked
     ensures linked { IsLinked objects.now result }
-    ensures sources { (texts : List (List ℕ)) (files : List (List Item)) → AreSources texts files → objects.now ≡ map object_of files
+    ensures sources { (texts : List (List ℕ)) (files : List (List Item)) → AreSources texts files → objects.now ≡ map items_text files
         → Promised texts (together files) result }
 {
     match make_image(alloc, objects.as_slice()) {

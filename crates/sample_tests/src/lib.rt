@@ -1,8 +1,8 @@
 //! Tests of the sample language, its compiler, its linker, the compiler as a station, the program `scc`, and the generated workload.
 #![tactic(auto)]
 
-#[cfg(test)]
-mod files;
+pub mod devices;
+pub mod files;
 #[cfg(test)]
 mod link_programs;
 #[cfg(test)]

@@ -4,9 +4,9 @@ ghost use Rattle.std.specs.Prelude.{IfOk};
 ghost use Rattle.edge_memory.specs.Keepers.{keeper_state, keeper_shows};
 ghost use Rattle.edge_traits.specs.Keepers.{IsIdle};
 
+use crate::devices::{GOOD, keeper_of, sink_of};
 use crate::files::{Listed, files_of, put};
-use crate::programs::{GOOD, sink_of, strings};
-use crate::stations::keeper_of;
+use crate::programs::strings;
 use edge_memory::{MemKeeper, MemSink};
 use edge_traits::Put;
 use farm_types::Items;

@@ -1,11 +1,8 @@
 //! Rows of the program `scc`.
 
-ghost use Rattle.std.specs.Prelude.{◌≡◌, false, IfOk};
-ghost use Rattle.edge_memory.specs.Sinks.{sink_state, sink_shows};
-
-use crate::files::{Listed, numbers};
-use crate::stations::keeper_of;
-use edge_memory::{MemSink, Moves};
+use crate::devices::{GOOD, Writes, keeper_of, sink_of};
+use crate::files::Listed;
+use edge_memory::MemSink;
 use edge_traits::Put;
 use farm_types::Items;
 use sample_program::scc;
@@ -32,11 +29,6 @@ struct Row {
     err: &'static [u8],
     object: Option<&'static [u8]>,
 }
-
-// Which writes of a sink fail, and which take nothing.
-pub type Writes = (&'static [u64], &'static [u64]);
-
-pub const GOOD: Writes = (&[], &[]);
 
 const PLAIN: Row = Row {
     words: &["-c", "a.c", "-o", "a.o"],
@@ -144,18 +136,6 @@ const ROWS: &[Row] = &[
         ..PLAIN
     },
 ];
-
-pub fn sink_of(alloc: Global, writes: Writes) -> Result<MemSink, AllocError>
-    ensures { IfOk result (λ sink. (sink_shows (sink_state sink)).stopped ≡ false) }
-{
-    let (fails, zeros) = writes;
-    let moves = Moves {
-        fails: numbers(alloc, fails)?,
-        zeros: numbers(alloc, zeros)?,
-        most: 1_000,
-    };
-    Ok(MemSink::new(alloc, moves))
-}
 
 pub fn strings(alloc: Global, list: &[&str]) -> Result<Vec<String>, AllocError> {
     let mut words = Vec::new(alloc);

@@ -1,9 +1,6 @@
 //! Files that are loaded from a keeper, and runs at a station.
 
-ghost use Rattle.std.specs.Prelude.{◌≡◌, IfOk};
-ghost use Rattle.edge_traits.specs.Keepers.{IsIdle};
-ghost use Rattle.edge_memory.specs.Keepers.{keeper_state, keeper_shows};
-
+use crate::devices::keeper_of;
 use crate::files::{Listed, files_of, numbers, words_of};
 use crate::runs::{FILES, Left, compare, compile_by};
 use edge_memory::MemKeeper;
@@ -13,14 +10,6 @@ use file_map::FileMap;
 use sample_compiler::{LoadFault, SampleStation, load};
 use std::alloc::{AllocError, Global};
 use std::test::Fail;
-
-/// A keeper of these files, whose calls with these numbers fail.
-pub fn keeper_of(alloc: Global, list: Listed, fails: &[u64]) -> Result<MemKeeper, AllocError>
-    ensures { IfOk result (λ keeper. IsIdle (keeper_shows (keeper_state keeper))) }
-{
-    let files = files_of(alloc, list)?;
-    Ok(MemKeeper::new(files, numbers(alloc, fails)?))
-}
 
 // The files that these words look up.
 fn load_by(

@@ -1,11 +1,12 @@
 //! Calls of three callers in a given order, by one thread and by three.
-ghost use Rattle.std.specs.Prelude.{◌≡◌, [], IfSome, All};
+ghost use Rattle.std.specs.Prelude.{◌≡◌, []};
 ghost use Rattle.slot_table.specs.History.{outstanding};
-ghost use Rattle.farm_cell.specs.Passes.{callers_of, seen_of, mine_of};
-ghost use Rattle.farm_cell.specs.Ends.{IsNumbered, AreAllOf};
+ghost use Rattle.farm_cell.specs.Passes.{callers_of, mine_of};
+ghost use Rattle.farm_cell.specs.Ends.{IsNumbered};
 
+use crate::callers::apart;
 use crate::cell_calls::{draw, give, limits_of, take, take_in_vain};
-use farm_cell::{Cell, Pass, Passes};
+use farm_cell::{Cell, Pass};
 use slot_table::SlotState;
 use std::alloc::{AllocError, Global};
 use std::process::Abort;
@@ -13,22 +14,6 @@ use std::sync::Wait;
 use std::sync::atomic::{AtomicU64, Ordering};
 use std::test::Fail;
 use std::thread;
-
-/// The passes of three callers.
-fn apart(cell: &Cell<16, 34>, passes: Passes) -> Option<(Pass, Pass, Pass)>
-    requires passes { AreAllOf cell.now passes.items }
-    requires blank { All (λ p. (seen_of p ≡ []) × (mine_of p ≡ [])) passes.items }
-    requires three { callers_of cell.now ≡ 3 }
-    ensures first { IfSome result (λ p. IsNumbered cell.now 0 p.0 × (mine_of p.0 ≡ [])) }
-    ensures second { IfSome result (λ p. IsNumbered cell.now 1 p.1 × (mine_of p.1 ≡ [])) }
-    ensures third { IfSome result (λ p. IsNumbered cell.now 2 p.2 × (mine_of p.2 ≡ [])) }
-{
-    let mut rest = passes.into_iter();
-    let first = rest.next()?;
-    let second = rest.next()?;
-    let third = rest.next()?;
-    Some((first, second, third))
-}
 
 /// Closes a cell of three callers.
 fn close<R: Wait>(

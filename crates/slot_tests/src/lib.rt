@@ -1,6 +1,7 @@
 //! Tests of the slots of hosts, alone and shared among threads, and of the check of a run.
 #![tactic(auto)]
 
+pub mod callers;
 #[cfg(test)]
 mod cell_calls;
 #[cfg(test)]

@@ -11,7 +11,7 @@ use Rattle.stream_print.specs.declared.one.PrintStop.{PrintStop}
 use Rattle.stream_print.specs.declared.pieces.SinkKind.{SinkKind}
 use Rattle.stream_print.specs.declared.pieces.SinkKind.TheVariants.{Out, Err as ErrSink}
 use Rattle.stream_print.specs.declared.pieces.Piece.{Piece}
-use Rattle.stream_print.specs.Prints.{SinksView, Printed, PrintedPart, IsPart, Later, GoesOn, BothGoOn, DidStop, DidStopOn, OtherGoesOn, out_bytes, err_bytes, for_out, for_err, cut}
+use Rattle.stream_print.specs.Prints.{SinksView, Printed, PrintedPart, IsCutPiece, Later, GoesOn, BothGoOn, DidStop, DidStopOn, OtherGoesOn, out_bytes, err_bytes, for_out, for_err, cut}
 
 pub out_bytes-append : (a b : List Piece) → out_bytes a ++ out_bytes b ≡ out_bytes (a ++ b)
 out_bytes-append [] b = refl
@@ -47,11 +47,11 @@ Printed-err {old = old} {new = new} {bytes = bytes} grew same = record {
 }
 
 -- a part of one text
-pub part_of_one : (piece : Piece) (n : ℕ) → n < length piece.bytes → IsPart (piece ∷ []) (cut n piece ∷ []) piece
+pub part_of_one : (piece : Piece) (n : ℕ) → n < length piece.bytes → IsCutPiece (piece ∷ []) (cut n piece ∷ []) piece
 part_of_one piece n within = record { first = []; rest = []; count = n; are = refl; within = within; cut_short = refl }
 
 -- a part of what comes after
-pub IsPart-after : {pieces done : List Piece} {next : Piece} (before after : List Piece) → IsPart pieces done next → IsPart (before ++ (pieces ++ after)) (before ++ done) next
+pub IsPart-after : {pieces done : List Piece} {next : Piece} (before after : List Piece) → IsCutPiece pieces done next → IsCutPiece (before ++ (pieces ++ after)) (before ++ done) next
 IsPart-after {pieces = pieces} {done = done} {next = next} before after part = record {
   first = before ++ part.first;
   rest = part.rest ++ after;
@@ -99,7 +99,7 @@ pub PrintedPart-after : {stop : PrintStop} {pieces : List Piece} {a b c : SinksV
 PrintedPart-after {a = a} {b = b} {c = c} before after all are printed goes part = record {
   done = before ++ part.done;
   next = part.next;
-  part = subst (λ ps. IsPart ps (before ++ part.done) part.next) are (IsPart-after before after part.part);
+  part = subst (λ ps. IsCutPiece ps (before ++ part.done) part.next) are (IsPart-after before after part.part);
   printed = Printed-join printed part.printed;
   stopped = λ stop. DidStopOn-after part.next.sink a b c (goes-later goes) (part.stopped stop);
   other = λ stop. OtherGoesOn-after part.next.sink a b c goes (part.other stop);

@@ -71,7 +71,7 @@ abbrev pub cut : ℕ → Piece → Piece
 cut count piece = record { sink = piece.sink; bytes = take count piece.bytes }
 
 -- Some first pieces whole, and a prefix of the next one, not all of it.
-pub record IsPart (pieces done : List Piece) (next : Piece) : Type 0 where
+pub record IsCutPiece (pieces done : List Piece) (next : Piece) : Type 0 where
   pub first : List Piece
   pub rest : List Piece
   pub count : ℕ
@@ -83,7 +83,7 @@ pub record IsPart (pieces done : List Piece) (next : Piece) : Type 0 where
 pub record PrintedPart (pieces : List Piece) (stop : PrintStop) (old new : SinksView) : Type 0 where
   pub done : List Piece
   pub next : Piece
-  pub part : IsPart pieces done next
+  pub part : IsCutPiece pieces done next
   pub printed : Printed old new done
   pub stopped : stop ≡ Stopped → DidStopOn next.sink old new
   pub other : stop ≡ Stopped → OtherGoesOn next.sink old new

@@ -3,5 +3,6 @@
 
 #[cfg(test)]
 mod files;
+pub mod filled;
 #[cfg(test)]
 mod values;

@@ -1,3 +1,4 @@
+use crate::filled::repeated;
 use farm_types::limits::{MESSAGES_MAX, WORD_MAX, WORDS_BYTES_MAX, WORDS_MAX};
 use farm_types::{
     Bytes, Ext, Host, HostName, Items, Outcome, PlacedWords, Ran, Request, Room, Trail, Word,
@@ -22,14 +23,6 @@ fn exit_codes(rt: HostRuntime) {
     for (status, code) in EXIT_CODES {
         assert_eq!(rt; exit_code(*status), *code, "status {status}");
     }
-}
-
-fn repeated(alloc: Global, len: usize) -> Result<Bytes, Fail> {
-    let mut bytes = Bytes::new(alloc);
-    for _ in 0..len {
-        bytes.try_push(b'w')?;
-    }
-    Ok(bytes)
 }
 
 fn request(alloc: Global, count: usize, len: usize) -> Result<Request, Fail> {

@@ -7,8 +7,8 @@ use Rattle.std.proofs.lemmas.List.{append-nil}
 use Rattle.std.proofs.lemmas.List.Concat.{flat_map-cons}
 use Rattle.std.proofs.lemmas.List.Elements.{All-append, All-from_recursion, All-weaker, All-head, All-tail}
 use Rattle.file_map.specs.FileMaps.{Files}
-use Rattle.sample_compiler.specs.Lines.{line_feed, with_byte, lines_of}
-use Rattle.sample_compiler.specs.Words.{begins, begins_name, is_name_byte, join, pieces, piece_text, replaced}
+use Rattle.sample_compiler.specs.Lines.{line_feed, with_byte, source_lines}
+use Rattle.sample_compiler.specs.Words.{begins, begins_name, is_name_byte, join, word_pieces, piece_text, replaced}
 use Rattle.sample_compiler.specs.Expanding.{include, expand_lines, expanded}
 use Rattle.workload.specs.Loads.{source_text}
 use Rattle.workload.proofs.Names.{IsDigit, digits, other_byte}
@@ -39,20 +39,20 @@ pub unreplaced : (line : List ℕ) → replaced [] line ≡ line
 unreplaced [] = refl
 unreplaced (c ∷ cs) = by_test (is_name_byte c) (unreplaced cs)
   where
-    by_test : (test : Bool) → texts (pieces cs) ≡ cs → texts (if test then join c (pieces cs) else (c ∷ []) ∷ pieces cs) ≡ c ∷ cs
-    by_test true later = joined c (pieces cs) ∙ ap (λ t. c ∷ t) later
-    by_test false later = flat_map-cons (piece_text []) (c ∷ []) (pieces cs) ∙ ap (λ t. t ++ texts (pieces cs)) (piece_itself (c ∷ [])) ∙ ap (λ t. c ∷ t) later
+    by_test : (test : Bool) → texts (word_pieces cs) ≡ cs → texts (if test then join c (word_pieces cs) else (c ∷ []) ∷ word_pieces cs) ≡ c ∷ cs
+    by_test true later = joined c (word_pieces cs) ∙ ap (λ t. c ∷ t) later
+    by_test false later = flat_map-cons (piece_text []) (c ∷ []) (word_pieces cs) ∙ ap (λ t. t ++ texts (word_pieces cs)) (piece_itself (c ∷ [])) ∙ ap (λ t. c ∷ t) later
 
 -- ---- a text of one line
 
 abbrev IsOnLine : ℕ → Type 0
 IsOnLine c = (c == line_feed) ≡ false
 
-one_line : (line : List ℕ) → All IsOnLine line → lines_of (line ++ codes ";\n") ≡ (line ++ codes ";") ∷ []
+one_line : (line : List ℕ) → All IsOnLine line → source_lines (line ++ codes ";\n") ≡ (line ++ codes ";") ∷ []
 one_line [] all = refl
 one_line (c ∷ cs) all =
-    let later : lines_of (cs ++ codes ";\n") ≡ (cs ++ codes ";") ∷ [] = one_line cs (All-tail IsOnLine c cs all) in
-    ap (λ (t : Bool). if t then [] ∷ lines_of (cs ++ codes ";\n") else with_byte c (lines_of (cs ++ codes ";\n"))) (All-head IsOnLine c cs all)
+    let later : source_lines (cs ++ codes ";\n") ≡ (cs ++ codes ";") ∷ [] = one_line cs (All-tail IsOnLine c cs all) in
+    ap (λ (t : Bool). if t then [] ∷ source_lines (cs ++ codes ";\n") else with_byte c (source_lines (cs ++ codes ";\n"))) (All-head IsOnLine c cs all)
     ∙ ap (with_byte c) later
 
 -- the line begins with a byte other than `#`

@@ -19,7 +19,7 @@ use Rattle.arg_scan.specs.declared.why.Why.TheVariants as why
 use Rattle.arg_scan.specs.Names.{last_name, is_conftest, is_reserved, has_ending, ending_of, endings}
 use Rattle.arg_scan.specs.Roles.{role_of, source_role}
 use Rattle.arg_scan.specs.Forces.{when, output_reasons}
-use Rattle.sample_compiler.specs.Samples.{is_preprocessed}
+use Rattle.sample_compiler.specs.Samples.{is_preprocessed_name}
 use Rattle.workload.proofs.Plain.{ArePlain}
 
 abbrev pub IsDigit : ℕ → Type 0
@@ -116,10 +116,10 @@ pub are_plain : (job : ℕ) → job < 2 ^ 64 → ArePlain (named job (codes ".c"
 are_plain job small = record { source = source_role_is job small; conftest = no_conftest job small; output = plain_output job }
 
 -- the source isn't preprocessed
-pub unready : (job : ℕ) → is_preprocessed (named job (codes ".c")) ≡ false
+pub unready : (job : ℕ) → is_preprocessed_name (named job (codes ".c")) ≡ false
 unready job =
     let front = (codes "j" ++ decimal job) ++ codes "." in
     let name : named job (codes ".c") ≡ front ++ codes "c" = sym (append_assoc (codes "j" ++ decimal job) (codes ".") (codes "c")) in
-    ap (λ n. is_preprocessed n) name
+    ap (λ n. is_preprocessed_name n) name
     ∙ ap (λ (t : Bool). t || ends_with nat_eq (front ++ codes "c") (codes ".ii")) (other_end front 99 (codes ".") 105 (λ same. absurd (omega (arith, same))))
     ∙ other_end front 99 (codes ".i") 105 (λ same. absurd (omega (arith, same)))

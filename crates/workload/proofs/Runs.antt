@@ -17,7 +17,7 @@ use Rattle.sample_compiler.specs.declared.task.Task.{Task}
 use Rattle.sample_compiler.specs.Tasks.{task_of}
 use Rattle.sample_compiler.specs.Samples.{CompilesTo, LeftBy, LeavesAsked, SampleOf, task_text, content_text, expanded_text, text_of, printed, is_ready}
 use Rattle.sample_compiler.specs.Stations.{own_input, own_output, with_input, asked_by, as_left, without_object, StationRan}
-use Rattle.workload.specs.Loads.{source_name, object_name, factor_of, state_after, job_words, files_of}
+use Rattle.workload.specs.Loads.{job_source, job_object, factor_of, generator_after, job_words, files_of}
 use Rattle.workload.specs.Laws.{text_of_job, IsSent}
 use Rattle.workload.proofs.Plain.{plain, remote, raw_source, sent, placed, preprocessing}
 use Rattle.workload.proofs.Names.{are_plain, unreserved, unready}
@@ -26,7 +26,7 @@ use Rattle.workload.proofs.Tasks.{name_reading, own_reading, task_for, compile_t
 
 -- each job has its own source among the files
 abbrev pub OneFileLaw : Type 0
-OneFileLaw = (n job : ℕ) → n ≤ 512 → 1 ≤ job → job ≤ n → get (files_of n) (source_name job) ≡ Some (text_of_job n job)
+OneFileLaw = (n job : ℕ) → n ≤ 512 → 1 ≤ job → job ≤ n → get (files_of n) (job_source job) ≡ Some (text_of_job n job)
 
 -- ---- the files at a station
 
@@ -46,22 +46,22 @@ small_job : (n job : ℕ) → n ≤ 512 → job ≤ n → job < 2 ^ 64
 small_job n job most within = omega (arith, most, within)
 
 -- the text that is compiled or printed where the files have a job's source
-text_is : (files : Files) (made : Product) (n job : ℕ) → job < 2 ^ 64 → get files (source_name job) ≡ Some (text_of_job n job) → is_ready made (source_name job) ≡ false
-    → task_text files (task_for made (source_name job)) ≡ Ok (text_of_job n job)
+text_is : (files : Files) (made : Product) (n job : ℕ) → job < 2 ^ 64 → get files (job_source job) ≡ Some (text_of_job n job) → is_ready made (job_source job) ≡ false
+    → task_text files (task_for made (job_source job)) ≡ Ok (text_of_job n job)
 text_is files made n job small there raw =
-    let task = task_for made (source_name job) in
+    let task = task_for made (job_source job) in
     let text = text_of_job n job in
     ap (content_text files task) there
     ∙ ap (λ (test : Bool). if test then Ok text else expanded_text files task text) raw
-    ∙ ap text_of (source_expands files [] job (factor_of (state_after n job)) small (small_factor (state_after n job)))
+    ∙ ap text_of (source_expands files [] job (factor_of (generator_after n job)) small (small_factor (generator_after n job)))
 
 -- ---- what the compiler leaves by the job's own words
 
 own_words : OneFileLaw → (n job : ℕ) (ran : Ran) → n ≤ 512 → 1 ≤ job → job ≤ n → CompilesTo (text_of_job n job) ran → SampleOf (files_of n) (job_words job) ran
 own_words one_file n job ran most some within compiles =
     let files = files_of n in
-    let s = source_name job in
-    let o = object_name job in
+    let s = job_source job in
+    let o = job_object job in
     let small = small_job n job most within in
     let there = one_file n job most some within in
     let task : task_of (plain s o) ≡ Some (task_for (product.Object o) s) = compile_task s o (name_reading (decimal job ++ codes ".c")) (unreserved job) in
@@ -90,7 +90,7 @@ compiled_there files text ran r =
 placed_is : (job : ℕ) → job < 2 ^ 64 → placed_words (stripped (job_words job)) ≡ placed_list
 placed_is job small =
     let is = are_plain job small in
-    ap placed_words (sent (source_name job) (object_name job) is) ∙ placed (source_name job) (object_name job) is
+    ap placed_words (sent (job_source job) (job_object job) is) ∙ placed (job_source job) (job_object job) is
 
 pub compiled : OneFileLaw → (n job : ℕ) (ran : Ran) → n ≤ 512 → 1 ≤ job → job ≤ n
     → StationRan (files_of n) (placed_words (stripped (job_words job))) (text_of_job n job) ran → SampleOf (files_of n) (job_words job) ran
@@ -100,17 +100,17 @@ compiled one_file n job ran most some within r =
 
 -- ---- the preprocessor's run at a station
 
-expand_asked : (job : ℕ) → asked_by (map Text (codes "scc" ∷ codes "-E" ∷ source_name job ∷ [])) ≡ Some (task_for product.Text (source_name job))
-expand_asked job = expand_task (source_name job) (name_reading (decimal job ++ codes ".c"))
+expand_asked : (job : ℕ) → asked_by (map Text (codes "scc" ∷ codes "-E" ∷ job_source job ∷ [])) ≡ Some (task_for product.Text (job_source job))
+expand_asked job = expand_task (job_source job) (name_reading (decimal job ++ codes ".c"))
 
 pub preprocessed : OneFileLaw → (n job : ℕ) (ran : Ran) → n ≤ 512 → 1 ≤ job → job ≤ n
     → StationRan (files_of n) (map Text (preprocessing_words (job_words job))) [] ran → ran ≡ printed (text_of_job n job)
 preprocessed one_file n job ran most some within r =
     let small = small_job n job most within in
-    let s = source_name job in
+    let s = job_source job in
     let text = text_of_job n job in
     let files = with_input (files_of n) [] in
-    let words = ap (map Text) (preprocessing s (object_name job) (are_plain job small)) in
+    let words = ap (map Text) (preprocessing s (job_object job) (are_plain job small)) in
     let run : StationRan (files_of n) (map Text (codes "scc" ∷ codes "-E" ∷ s ∷ [])) [] ran = subst (λ list. StationRan (files_of n) list [] ran) words r in
     let there : get files s ≡ Some text = others_there (files_of n) [] (decimal job ++ codes ".c") ∙ one_file n job most some within in
     let leaves : LeftBy product.Text (task_text files (task_for product.Text s)) run.whole = subst (λ asked. LeavesAsked files asked run.whole) (expand_asked job) run.leaves in
@@ -122,4 +122,4 @@ preprocessed one_file n job ran most some within r =
 pub sent_out : (job : ℕ) → job < 2 ^ 64 → IsSent job
 sent_out job small =
     let is = are_plain job small in
-    record { remote = remote (source_name job) (object_name job) is; raw = raw_source (source_name job) (object_name job) is }
+    record { remote = remote (job_source job) (job_object job) is; raw = raw_source (job_source job) (job_object job) is }

@@ -7,11 +7,11 @@ use Rattle.arg_scan.specs.Class.{IsRemote, plan_of}
 use Rattle.arg_strip.specs.Words.{stripped, placed_words, preprocessing_words}
 use Rattle.sample_compiler.specs.Samples.{SampleOf, printed}
 use Rattle.sample_compiler.specs.Stations.{StationRan}
-use Rattle.workload.specs.Loads.{source_text, factor_of, state_after, job_words, files_of}
+use Rattle.workload.specs.Loads.{source_text, factor_of, generator_after, job_words, files_of}
 
 -- the source of a job, where the generator began with n
 abbrev pub text_of_job : ℕ → ℕ → List ℕ
-text_of_job n job = source_text job (factor_of (state_after n job))
+text_of_job n job = source_text job (factor_of (generator_after n job))
 
 -- the command of a job may be sent, and its source is to be preprocessed
 pub record IsSent (job : ℕ) : Type 0 where

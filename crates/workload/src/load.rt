@@ -4,7 +4,7 @@ ghost use Rattle.std.specs.Prelude.{◌≡◌, ◌≤◌, IfOk};
 ghost use Rattle.workload.specs.Loads.{jobs_of, files_of};
 
 use crate::generator::Generator;
-use crate::texts::{job_words, source_name, source_text};
+use crate::texts::{job_source, job_words, source_text};
 use farm_types::Jobs;
 use sample_lang::FileMap;
 use std::alloc::{AllocError, Global};
@@ -33,7 +33,7 @@ pub fn make(alloc: Global, n: u32) -> Result<Load, AllocError>
         let job = before + 1;
         let factor = generator.next_factor();
         jobs.try_push(job_words(alloc, job)?)?;
-        files.try_put(source_name(alloc, job)?, source_text(alloc, job, factor)?)?;
+        files.try_put(job_source(alloc, job)?, source_text(alloc, job, factor)?)?;
     }
     Ok(Load { jobs, files })
 }

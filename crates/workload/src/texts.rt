@@ -2,7 +2,7 @@
 
 ghost use Rattle.std.specs.Prelude.{◌≡◌, ◌++◌, codes, IfOk, OnOk};
 ghost use Rattle.std.specs.Fmt.{decimal};
-ghost use Rattle.workload.specs.Loads.{source_name, object_name, source_text, job_words};
+ghost use Rattle.workload.specs.Loads.{job_source, job_object, source_text, job_words};
 
 use farm_types::{Bytes, Words};
 use std::alloc::{AllocError, Global};
@@ -25,8 +25,8 @@ fn stem(alloc: Global, job: u32) -> Result<Bytes, AllocError>
 }
 
 /// The path of a job's source.
-pub(crate) fn source_name(alloc: Global, job: u32) -> Result<Bytes, AllocError>
-    ensures { IfOk result (λ made. made ≡ source_name job) }
+pub(crate) fn job_source(alloc: Global, job: u32) -> Result<Bytes, AllocError>
+    ensures { IfOk result (λ made. made ≡ job_source job) }
 {
     let mut name = stem(alloc, job)?;
     name.try_extend(b".c")?;
@@ -34,8 +34,8 @@ pub(crate) fn source_name(alloc: Global, job: u32) -> Result<Bytes, AllocError>
 }
 
 /// The path of a job's object.
-pub(crate) fn object_name(alloc: Global, job: u32) -> Result<Bytes, AllocError>
-    ensures { IfOk result (λ made. made ≡ object_name job) }
+pub(crate) fn job_object(alloc: Global, job: u32) -> Result<Bytes, AllocError>
+    ensures { IfOk result (λ made. made ≡ job_object job) }
 {
     let mut name = stem(alloc, job)?;
     name.try_extend(b".o")?;
@@ -63,8 +63,8 @@ pub(crate) fn job_words(alloc: Global, job: u32) -> Result<Words, AllocError>
     let mut words = Words::new(alloc);
     words.try_push(Bytes::from_slice(alloc, b"scc")?)?;
     words.try_push(Bytes::from_slice(alloc, b"-c")?)?;
-    words.try_push(source_name(alloc, job)?)?;
+    words.try_push(job_source(alloc, job)?)?;
     words.try_push(Bytes::from_slice(alloc, b"-o")?)?;
-    words.try_push(object_name(alloc, job)?)?;
+    words.try_push(job_object(alloc, job)?)?;
     Ok(words)
 }

@@ -1,18 +1,14 @@
-use Rattle.std.proofs.Common.{◌≡◌, [], ◌++◌, ◌∙◌, ap, codes}
+use Rattle.std.proofs.Common.{◌≡◌, ℕ, List, ◌++◌, ◌∙◌, ap, codes, string_bytes}
+use Rattle.std.proofs.lemmas.Result.{IfOk-weaker}
 use Rattle.std.specs.Fmt.{decimal}
-use Rattle.stream_print.specs.Printing.{complaint}
-use Rattle.stream_print.proofs.EndLemmas.{want_first}
 use Rattle.farm_answers.specs.Texts.{host_fault_text}
-use Rattle.farm_answers.proofs.Telling.{complaint_by, regroup}
+use Rattle.farm_answers.proofs.Telling.{regroup}
 use Rattle.farm_answers.proofs.refuse.refuse_host_list.Goals as goal
 
-pub returns-in-Ok : goal.returns-in-Ok
-returns-in-Ok g c =
-    let text : c.as_bytes.result.now ≡ host_fault_text c.args.at c.args.fault =
-    c.as_bytes.ensures.value ∙ c.in-Ok.ensures.ok
+pub returns : goal.returns
+returns g c =
+    let told : List ℕ = host_fault_text c.args.at c.args.fault in
+    c.refuse_by.ensures told
+    (IfOk-weaker _ _ (λ made. string_bytes made ≡ told) (λ made ok. ok
     ∙ regroup (codes "farm: host list: fault ") (decimal c.number-fault.result) (codes " at byte ") (decimal c.args.at) (codes "\n")
-    ∙ ap (λ n. codes "farm: host list: fault " ++ decimal n ++ codes " at byte " ++ decimal c.args.at ++ codes "\n") c.number-fault.ensures in
-    complaint_by text c.complain.ensures
-
-pub returns-in-Err : goal.returns-in-Err
-returns-in-Err g c = want_first (complaint (host_fault_text c.args.at c.args.fault)) [] 106 _ _ _ c.want_memory.ensures
+    ∙ ap (λ n. codes "farm: host list: fault " ++ decimal n ++ codes " at byte " ++ decimal c.args.at ++ codes "\n") c.number-fault.ensures) c.format-text.ensures.ok)

@@ -3,7 +3,7 @@ use Rattle.std.specs.Prelude.{string_bytes}
 use Rattle.farm_types.specs.declared.hosts.Hosts.{Hosts}
 use Rattle.farm_machine.specs.Devices.{devices}
 use Rattle.farm_words.specs.Environment.{host_text_of}
-use Rattle.farm_words.specs.Options.{given, line_count, worker_count}
+use Rattle.farm_words.specs.Options.{given_in, line_count, worker_count}
 use Rattle.farm_program.specs.Worlds.{world}
 use Rattle.farm_program.specs.Commands.{Does, OnHosts}
 use Rattle.farm_program.specs.Builds.{Builds}
@@ -36,7 +36,7 @@ returns-in-List g c =
     in
     let new = world g.R.Source.shows g.O.Sink.shows g.E.Sink.shows ran.new.input ran.new.kits.items ran.new.out ran.new.err
     ran.result.built in
-    let options = given c.args.call.options in
+    let options = given_in c.args.call.options in
     rw c.in-List.is (configured {options = options} (λ config. Builds d config (worker_count options) old new ran.result.status)
     c.in-Ok.ensures.made
     (subst (λ (most : ℕ). Builds d c.in-Ok.config most old new ran.result.status) c.worker_count.ensures ran.ensures))
@@ -49,7 +49,7 @@ returns-in-Graph g c =
     in
     let new = world g.R.Source.shows g.O.Sink.shows g.E.Sink.shows ran.new.input ran.new.kits.items ran.new.out ran.new.err
     ran.result.built in
-    let options = given c.args.call.options in
+    let options = given_in c.args.call.options in
     rw c.in-Graph.is (configured {options = options} (λ config. BuildsGraph d config (worker_count options) old new ran.result.status)
     c.in-Ok.ensures.made
     (subst (λ (most : ℕ). BuildsGraph d c.in-Ok.config most old new ran.result.status) c.worker_count.ensures ran.ensures))
@@ -62,7 +62,7 @@ returns g c =
     in
     let new = world g.R.Source.shows g.O.Sink.shows g.E.Sink.shows ran.new.input ran.new.kits.items ran.new.out ran.new.err
     ran.result.built in
-    let options = given c.args.call.options in
+    let options = given_in c.args.call.options in
     rw c.in-Watched.is (configured {options = options}
     (λ config. Watches d config (worker_count options) (line_count options) old new ran.result.status) c.in-Ok.ensures.made
     (subst (λ (lines : ℕ). Watches d c.in-Ok.config (worker_count options) lines old new ran.result.status) c.line_count.ensures
@@ -77,7 +77,7 @@ returns-in-Err g c =
     let told = c.refuse_config in
     let new = world g.R.Source.shows g.O.Sink.shows g.E.Sink.shows c.args.input.now c.args.kits.now.items told.new.out told.new.err
     told.result.built in
-    let options = given c.args.call.options in
+    let options = given_in c.args.call.options in
     let variables = map (λ v. (string_bytes v.0, string_bytes v.1)) c.args.call.env.now in
     let refused : (Rest : Hosts → ℕ → Type 0)
     → OnHosts (host_text_of options.hosts variables) variables Rest old new told.result.status =

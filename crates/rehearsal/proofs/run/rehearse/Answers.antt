@@ -1,6 +1,6 @@
 use Rattle.std.proofs.Common.{◌≡◌, length, ap, ◌∙◌, sym, subst, arith}
 use Rattle.farm_machine.specs.Usable.{AreDoable}
-use Rattle.rehearsal.specs.Rehearsals.{worker_count}
+use Rattle.rehearsal.specs.Rehearsals.{rehearsal_workers}
 use Rattle.rehearsal.proofs.Rehearsing.{job_number, doable, rehearsed}
 use Rattle.rehearsal.proofs.run.rehearse.Goals as goal
 
@@ -15,7 +15,7 @@ count_reports-count-requires g c =
 
 pub returns : goal.returns
 returns g c =
-    let number : c.min-workers.result ≡ worker_count c.args.n = let min = c.min-workers.ensures in omega (arith, min) in
+    let number : c.min-workers.result ≡ rehearsal_workers c.args.n = let min = c.min-workers.ensures in omega (arith, min) in
     rehearsed (record { sent = c.runs_of_jobs.ensures.sent; preprocessed = c.runs_of_jobs.ensures.preprocessed; compiled = c.runs_of_jobs.ensures.compiled }) c.put_law.ensures
     c.args.n c.requires.some c.requires.most c.in_ok-built.built c.in_ok-jobs.field-0.jobs c.in_ok-config.config c.min-workers.result
     c.in_ok-kits.kits.items c.build.new.kits.items c.as_slice.result.now c.as_slice-2.result.now c.count_reports-count.result

@@ -2,7 +2,7 @@ use Rattle.std.proofs.Common.{◌≡◌, ℕ, ◌+◌, ◌-◌, ◌<◌, List, �
 use Rattle.std.specs.Option.{option_copied}
 use Rattle.std.proofs.lemmas.Bool.Decides.{nat_tests}
 use Rattle.std.proofs.lemmas.Result.{err_from_is_err_and}
-use Rattle.sample_compiler.specs.Lines.{lines_of}
+use Rattle.sample_compiler.specs.Lines.{source_lines}
 use Rattle.sample_compiler.specs.Expanding.{include, expand_line, expand_lines, from_file, find_file}
 use Rattle.sample_compiler.specs.Came.{Came}
 use Rattle.sample_compiler.specs.Lookups.{Stopped}
@@ -18,7 +18,8 @@ expand-returns-in_err-take_line-clause-came t c files a =
     let rest : List ℕ = c.reading.rest.now in
     let len : ℕ = c.line_len-len.result in
     let some : 0 < length rest = grind (arith, nat_tests) in
-    let cut : lines_of rest ≡ take len rest ∷ lines_of (drop (len + 1) rest) = rw c.line_len-len.ensures.reach (first_line rest some) in
+    let cut : source_lines rest ≡ take len rest ∷ source_lines (drop (len + 1) rest) =
+    rw c.line_len-len.ensures.reach (first_line rest some) in
     rw (p.1, p.2) (behind_stop c.args.sources.whole (include files c.args.sources.dirs.now c.args.room) c.args.text.now c.args.made.now.text c.args.made.now.defines c.reading.line rest (take len rest) (drop (len + 1) rest) c.reading.made c.in_err-take_line.field-0.0 (c.reading.invariant.behind files a) cut (c.in_err-take_line.ensures.came files a))
 
 pub expand-reading-preserved : goal.expand-reading-preserved
@@ -26,7 +27,8 @@ expand-reading-preserved t c =
     let rest : List ℕ = c.reading.rest.now in
     let len : ℕ = c.line_len-len.result in
     let some : 0 < length rest = grind (arith, nat_tests) in
-    let cut : lines_of rest ≡ take len rest ∷ lines_of (drop (len + 1) rest) = rw c.line_len-len.ensures.reach (first_line rest some) in
+    let cut : source_lines rest ≡ take len rest ∷ source_lines (drop (len + 1) rest) =
+    rw c.line_len-len.ensures.reach (first_line rest some) in
     let short = length-drop (len + 1) rest in
     record {
       behind = λ files a. let took = c.in_ok-take_line.ensures.came files a in rw c.behind_line-rest.ensures (behind_more (include files c.args.sources.dirs.now c.args.room) c.args.text.now c.args.made.now.text c.args.made.now.defines c.reading.line rest (take len rest) (drop (len + 1) rest) c.reading.made c.take_line.new.made (c.reading.invariant.behind files a) cut took.0 took.1 took.2);
@@ -45,10 +47,10 @@ include-returns-in-Some-clause-came t c files a =
     let room : ℕ = c.args.room in
     let found : find_file files dirs c.args.name.now ≡ Some c.in-Some.content.now = sym (c.in_ok-content.ensures.found files a) ∙ ap option_copied c.in-Some.is in
     let some : 0 < room = omega arith in
-    let same : include files dirs room c.args.line c.args.made.now.defines c.args.name.now ≡ expand_lines (include files dirs (room - 1)) 1 c.args.made.now.defines (lines_of c.as_slice.result.now) =
+    let same : include files dirs room c.args.line c.args.made.now.defines c.args.name.now ≡ expand_lines (include files dirs (room - 1)) 1 c.args.made.now.defines (source_lines c.as_slice.result.now) =
     include_file files dirs room c.args.line c.args.made.now.defines c.args.name.now some
     ∙ ap (from_file (expand_lines (include files dirs (room - 1)) 1) c.args.line c.args.made.now.defines c.args.name.now) found
-    ∙ ap (λ b. expand_lines (include files dirs (room - 1)) 1 c.args.made.now.defines (lines_of b)) (sym c.as_slice.ensures) in
+    ∙ ap (λ b. expand_lines (include files dirs (room - 1)) 1 c.args.made.now.defines (source_lines b)) (sym c.as_slice.ensures) in
     subst (λ o. Came c.args.sources.whole o c.args.made.now.text c.expand.new.made c.expand.result) (sym same) (c.expand.ensures.came files a)
 
 pub include-returns-in_ok-name-in-None-clause-came : goal.include-returns-in_ok-name-in-None-clause-came
@@ -71,7 +73,8 @@ expand-returns-in_err-take_line-clause-looked t c files a part =
     let includes = include files c.args.sources.dirs.now c.args.room in
     let seeks = by_include files c.args.sources.dirs.now c.args.room in
     let some : 0 < length rest = grind (arith, nat_tests) in
-    let cut : lines_of rest ≡ take len rest ∷ lines_of (drop (len + 1) rest) = rw c.line_len-len.ensures.reach (first_line rest some) in
+    let cut : source_lines rest ≡ take len rest ∷ source_lines (drop (len + 1) rest) =
+    rw c.line_len-len.ensures.reach (first_line rest some) in
     let came = subst (λ w. Stopped w (expand_line includes c.reading.line c.reading.made.defines (take len rest)) c.in_err-take_line.field-0.0) part (c.in_err-take_line.ensures.came files a) in
     let walked = walk_stop known absent includes seeks c.reading.line c.reading.made.defines rest (take len rest) (drop (len + 1) rest) c.in_err-take_line.field-0.0 cut came (c.in_err-take_line.ensures.looked files a part) in
     rw (p.1, p.2) (subst (λ next. StoppedAt next c.in_err-take_line.field-0.0) (sym (c.reading.invariant.looked files a part)) walked)

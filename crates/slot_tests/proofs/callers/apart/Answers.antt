@@ -3,7 +3,7 @@ use Rattle.std.specs.Vec.Iter.{into_iter_items}
 use Rattle.farm_cell.specs.declared.cell.Pass.{Pass}
 use Rattle.farm_cell.specs.Passes.{mine_of}
 use Rattle.farm_cell.specs.Ends.{IsNumbered}
-use Rattle.slot_tests.proofs.cell_orders.apart.Goals as goal
+use Rattle.slot_tests.proofs.callers.apart.Goals as goal
 
 items : (c : goal.After-drop-rest-2) → c.args.passes.items ≡ c.in_ok-first.first ∷ (c.in_ok-second.second ∷ (c.in_ok-third.third ∷ into_iter_items c.next-3.new.self))
 items c =

@@ -1,0 +1,23 @@
+//! Slots, as the tests begin with them.
+ghost use Rattle.std.specs.Prelude.{◌≡◌, ◌≤◌, [], length, IfOk};
+ghost use Rattle.farm_machine.specs.Jobs.{AreLimitsOf};
+
+use farm_machine::limits_of;
+use farm_types::Hosts;
+use slot_table::OneThread;
+use std::alloc::Global;
+use std::test::Fail;
+
+/// The slots of one thread for these entries, with room for two jobs.
+pub fn slots_of(alloc: Global, hosts: &Hosts) -> Result<OneThread<16>, Fail>
+    requires { length hosts.now.list ≤ 16 }
+    ensures limits { IfOk result (λ slots. AreLimitsOf slots.limits hosts.now) }
+    ensures mine { IfOk result (λ slots. slots.mine ≡ []) }
+    ensures spare { IfOk result (λ slots. 128 ≤ slots.spare) }
+{
+    let limits = limits_of(hosts, 8);
+    if !limits.are_valid() {
+        return Err("the limits are valid".into());
+    }
+    Ok(OneThread::new(alloc, limits, 256)?)
+}
