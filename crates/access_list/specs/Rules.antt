@@ -1,16 +1,18 @@
 -- What a rule's text says, and what the rules decide.
 use Rattle.std.specs.Prelude.{◌≡◌, ◌≢◌, ℕ, suc, ◌-◌, ◌/◌, ◌^◌, ◌==◌, ◌≤◌, Bool, true, false, List, [], ◌∷◌, ◌++◌, length, take, drop, All, Option, Some, None, unwrap_or, if◌then◌else◌}
 use Rattle.std.specs.List.{position_or_len}
+use Rattle.farm_types.specs.Decimals.{IsPlainDecimal}
+use Rattle.farm_types.specs.Bytes.{slash}
 use Rattle.access_list.specs.declared.rule.Rule.{Rule}
 use Rattle.access_list.specs.declared.rule.AccessFault.{AccessFault}
 use Rattle.access_list.specs.declared.rule.AccessFault.TheVariants.{BadAddress, BadBits}
 use Rattle.access_list.specs.declared.decision.Decision.{Decision}
 use Rattle.access_list.specs.declared.decision.Decision.TheVariants.{Admitted, Denied}
-use Rattle.access_list.specs.Addresses.{IsNumber, IsAddress}
+use Rattle.access_list.specs.Addresses.{IsAddress}
 
 -- the text before the first `/`, and the rest from it on
 abbrev pub slash_in : List ℕ → ℕ
-slash_in text = position_or_len (λ c. c == 47) text
+slash_in text = position_or_len (λ c. c == slash) text
 
 abbrev pub address_part : List ℕ → List ℕ
 address_part text = take (slash_in text) text
@@ -21,7 +23,7 @@ bits_part text = drop (slash_in text) text
 -- what stands behind an address says this number of bits: `/BITS`, 1 or 2 digits without a leading zero and with a value of 0 to 32, or nothing, which means 32
 abbrev pub bits_of : List ℕ → ℕ → Type 0
 bits_of [] bits = bits ≡ 32
-bits_of (slash ∷ digits) bits = IsNumber 2 32 digits bits
+bits_of (first ∷ digits) bits = IsPlainDecimal 2 0 32 digits bits
 
 -- the text says this rule
 pub record RuleOf (allow : Bool) (text : List ℕ) (rule : Rule) : Type 0 where

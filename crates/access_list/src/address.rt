@@ -2,8 +2,9 @@
 
 ghost use Rattle.std.specs.Prelude.{◌≡◌, ◌==◌, ◌≤◌, ℕ, List, length, IfSome, IfNone};
 ghost use Rattle.std.specs.List.{position_or_len};
-ghost use Rattle.access_list.specs.Addresses.{IsNumber, IsAddress, CutsNumber};
-ghost use Rattle.access_list.specs.Addresses as addresses;
+ghost use Rattle.access_list.specs.Addresses.{IsAddress, CutsNumber};
+
+use farm_types::read_plain_decimal;
 
 /// The place of the first such byte, or the text's length where there is none. It takes no memory.
 pub fn place_of(byte: u8, text: &[u8]) -> usize
@@ -22,35 +23,6 @@ pub fn place_of(byte: u8, text: &[u8]) -> usize
     at
 }
 
-// Whether a zero stands in front of other bytes.
-fn leads_by_zero(text: &[u8]) -> bool
-    ensures { result ≡ addresses.leads_by_zero text.now }
-{
-    match text {
-        [first, _, ..] => *first == b'0',
-        _ => false,
-    }
-}
-
-/// The number that the text spells in 1 to `most` decimal digits without a leading zero, up to the greatest. It takes no memory.
-pub fn read_number(digits: &[u8], most: usize, greatest: u32) -> Option<u32>
-    requires { most ≤ 9 }
-    ensures found { IfSome result (λ n. IsNumber most greatest digits.now n) }
-    ensures none { IfNone result ((n : ℕ) → IsNumber most greatest digits.now n → ⊥) }
-{
-    if digits.is_empty() || most < digits.len() || leads_by_zero(digits) {
-        return None;
-    }
-    let mut n = 0;
-    for digit in digits {
-        if !digit.is_ascii_digit() {
-            return None;
-        }
-        n = n * 10 + u32::from(*digit - b'0');
-    }
-    if n <= greatest { Some(n) } else { None }
-}
-
 // The number up to the first point, and what stands behind the point.
 fn cut_number(text: &[u8]) -> Option<(u32, &[u8])>
     ensures found { IfSome result (λ cut. CutsNumber text.now cut.0 cut.1.now) }
@@ -60,7 +32,7 @@ fn cut_number(text: &[u8]) -> Option<(u32, &[u8])>
     if at == text.len() {
         return None;
     }
-    match read_number(&text[..at], 3, 255) {
+    match read_plain_decimal(&text[..at], 3, 0, 255) {
         Some(number) => Some((number, &text[at + 1..])),
         None => None,
     }
@@ -81,7 +53,7 @@ pub fn read_address(text: &[u8]) -> Option<u32>
     let Some((c, behind_c)) = cut_number(behind_b) else {
         return None;
     };
-    match read_number(behind_c, 3, 255) {
+    match read_plain_decimal(behind_c, 3, 0, 255) {
         Some(d) => Some(((a * 256 + b) * 256 + c) * 256 + d),
         None => None,
     }

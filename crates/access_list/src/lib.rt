@@ -5,6 +5,6 @@ mod address;
 mod decision;
 mod rule;
 
-pub use address::{place_of, read_address, read_number};
+pub use address::{place_of, read_address};
 pub use decision::{AccessList, Decision};
 pub use rule::{AccessFault, Rule, RuleVec, parse_rule};

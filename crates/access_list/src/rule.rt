@@ -5,8 +5,8 @@ ghost use Rattle.access_list.specs.declared.rule.Rule.{Rule};
 ghost use Rattle.access_list.specs.declared.rule.AccessFault.{AccessFault};
 ghost use Rattle.access_list.specs.Rules.{RuleOf, WrongRule, bits_of, matches};
 
-use crate::address::{place_of, read_address, read_number};
-use farm_types::Items;
+use crate::address::{place_of, read_address};
+use farm_types::{Items, read_plain_decimal};
 
 /// Whether peers with these first bits of their addresses are let in.
 #[derive(Clone, Copy, Debug, PartialEq, Eq)]
@@ -47,7 +47,7 @@ fn read_bits(text: &[u8]) -> Option<u32>
 {
     match text {
         [] => Some(32),
-        [_, digits @ ..] => read_number(digits, 2, 32),
+        [_, digits @ ..] => read_plain_decimal(digits, 2, 0, 32),
     }
 }
 

@@ -1,6 +1,7 @@
 //! Twelve jobs over devices in memory, as a list or as a graph.
 
 ghost use Rattle.std.specs.Prelude.{◌≤◌, length, All, IfOk};
+ghost use Rattle.farm_types.specs.Limits.{workers_max};
 ghost use Rattle.edge_traits.specs.Keepers.{IsIdle};
 ghost use Rattle.object_delivery.specs.ScriptedFiles.{files_state, files_shows};
 ghost use Rattle.object_delivery.specs.Staging.{keeper_view};
@@ -102,7 +103,7 @@ fn words_of(alloc: Global, shape: Shape) -> Result<Vec<String>, AllocError> {
 // One kit, or four of them.
 fn kits(alloc: Global, four: bool) -> Result<Vec<FileKit>, AllocError>
     ensures some { IfOk result (λ kits. 1 ≤ length kits.items) }
-    ensures most { IfOk result (λ kits. length kits.items ≤ 16) }
+    ensures most { IfOk result (λ kits. length kits.items ≤ workers_max) }
     ensures idle { IfOk result (λ kits. All (λ kit. IsIdle (keeper_view (files_shows (files_state kit.keeper.files)) kit.keeper.pending)) kits.items) }
 {
     let mut kits = Vec::new(alloc);

@@ -10,17 +10,12 @@ mod judging;
 mod serving;
 
 use building::{Shape, twelve_jobs};
+use farm_types::exits::{BAD_WORDS, NO_MEMORY};
 use judging::Verdict;
 use std::env;
 use std::process::ExitCode;
 use std::sync::Wait;
 use std::thread::Threads;
-
-/// The status of a run in which memory was wanting.
-const WANTING: u8 = 105;
-
-/// The status of a command line that names no run.
-const BAD_WORDS: u8 = 101;
 
 // Does the run of this name, where there is one. It may wait for a slot.
 fn run<W: Threads + Wait + Sync>(
@@ -45,7 +40,7 @@ fn main(rt: HostRuntime) -> anyhow::Result<ExitCode> {
     };
     match run(&rt, &rt, name.as_str())? {
         Some(Verdict::Usual) => Ok(ExitCode::SUCCESS),
-        Some(Verdict::Wanting) => Ok(ExitCode::from(WANTING)),
+        Some(Verdict::Wanting) => Ok(ExitCode::from(NO_MEMORY)),
         Some(Verdict::Wrong(why)) => {
             println!(rt; "wrong: {why}")?;
             Ok(ExitCode::SUCCESS)

@@ -7,7 +7,7 @@ use Rattle.std.proofs.lemmas.List.{append_assoc, append-nil, take_more, take_all
 use Rattle.std.proofs.lemmas.List.Concat.{flat_map-append}
 use Rattle.std.proofs.lemmas.List.Splits.{slice_split_at, slice_split_first, length-slice_split}
 use Rattle.std.proofs.lemmas.List.Sums.{fails_before_first}
-use Rattle.job_list.specs.Bytes.{line_feed}
+use Rattle.farm_types.specs.Bytes.{line_feed}
 use Rattle.job_list.specs.Prints.{AreJobWords}
 use Rattle.job_list.specs.Texts.{NumberedLine, is_job, lines_of, jobs_from, job_lines}
 use Rattle.job_list.specs.Jobs.{JobOf, AreJobs, JobsOf}

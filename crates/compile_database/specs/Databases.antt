@@ -2,6 +2,7 @@
 use Rattle.std.specs.Prelude.{◌≡◌, ℕ, List, [], ◌∷◌, ◌++◌, Some, None, Ok, Err}
 use Rattle.std.specs.List.{slice_get}
 use Rattle.std.specs.Str.{IsUtf8}
+use Rattle.farm_types.specs.Limits.{jobs_max}
 use Rattle.serde_json.specs.Data.{Data, array}
 use Rattle.serde_json.specs.Find.{as_array}
 use Rattle.serde_json.specs.Read.{read}
@@ -53,7 +54,7 @@ pub record ArePlaces (choice : Choice) (entries : List Data) (places : List ℕ)
   pub of_folder : FolderIs choice entries folder
   pub are : places ≡ taken choice folder entries
   pub some : places ≡ [] → ⊥
-  pub few : slice_get places 512 ≡ None
+  pub few : slice_get places jobs_max ≡ None
 
 -- the entries that are taken, and their words in order
 pub record JobsOfEntries (choice : Choice) (entries : List Data) (jobs : List (List (List ℕ))) : Type 0 where
@@ -110,7 +111,7 @@ pub data EntriesFault (choice : Choice) (entries : List Data) : DatabaseFault �
   no_entry : IsEmpty choice entries → EntriesFault choice entries NoEntries
   other_folder : {at : ℕ} (folder : List ℕ) → NoneIs is_placeless entries → choice.folder ≡ None → chosen_folder choice.folder entries ≡ Some folder → IsFirst (is_out folder) entries at → EntriesFault choice entries (OtherFolder at)
   none_taken : (folder : List ℕ) → FolderIs choice entries folder → taken choice folder entries ≡ [] → EntriesFault choice entries NoEntries
-  too_many : {at : ℕ} (folder : List ℕ) → FolderIs choice entries folder → slice_get (taken choice folder entries) 512 ≡ Some at → EntriesFault choice entries (TooMany at)
+  too_many : {at : ℕ} (folder : List ℕ) → FolderIs choice entries folder → slice_get (taken choice folder entries) jobs_max ≡ Some at → EntriesFault choice entries (TooMany at)
   bad_entry : {fault : DatabaseFault} (places : List ℕ) → ArePlaces choice entries places → HasBadEntry entries places fault → EntriesFault choice entries fault
   list_fault : {fault : DatabaseFault} → HasListFault choice entries fault → EntriesFault choice entries fault
 

@@ -1,29 +1,12 @@
 -- The words of a command as a shell splits it.
 use Rattle.std.specs.Prelude.{ℕ, List, [], ◌∷◌, ◌++◌, Bool, ◌||◌, ◌==◌, if◌then◌else◌, Option, Some, None}
+use Rattle.farm_types.specs.Bytes.{line_feed, double_quote, single_quote, backslash, is_blank_or_line_feed}
 use Rattle.compile_database.specs.declared.shell.Mode.{Mode}
 use Rattle.compile_database.specs.declared.shell.Mode.TheVariants.{Outside, Escaped, Single, Double, DoubleEscaped}
 
--- ---- bytes
-
-abbrev pub line_feed : ℕ
-line_feed = 10
-
-abbrev pub double_quote : ℕ
-double_quote = 34
-
-abbrev pub single_quote : ℕ
-single_quote = 39
-
-abbrev pub backslash : ℕ
-backslash = 92
-
--- space, tab and line feed
-abbrev pub is_blank : ℕ → Bool
-is_blank c = c == 32 || c == 9 || c == 10
-
 -- `$`, a back quote, `"` and `\`, before which a backslash between double quotes is dropped
 abbrev pub is_escapable : ℕ → Bool
-is_escapable c = c == 36 || c == 96 || c == 34 || c == 92
+is_escapable c = c == 36 || c == 96 || c == double_quote || c == backslash
 
 -- ---- words
 
@@ -50,7 +33,7 @@ words_from Single done word [] = None
 words_from Double done word [] = None
 words_from DoubleEscaped done word [] = None
 words_from Outside done word (c ∷ cs) =
-    if is_blank c then words_from Outside (ended done word) None cs
+    if is_blank_or_line_feed c then words_from Outside (ended done word) None cs
     else if c == single_quote then words_from Single done (Some (opened word)) cs
     else if c == double_quote then words_from Double done (Some (opened word)) cs
     else if c == backslash then words_from Escaped done word cs

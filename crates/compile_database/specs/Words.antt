@@ -1,6 +1,8 @@
 -- The words of `farm_jobs`.
-use Rattle.std.specs.Prelude.{◌≡◌, ℕ, ◌+◌, ◌*◌, ◌-◌, List, [], ◌∷◌, length, codes, bytes_eq, nat_lt, nat_le, Bool, true, false, ◌&&◌, ◌||◌, ◌==◌, if◌then◌else◌, Option, Some, None, is_some, unwrap_or, Result, Ok, Err}
+use Rattle.std.specs.Prelude.{◌≡◌, ℕ, List, codes, bytes_eq, Bool, true, false, if◌then◌else◌, Option, Some, None, is_some, unwrap_or, Result, Ok, Err}
 use Rattle.std.specs.Option.{option_and_then}
+use Rattle.farm_types.specs.Decimals.{plain_decimal_of}
+use Rattle.farm_types.specs.Limits.{jobs_max}
 use Rattle.option_words.specs.declared.table.Row.{Row}
 use Rattle.option_words.specs.Items.{Item, value_in}
 use Rattle.option_words.specs.Tables.{Table}
@@ -11,34 +13,13 @@ use Rattle.compile_database.specs.Choices.{Choice}
 
 -- ---- numbers
 
-abbrev pub is_digit : ℕ → Bool
-is_digit c = nat_le 48 c && nat_le c 57
-
--- the number of digits that go on behind a number, up to 999,999,999
-abbrev pub number_from : ℕ → List ℕ → Option ℕ
-number_from so_far [] = Some so_far
-number_from so_far (c ∷ cs) = if is_digit c && nat_lt so_far 100_000_000 then number_from (so_far * 10 + (c - 48)) cs else None
-
--- a 0 with something behind it
-abbrev pub has_leading_zero : List ℕ → Bool
-has_leading_zero [] = false
-has_leading_zero (c ∷ []) = false
-has_leading_zero (c ∷ d ∷ ds) = c == 48
-
 -- the number that a word spells in 1 to 9 decimal digits, without a leading zero
 abbrev pub number_of : List ℕ → Option ℕ
-number_of word = if length word == 0 || has_leading_zero word then None else number_from 0 word
+number_of word = plain_decimal_of 9 0 999999999 word
 
 -- how many entries are taken: 1 to 512
-abbrev pub is_count : ℕ → Bool
-is_count n = nat_le 1 n && nat_le n 512
-
-abbrev pub counted : Option ℕ → Option ℕ
-counted (Some n) = if is_count n then Some n else None
-counted None = None
-
 abbrev pub count_of : List ℕ → Option ℕ
-count_of word = counted (number_of word)
+count_of word = plain_decimal_of 3 1 jobs_max word
 
 -- ---- options
 

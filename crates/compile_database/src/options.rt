@@ -10,6 +10,7 @@ ghost use Rattle.compile_database.specs.Selections.{choice_of, given};
 
 use crate::choice::Selection;
 use farm_types::limits::JOBS_MAX;
+use farm_types::read_plain_decimal;
 use option_words::{OptionTable, Row, check_options, value_of};
 
 /// An option of `farm_jobs`.
@@ -28,45 +29,22 @@ pub(crate) struct Given<'a> {
     pub count: Option<usize>,
 }
 
-fn is_digit(byte: u8) -> bool
-    ensures { result ≡ words.is_digit byte }
-{
-    b'0' <= byte && byte <= b'9'
-}
-
-fn has_leading_zero(word: &[u8]) -> bool
-    ensures { result ≡ words.has_leading_zero word.now }
-{
-    match word {
-        [first, _, ..] => *first == b'0',
-        _ => false,
-    }
-}
-
 // The number that a word spells in 1 to 9 decimal digits, without a leading zero.
 fn number_of(word: &[u8]) -> Option<usize>
     ensures { result ≡ number_of word.now }
 {
-    if word.is_empty() || has_leading_zero(word) {
-        return None;
+    match read_plain_decimal(word, 9, 0, 999_999_999) {
+        Some(number) => Some(number as usize),
+        None => None,
     }
-    let mut number: usize = 0;
-    'each: for byte in word {
-        if !is_digit(*byte) || 100_000_000 <= number {
-            return None;
-        }
-        number = number * 10 + usize::from(*byte - b'0');
-    }
-    Some(number)
 }
 
 // The number of `--count`.
 fn count_of(word: &[u8]) -> Option<usize>
     ensures { result ≡ count_of word.now }
 {
-    match number_of(word) {
-        Some(count) if 1 <= count && count <= JOBS_MAX => Some(count),
-        Some(_) => None,
+    match read_plain_decimal(word, 3, 1, JOBS_MAX as u32) {
+        Some(count) => Some(count as usize),
         None => None,
     }
 }

@@ -14,20 +14,12 @@ use crate::help::{asked, text_of};
 use crate::options::selection_of;
 use edge_traits::{Sink, Source};
 use farm_types::Bytes;
+use farm_types::exits::{BAD_TEXT, BAD_WORDS, FAULT};
 use std::alloc::Global;
 use stream_print::{Input, Piece, SinkKind, complain, finish, no_memory, read_input};
 
 /// A compile database of so many bytes is too long.
 const TOO_LONG: usize = 67_108_864;
-
-/// The exit status where the words don't fit.
-const BAD_WORDS: u8 = 101;
-
-/// The exit status where the input can't be read, or is too long.
-const UNREADABLE: u8 = 107;
-
-/// The exit status where the text gives no job list.
-const REFUSED: u8 = 109;
 
 const UNREADABLE_TEXT: &[u8] = b"farm_jobs: cannot read the database\n";
 
@@ -67,7 +59,7 @@ fn refuse_text<O: Sink, E: Sink>(
         (sinks_view O.shows E.shows out.new err.new) result }
 {
     match format!(in alloc; "farm_jobs: {fault}\n") {
-        Ok(text) => complain(text.as_bytes(), REFUSED, NO_MEMORY_TEXT, out, err),
+        Ok(text) => complain(text.as_bytes(), BAD_TEXT, NO_MEMORY_TEXT, out, err),
         Err(_) => no_memory(NO_MEMORY_TEXT, out, err),
     }
 }
@@ -116,8 +108,8 @@ fn list_input<R: Source, O: Sink, E: Sink>(
 {
     match read_input(alloc, input, TOO_LONG) {
         Ok(Input::Whole(text)) => list(alloc, text.as_slice(), selection, out, err),
-        Ok(Input::TooLong) => complain(UNREADABLE_TEXT, UNREADABLE, NO_MEMORY_TEXT, out, err),
-        Ok(Input::Unread) => complain(UNREADABLE_TEXT, UNREADABLE, NO_MEMORY_TEXT, out, err),
+        Ok(Input::TooLong) => complain(UNREADABLE_TEXT, FAULT, NO_MEMORY_TEXT, out, err),
+        Ok(Input::Unread) => complain(UNREADABLE_TEXT, FAULT, NO_MEMORY_TEXT, out, err),
         Err(_) => no_memory(NO_MEMORY_TEXT, out, err),
     }
 }

@@ -1,6 +1,7 @@
 //! The words of a command as a shell splits it.
 
 ghost use Rattle.std.specs.Prelude.{◌≡◌, ℕ, List, [], ◌∷◌, ◌++◌, IfOk, OnOk, None, Some};
+ghost use Rattle.farm_types.specs.Bytes as bytes;
 ghost use Rattle.compile_database.specs.Shell.{ended, grown, opened, shell_words};
 ghost use Rattle.compile_database.specs.Shell as shell;
 ghost use Rattle.compile_database.specs.Rests.{rest_words};
@@ -28,8 +29,8 @@ pub(crate) struct Splitter {
     pub mode: Mode,
 }
 
-fn is_blank(byte: u8) -> bool
-    ensures { result ≡ shell.is_blank byte }
+fn is_blank_or_line_feed(byte: u8) -> bool
+    ensures { result ≡ bytes.is_blank_or_line_feed byte }
 {
     byte == b' ' || byte == b'\t' || byte == b'\n'
 }
@@ -86,7 +87,7 @@ impl Splitter {
         requires { self.old.mode ≡ Mode.Outside }
         ensures { OnOk result ((rest : List ℕ) → rest_words self.old (byte ∷ rest) ≡ rest_words self.new rest) }
     {
-        if is_blank(byte) {
+        if is_blank_or_line_feed(byte) {
             return self.end_word();
         }
         match byte {

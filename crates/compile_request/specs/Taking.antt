@@ -1,5 +1,6 @@
 -- What a reader has taken of a request, and what it makes of more bytes.
 use Rattle.std.specs.Prelude.{ℕ, ◌≡◌, ◌<◌, ◌≤◌, ◌+◌, ◌⊎◌, List, [], ◌++◌, length, take, sum_by}
+use Rattle.farm_types.specs.Limits.{words_bytes_max}
 use Rattle.wire_tokens.specs.declared.faults.RequestFault.{RequestFault}
 use Rattle.wire_tokens.specs.Format.{Field, Due, body_len, Stands, Progress}
 use Rattle.wire_tokens.specs.Partial.{IsShortToken, IsDueToken}
@@ -26,7 +27,7 @@ IsPlaced p text = Progress request_format text (fields_of p) (bytes_of p)
 pub record Counts (p : Partial) : Type 0 where
   pub at_part : IsAtPart p.part p.count p.words
   pub sum : p.together ≡ sum_by length p.words
-  pub small : p.together ≤ 1048576
+  pub small : p.together ≤ words_bytes_max
 
 -- a token is on its way
 pub record InToken (p : Partial) : Type 0 where

@@ -1,5 +1,6 @@
 -- Where nothing failed, every connection is answered by what it gave.
 use Rattle.std.specs.Prelude.{◌≡◌, ℕ, suc, ◌⊎◌, false, IsTrue, List, [], ◌∷◌, ◌++◌, take, Some, None}
+use Rattle.farm_types.specs.Exits.{memory_status}
 use Rattle.farm_types.specs.declared.placed.Word.{Word}
 use Rattle.farm_types.specs.declared.ran.Ran.{Ran}
 use Rattle.edge_traits.specs.declared.entries.Visit.{Visit}
@@ -54,12 +55,12 @@ module _ {A S : Type 0} (door : A → DoorView) (station : S → StationView) (r
   -- Memory was wanting before anything was served; or every connection was answered rightly, and the status is 0 or that of want of memory;
   -- with books, by stations that tell no runs.
   pub data Completed (words : List (List ℕ)) (options : Options) (olds news : List (DoorKit A S)) (answer : ℕ) : Type 0 where
-    nothing : news ≡ olds → answer ≡ 105 → Completed words options olds news answer
+    nothing : news ≡ olds → answer ≡ memory_status → Completed words options olds news answer
     all : (config : DaemonConfig) (log : List Entry) → IsConfig words options config → book_bound options ≡ None
         → DoorsRight door station ran config.table.rows config.access.rules config.serve 1 (take (doors_used options olds) olds)
         (take (doors_used options olds) news) log
-        → (answer ≡ 0) ⊎ (answer ≡ 105) → Completed words options olds news answer
+        → (answer ≡ 0) ⊎ (answer ≡ memory_status) → Completed words options olds news answer
     beside : (config : DaemonConfig) (log : List Entry) (bound : ℕ) → IsConfig words options config → book_bound options ≡ Some bound
         → DoorsRight door (λ s. cached_shows (station s)) ran config.table.rows config.access.rules config.serve 1
         (take (doors_used options olds) olds) (take (doors_used options olds) news) log
-        → (answer ≡ 0) ⊎ (answer ≡ 105) → Completed words options olds news answer
+        → (answer ≡ 0) ⊎ (answer ≡ memory_status) → Completed words options olds news answer

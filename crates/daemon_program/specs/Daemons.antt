@@ -2,6 +2,8 @@
 use Rattle.std.specs.Prelude.{◌≡◌, ℕ, min, Bool, true, false, List, [], ◌++◌, length, take, drop, unwrap_or, Some, None, Result, Ok, Err}
 use Rattle.std.specs.Prelude.{if◌then◌else◌}
 use Rattle.std.specs.List.{list_any}
+use Rattle.farm_types.specs.Exits.{bad_words_status, memory_status, fault_status}
+use Rattle.farm_types.specs.Limits.{connections_max}
 use Rattle.farm_types.specs.declared.placed.Word.{Word}
 use Rattle.farm_types.specs.declared.ran.Ran.{Ran}
 use Rattle.edge_traits.specs.Doors.{DoorView}
@@ -33,14 +35,14 @@ is_door_memory other = false
 -- 107 where a door failed, else 105 where memory was wanting at one, else 0
 abbrev pub log_status : List Entry → ℕ
 log_status entries =
-    if list_any (λ entry. is_door_fault entry.what) entries then 107
-    else (if list_any (λ entry. is_door_memory entry.what) entries then 105 else 0)
+    if list_any (λ entry. is_door_fault entry.what) entries then fault_status
+    else (if list_any (λ entry. is_door_memory entry.what) entries then memory_status else 0)
 
 -- what is served by, as the words say
 pub record IsConfig (words : List (List ℕ)) (options : Options) (config : DaemonConfig) : Type 0 where
   pub table : config.table.rows ≡ compilers_of (settings_of words)
   pub rules : AreRules (settings_of words) config.access.rules
-  pub serve : config.serve ≡ unwrap_or options.serve 100000
+  pub serve : config.serve ≡ unwrap_or options.serve connections_max
 
 -- the doors that are used: the first ones, as many as the words say
 abbrev pub doors_used : {K : Type 0} → Options → List K → ℕ
@@ -71,7 +73,7 @@ module _ {A S : Type 0} (door : A → DoorView) (station : S → StationView) (r
 
   -- what is done by these words: bad ones are told with their place, and nothing is served
   abbrev pub Does : List (List ℕ) → List (DoorKit A S) → List (DoorKit A S) → SinkView → SinkView → ℕ → Result Command ℕ → Type 0
-  Does words olds news old new answer (Err place) = (news ≡ olds) × Ends (bad_words_text place) 101 old new answer
+  Does words olds news old new answer (Err place) = (news ≡ olds) × Ends (bad_words_text place) bad_words_status old new answer
   Does words olds news old new answer (Ok Help) = (news ≡ olds) × Ends help 0 old new answer
   Does words olds news old new answer (Ok Version) = (news ≡ olds) × Ends version 0 old new answer
   Does words olds news old new answer (Ok (Serve options)) = Serves words options olds news old new answer

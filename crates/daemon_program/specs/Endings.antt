@@ -1,5 +1,6 @@
 -- How printing on the one sink ended, and the exit status that was answered.
 use Rattle.std.specs.Prelude.{◌≡◌, ◌≢◌, ℕ, List, [], ◌++◌}
+use Rattle.farm_types.specs.Exits.{stopped_status, memory_status}
 use Rattle.edge_traits.specs.Told.{Grew}
 use Rattle.edge_traits.specs.Sinks.{SinkView}
 use Rattle.stream_print.specs.Prints.{GoesOn, DidStop}
@@ -15,9 +16,9 @@ pub record IsPart (text : List ℕ) (old new : SinkView) : Type 0 where
 
 -- Of the notice for want of memory this was told: the whole, or a part, since the sink stopped, or a part, since it wanted memory.
 pub data Noticed (old new : SinkView) (answer : ℕ) (told : List ℕ) : Type 0 where
-  told_whole : told ≡ no_memory_text → GoesOn old new → answer ≡ 105 → Noticed old new answer told
-  told_stopped : (rest : List ℕ) → no_memory_text ≡ told ++ rest → rest ≢ [] → DidStop old new → answer ≡ 100 → Noticed old new answer told
-  told_wanted : (rest : List ℕ) → no_memory_text ≡ told ++ rest → rest ≢ [] → GoesOn old new → answer ≡ 105 → Noticed old new answer told
+  told_whole : told ≡ no_memory_text → GoesOn old new → answer ≡ memory_status → Noticed old new answer told
+  told_stopped : (rest : List ℕ) → no_memory_text ≡ told ++ rest → rest ≢ [] → DidStop old new → answer ≡ stopped_status → Noticed old new answer told
+  told_wanted : (rest : List ℕ) → no_memory_text ≡ told ++ rest → rest ≢ [] → GoesOn old new → answer ≡ memory_status → Noticed old new answer told
 
 -- memory was wanting after this text: the notice for it follows
 pub record WantsAfter (text : List ℕ) (old new : SinkView) (answer : ℕ) : Type 0 where
@@ -29,5 +30,5 @@ pub record WantsAfter (text : List ℕ) (old new : SinkView) (answer : ℕ) : Ty
 -- part of it, and then the notice, since memory was wanting.
 pub data Ends (text : List ℕ) (status : ℕ) (old new : SinkView) (answer : ℕ) : Type 0 where
   printed : Grew old.written new.written text → GoesOn old new → answer ≡ status → Ends text status old new answer
-  stopped : IsPart text old new → DidStop old new → answer ≡ 100 → Ends text status old new answer
+  stopped : IsPart text old new → DidStop old new → answer ≡ stopped_status → Ends text status old new answer
   wanted : (front rest : List ℕ) → text ≡ front ++ rest → rest ≢ [] → WantsAfter front old new answer → Ends text status old new answer

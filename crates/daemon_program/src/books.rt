@@ -1,6 +1,7 @@
 //! Doors whose stations have books.
 
 ghost use Rattle.std.specs.Prelude.{◌≡◌, ◌+◌, ◌≤◌, ◌++◌, [], All, length, map, reverse, take, drop, IfOk, IfErr, vec_len, vec_capacity};
+ghost use Rattle.farm_types.specs.Limits.{workers_max, connections_max};
 ghost use Rattle.object_cache.specs.Stations.{cached_shows};
 ghost use Rattle.object_cache.specs.Books.{new_book};
 ghost use Rattle.access_list.specs.Rules.{AreRight};
@@ -87,9 +88,9 @@ pub(crate) fn serve_beside_books<
 where
     A::Link: Send,
     requires some { 1 ≤ count }
-    requires few { count ≤ 16 }
+    requires few { count ≤ workers_max }
     requires there { count ≤ length doors.old.items }
-    requires serve { (1 ≤ config.now.serve) × (config.now.serve ≤ 100000) }
+    requires serve { (1 ≤ config.now.serve) × (config.now.serve ≤ connections_max) }
     requires right { AreRight config.now.access.rules }
     ensures served { IfOk result (λ answer. DoorsServed config.now.table.rows config.now.access.rules config.now.serve A.shows (λ s. cached_shows (S.shows s)) S.ran 1
         (take count doors.old.items) (take count doors.new.items) answer.0) }

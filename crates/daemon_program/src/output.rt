@@ -1,15 +1,14 @@
 //! One text on the sink, and the exit status.
 
 ghost use Rattle.std.specs.Prelude.{◌≡◌, []};
+ghost use Rattle.farm_types.specs.Exits.{bad_words_status};
 ghost use Rattle.daemon_program.specs.Texts.{bad_words_text};
 ghost use Rattle.daemon_program.specs.Endings.{Ends, WantsAfter};
 
 use edge_traits::Sink;
+use farm_types::exits::{BAD_WORDS, NO_MEMORY, STOPPED};
 use std::alloc::Global;
-use stream_print::{NO_MEMORY, PrintStop, STOPPED, print};
-
-/// The exit status for words that aren't right.
-const BAD_WORDS: u8 = 101;
+use stream_print::{PrintStop, print};
 
 /// What is printed where memory is wanting outside the log.
 const NO_MEMORY_TEXT: &[u8] = b"farmd: no memory\n";
@@ -38,7 +37,7 @@ pub(crate) fn tell<O: Sink>(text: &[u8], status: u8, out: &mut O) -> u8
 
 /// Refuses words of which the one at this place is the first that isn't right.
 pub(crate) fn refuse_words<O: Sink>(alloc: Global, place: usize, out: &mut O) -> u8
-    ensures { Ends (bad_words_text place) 101 (O.shows out.old) (O.shows out.new) result }
+    ensures { Ends (bad_words_text place) bad_words_status (O.shows out.old) (O.shows out.new) result }
 {
     match format!(in alloc; "farmd: bad words at word {place}\n") {
         Ok(text) => tell(text.as_bytes(), BAD_WORDS, out),

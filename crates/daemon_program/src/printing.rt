@@ -1,6 +1,7 @@
 //! The log is printed line by line, each made when it is needed.
 
 ghost use Rattle.std.specs.Prelude.{◌≡◌, ◌≤◌, ◌++◌, length, OnOk, OnErr, IsErrOf};
+ghost use Rattle.farm_types.specs.Limits.{workers_max};
 ghost use Rattle.edge_traits.specs.Told.{Grew};
 ghost use Rattle.stream_print.specs.Prints.{GoesOn, DidStop};
 ghost use Rattle.daemon_program.specs.Texts.{book_line, books_text, line_text, log_text};
@@ -10,9 +11,10 @@ use crate::lines::{self, line};
 use crate::output::want_memory;
 use daemon_worker::Entry;
 use edge_traits::Sink;
+use farm_types::exits::STOPPED;
 use object_cache::Stats;
 use std::alloc::Global;
-use stream_print::{PrintStop, STOPPED, print};
+use stream_print::{PrintStop, print};
 
 fn print_line<O: Sink>(alloc: Global, entry: &Entry, out: &mut O) -> Result<(), PrintStop>
     ensures all { OnOk result (Grew (O.shows out.old).written (O.shows out.new).written (line_text entry.now)) }
@@ -66,7 +68,7 @@ fn print_book<O: Sink>(
 
 // Prints the lines of all books, of doors from 1 on.
 fn print_books<O: Sink>(alloc: Global, books: &[Stats], out: &mut O) -> Result<(), PrintStop>
-    requires { length books.now ≤ 16 }
+    requires { length books.now ≤ workers_max }
     ensures all { OnOk result (Grew (O.shows out.old).written (O.shows out.new).written (books_text 1 books.now)) }
     ensures part { OnErr result (IsPart (books_text 1 books.now) (O.shows out.old) (O.shows out.new)) }
     ensures stopped { IsErrOf result PrintStop.Stopped → DidStop (O.shows out.old) (O.shows out.new) }
@@ -93,7 +95,7 @@ fn print_all<O: Sink>(
     books: &[Stats],
     out: &mut O,
 ) -> Result<(), PrintStop>
-    requires { length books.now ≤ 16 }
+    requires { length books.now ≤ workers_max }
     ensures all { OnOk result (Grew (O.shows out.old).written (O.shows out.new).written (log_text log.now ++ books_text 1 books.now)) }
     ensures part { OnErr result (IsPart (log_text log.now ++ books_text 1 books.now) (O.shows out.old) (O.shows out.new)) }
     ensures stopped { IsErrOf result PrintStop.Stopped → DidStop (O.shows out.old) (O.shows out.new) }
@@ -114,7 +116,7 @@ pub(crate) fn print_log<O: Sink>(
     status: u8,
     out: &mut O,
 ) -> u8
-    requires { length books.now ≤ 16 }
+    requires { length books.now ≤ workers_max }
     ensures { Ends (log_text log.now ++ books_text 1 books.now) status (O.shows out.old) (O.shows out.new) result }
 {
     match print_all(alloc, log, books, out) {

@@ -7,11 +7,7 @@ ghost use Rattle.daemon_program.specs.Daemons as daemons;
 ghost use Rattle.daemon_program.specs.Daemons.{log_status};
 
 use daemon_worker::{Entry, Met};
-
-/// The exit status where a door failed.
-const DOOR_FAULT: u8 = 107;
-/// The exit status where memory was wanting at a door.
-const DOOR_MEMORY: u8 = 105;
+use farm_types::exits::{FAULT, NO_MEMORY};
 
 fn is_door_fault(what: &Met) -> bool
     ensures { result ≡ logs.is_door_fault what.now }
@@ -42,9 +38,9 @@ pub(crate) fn status_of(log: &[Entry]) -> u8
     ensures { result ≡ log_status log.now }
 {
     if has_door_fault(log) {
-        DOOR_FAULT
+        FAULT
     } else if has_door_memory(log) {
-        DOOR_MEMORY
+        NO_MEMORY
     } else {
         0
     }

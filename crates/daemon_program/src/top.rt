@@ -1,6 +1,7 @@
 //! The public call of the program.
 
 ghost use Rattle.std.specs.Prelude.{◌≡◌, ◌≤◌, ℕ, false, map, string_bytes, length, IfOk, Result};
+ghost use Rattle.farm_types.specs.Limits.{workers_max};
 ghost use Rattle.daemon_words.specs.declared.command.Command.{Command as Asked};
 ghost use Rattle.daemon_words.specs.declared.command.Command.TheVariants as asked;
 ghost use Rattle.daemon_words.specs.Commands.{IsCommand, ReadWords};
@@ -50,7 +51,7 @@ where
     A::Link: Send,
     requires words { IsCommand (map string_bytes words.now) (asked.Serve options.now) }
     requires some { 1 ≤ length doors.old.items }
-    requires few { length doors.old.items ≤ 16 }
+    requires few { length doors.old.items ≤ workers_max }
     ensures { Serves A.shows S.shows S.ran (map string_bytes words.now) options.now doors.old.items doors.new.items (O.shows out.old) (O.shows out.new) result }
 {
     let Ok(config) = config_of(alloc, words, options) else {
@@ -86,7 +87,7 @@ pub fn farmd<R: Threads + Sync, A: Door + Send + Drop, S: Station + Send + Drop,
 where
     A::Link: Send,
     requires some { 1 ≤ length doors.old.items }
-    requires few { length doors.old.items ≤ 16 }
+    requires few { length doors.old.items ≤ workers_max }
     requires out { (O.shows out.old).stopped ≡ false }
     ensures does { (read : Result Asked ℕ) → ReadWords (map string_bytes words.now) read →
         Does A.shows S.shows S.ran (map string_bytes words.now) doors.old.items doors.new.items (O.shows out.old) (O.shows out.new) result read }

@@ -5,9 +5,11 @@ use Rattle.std.specs.Option.{option_to_list}
 use Rattle.std.proofs.lemmas.List.Elements.{All-nil, All-cons, All-append}
 use Rattle.std.proofs.Math.Seq.{take-length}
 use Rattle.std.proofs.lemmas.List.{append-nil}
+use Rattle.farm_types.proofs.DecimalLemmas.{one_plain}
+use Rattle.farm_types.specs.Decimals.{IsPlainDecimal}
 use Rattle.access_list.specs.declared.rule.Rule.{Rule}
 use Rattle.access_list.specs.Rules.{RuleOf, AreRight, bits_of, bits_part}
-use Rattle.access_list.proofs.Cutting.{one_rule, one_number, one_address}
+use Rattle.access_list.proofs.Cutting.{one_rule, one_address}
 use Rattle.option_words.specs.Items.{Item, items_words, value_words, stands_in, value_in}
 use Rattle.option_words.specs.Tables.{has_value, may_stand, follows, HasValue, StandBehind}
 use Rattle.option_words.specs.Readings.{AreOptions}
@@ -22,7 +24,7 @@ use Rattle.daemon_words.specs.declared.options.Options.{Options}
 use Rattle.daemon_words.specs.declared.command.Command.{Command}
 use Rattle.daemon_words.specs.declared.command.Command.TheVariants.{Help, Version, Serve}
 use Rattle.daemon_words.specs.Names.{option_named}
-use Rattle.daemon_words.specs.Options.{row_of, is_of, count_in, name_in, named_in, IsPositive, IsWithin, AreWithin, IsSpelled, ValueFits, GivenBy, Says, Reads, options}
+use Rattle.daemon_words.specs.Options.{row_of, is_of, count_in, name_in, named_in, IsWithin, AreWithin, IsSpelled, ValueFits, GivenBy, Says, Reads, options}
 use Rattle.daemon_words.specs.Commands.{asked, served, trusts, settings_of, placed, ByFirst, ReadWords}
 use Rattle.daemon_words.specs.Tables.{SaysRule, RuleIn, AreRules, compilers_of}
 
@@ -30,11 +32,11 @@ abbrev as_command : Command → Result Command ℕ
 as_command command = Ok command
 
 one_spelled : (name : OptionName) (value : List ℕ) (n m : ℕ) → IsSpelled name value n → IsSpelled name value m → n ≡ m
-one_spelled option.Port value n m p q = one_number _ _ _ n m p.number q.number
+one_spelled option.Port value n m p q = one_plain _ _ _ _ n m p q
 one_spelled option.Listen value n m p q = one_address value n m p q
-one_spelled option.Jobs value n m p q = one_number _ _ _ n m p.number q.number
-one_spelled option.Serve value n m p q = one_number _ _ _ n m p.number q.number
-one_spelled option.Cache value n m p q = one_number _ _ _ n m p.number q.number
+one_spelled option.Jobs value n m p q = one_plain _ _ _ _ n m p q
+one_spelled option.Serve value n m p q = one_plain _ _ _ _ n m p q
+one_spelled option.Cache value n m p q = one_plain _ _ _ _ n m p q
 one_spelled option.Compiler value n m p q = absurd p
 one_spelled option.Allow value n m p q = absurd p
 one_spelled option.Deny value n m p q = absurd p
@@ -269,8 +271,8 @@ pub none_read : {A : Type 0} (n : Option ℕ) → IfNone n A → is_some n ≡ f
 none_read None none is = none
 none_read (Some n) none is = absurd (cc is)
 
-positive_within : (most greatest : ℕ) (value : List ℕ) (n : ℕ) → IsPositive most greatest value n → (1 ≤ n) × (n ≤ greatest)
-positive_within most greatest value n is = (is.some, is.number.high)
+positive_within : (most greatest : ℕ) (value : List ℕ) (n : ℕ) → IsPlainDecimal most 1 greatest value n → (1 ≤ n) × (n ≤ greatest)
+positive_within most greatest value n is = (is.number.low, is.number.high)
 
 within_by : (low high : ℕ) (name : OptionName) → ((value : List ℕ) (n : ℕ) → IsSpelled name value n → (low ≤ n) × (n ≤ high)) → (value : Option (List ℕ)) (n : Option ℕ) → GivenBy name value n → IsWithin low high n
 within_by low high name each None n is = subst (IsWithin low high) (sym is) tt

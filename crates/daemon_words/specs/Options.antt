@@ -1,12 +1,14 @@
 -- What the options say, by their words: each option is a name and a value.
 use Rattle.std.specs.Prelude.{◌≡◌, ℕ, ◌+◌, ◌*◌, ◌<◌, ◌≤◌, ◌==◌, ◌||◌, ◌&&◌, Bool, true, false, List, [], ◌∷◌, length, take, drop, codes, bytes_eq, Option, Some, None, Result, Ok, Err, if◌then◌else◌}
 use Rattle.std.specs.List.{position_or_len}
+use Rattle.farm_types.specs.Decimals.{IsPlainDecimal}
+use Rattle.farm_types.specs.Limits.{workers_max, connections_max}
 use Rattle.option_words.specs.declared.table.Row.{Row}
 use Rattle.option_words.specs.Items.{Item, value_in}
 use Rattle.option_words.specs.Tables.{Table}
 use Rattle.option_words.specs.Readings.{AreOptions, BadOptionAt}
 use Rattle.access_list.specs.declared.rule.Rule.{Rule}
-use Rattle.access_list.specs.Addresses.{IsNumber, IsAddress}
+use Rattle.access_list.specs.Addresses.{IsAddress}
 use Rattle.access_list.specs.Rules.{RuleOf}
 use Rattle.daemon_words.specs.declared.name.OptionName.{OptionName}
 use Rattle.daemon_words.specs.declared.name.OptionName.TheVariants as option
@@ -44,11 +46,6 @@ count_in kind (word ∷ value ∷ more) = (if is_of kind (option_named word) the
 
 -- ---- their values
 
--- a number of at least 1
-pub record IsPositive (most greatest : ℕ) (digits : List ℕ) (n : ℕ) : Type 0 where
-  pub number : IsNumber most greatest digits n
-  pub some : 1 ≤ n
-
 -- the name of a compiler stands before the first `=` of a value, and its program behind it
 abbrev pub equals_in : List ℕ → ℕ
 equals_in value = position_or_len (λ c. c == 61) value
@@ -84,11 +81,11 @@ pub record AddsCompiler (before : List (List ℕ)) (value : List ℕ) : Type 0 w
 
 -- the number that the value of an option spells
 abbrev pub IsSpelled : OptionName → List ℕ → ℕ → Type 0
-IsSpelled option.Port value n = IsPositive 5 65535 value n
+IsSpelled option.Port value n = IsPlainDecimal 5 1 65535 value n
 IsSpelled option.Listen value n = IsAddress value n
-IsSpelled option.Jobs value n = IsPositive 2 16 value n
-IsSpelled option.Serve value n = IsPositive 6 100000 value n
-IsSpelled option.Cache value n = IsPositive 3 128 value n
+IsSpelled option.Jobs value n = IsPlainDecimal 2 1 workers_max value n
+IsSpelled option.Serve value n = IsPlainDecimal 6 1 connections_max value n
+IsSpelled option.Cache value n = IsPlainDecimal 3 1 128 value n
 IsSpelled _ value n = ⊥
 
 -- a word may be the value of this option, behind these words
@@ -136,8 +133,8 @@ IsWithin low high (Some n) = (low ≤ n) × (n ≤ high)
 -- the numbers that are given are within their limits
 pub record AreWithin (options : Options) : Type 0 where
   pub port : IsWithin 1 65535 options.port
-  pub jobs : IsWithin 1 16 options.jobs
-  pub serve : IsWithin 1 100000 options.serve
+  pub jobs : IsWithin 1 workers_max options.jobs
+  pub serve : IsWithin 1 connections_max options.serve
   pub cache : IsWithin 1 128 options.cache
 
 -- the bytes of a number of MiB

@@ -1,14 +1,15 @@
 //! What the options say.
 
 ghost use Rattle.std.specs.Prelude.{◌≡◌, unwrap_or};
+ghost use Rattle.farm_types.specs.Limits.{connections_max};
 ghost use Rattle.daemon_words.specs.Options.{book_bound};
+
+use farm_types::limits::CONNECTIONS_MAX;
 
 /// The port where none is given.
 const PORT: u16 = 3632;
 /// The number of doors where none is given.
 const JOBS: u8 = 4;
-/// The number of connections of a door where none is given.
-const SERVE: u32 = 100_000;
 /// The bytes of one MiB.
 const MEBIBYTE: u64 = 1_048_576;
 
@@ -53,9 +54,9 @@ impl Options {
 
     /// The number of connections of each door: 100,000 where none is given.
     pub fn serve(&self) -> u32
-        ensures { result ≡ unwrap_or self.now.serve 100000 }
+        ensures { result ≡ unwrap_or self.now.serve connections_max }
     {
-        self.serve.unwrap_or(SERVE)
+        self.serve.unwrap_or(CONNECTIONS_MAX)
     }
 
     /// How many bytes the book of each door's station may have; None where there are no books.

@@ -4,25 +4,15 @@ ghost use Rattle.std.specs.Prelude.{◌≡◌, ◌≤◌, ◌&&◌, ℕ, true, f
 ghost use Rattle.daemon_words.specs.declared.name.OptionName.TheVariants as names;
 ghost use Rattle.daemon_words.specs.Names.{option_named};
 ghost use Rattle.daemon_words.specs.Options as says;
-ghost use Rattle.daemon_words.specs.Options.{AddsCompiler, AddsRule, IsCompiler, IsPositive, IsSpelled, ValueFits, named_in};
+ghost use Rattle.daemon_words.specs.Options.{AddsCompiler, AddsRule, IsCompiler, IsSpelled, ValueFits, named_in};
 
 use crate::name::{Kind, OptionName, parse_option};
-use access_list::{parse_rule, place_of, read_address, read_number};
+use access_list::{parse_rule, place_of, read_address};
+use farm_types::limits::{CONNECTIONS_MAX, WORKERS_MAX};
+use farm_types::read_plain_decimal;
 
 /// The most compilers, and the most rules.
 const MOST: usize = 64;
-
-// The number from 1 that the digits spell.
-fn read_positive(digits: &[u8], most: usize, greatest: u32) -> Option<u32>
-    requires { most ≤ 9 }
-    ensures found { IfSome result (IsPositive most greatest digits.now) }
-    ensures none { IfNone result ((n : ℕ) → IsPositive most greatest digits.now n → ⊥) }
-{
-    let Some(number) = read_number(digits, most, greatest) else {
-        return None;
-    };
-    if number == 0 { None } else { Some(number) }
-}
 
 /// The name of a compiler: what stands before the first `=`.
 pub(crate) fn name_in(value: &[u8]) -> &[u8]
@@ -104,7 +94,7 @@ pub(crate) fn read_port(value: &[u8]) -> Option<u16>
     ensures found { IfSome result (IsSpelled names.Port value.now) }
     ensures none { IfNone result ((n : ℕ) → IsSpelled names.Port value.now n → ⊥) }
 {
-    match read_positive(value, 5, 65_535) {
+    match read_plain_decimal(value, 5, 1, 65_535) {
         Some(port) => Some(port as u16),
         None => None,
     }
@@ -131,7 +121,7 @@ pub(crate) fn read_jobs(value: &[u8]) -> Option<u8>
     ensures found { IfSome result (IsSpelled names.Jobs value.now) }
     ensures none { IfNone result ((n : ℕ) → IsSpelled names.Jobs value.now n → ⊥) }
 {
-    match read_positive(value, 2, 16) {
+    match read_plain_decimal(value, 2, 1, WORKERS_MAX as u32) {
         Some(jobs) => Some(jobs as u8),
         None => None,
     }
@@ -142,7 +132,7 @@ pub(crate) fn read_serve(value: &[u8]) -> Option<u32>
     ensures found { IfSome result (IsSpelled names.Serve value.now) }
     ensures none { IfNone result ((n : ℕ) → IsSpelled names.Serve value.now n → ⊥) }
 {
-    read_positive(value, 6, 100_000)
+    read_plain_decimal(value, 6, 1, CONNECTIONS_MAX)
 }
 
 /// The number of MiB that a value spells.
@@ -150,7 +140,7 @@ pub(crate) fn read_cache(value: &[u8]) -> Option<u8>
     ensures found { IfSome result (IsSpelled names.Cache value.now) }
     ensures none { IfNone result ((n : ℕ) → IsSpelled names.Cache value.now n → ⊥) }
 {
-    match read_positive(value, 3, 128) {
+    match read_plain_decimal(value, 3, 1, 128) {
         Some(mebibytes) => Some(mebibytes as u8),
         None => None,
     }

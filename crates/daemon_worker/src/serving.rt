@@ -1,6 +1,7 @@
 //! The connections of all doors.
 
 ghost use Rattle.std.specs.Prelude.{◌≡◌, ◌≤◌, length, take, drop, IfOk, IfErr};
+ghost use Rattle.farm_types.specs.Limits.{workers_max, connections_max};
 ghost use Rattle.access_list.specs.Rules.{AreRight};
 ghost use Rattle.daemon_worker.specs.Logs.{DoorsServed};
 ghost use Rattle.daemon_worker.specs.Paths.{DoorsPaths};
@@ -24,9 +25,9 @@ pub fn serve_first<R: Threads + Sync, A: Door + Send + Drop, S: Station + Send +
 where
     A::Link: Send,
     requires some { 1 ≤ count }
-    requires few { count ≤ 16 }
+    requires few { count ≤ workers_max }
     requires there { count ≤ length doors.old.items }
-    requires serve { (1 ≤ config.now.serve) × (config.now.serve ≤ 100000) }
+    requires serve { (1 ≤ config.now.serve) × (config.now.serve ≤ connections_max) }
     requires right { AreRight config.now.access.rules }
     ensures served { IfOk result (λ log. DoorsServed config.now.table.rows config.now.access.rules config.now.serve A.shows S.shows S.ran 1
         (take count doors.old.items) (take count doors.new.items) log) }
@@ -54,8 +55,8 @@ pub fn serve<R: Threads + Sync, A: Door + Send + Drop, S: Station + Send + Drop>
 where
     A::Link: Send,
     requires some { 1 ≤ length doors.old.items }
-    requires few { length doors.old.items ≤ 16 }
-    requires serve { (1 ≤ config.now.serve) × (config.now.serve ≤ 100000) }
+    requires few { length doors.old.items ≤ workers_max }
+    requires serve { (1 ≤ config.now.serve) × (config.now.serve ≤ connections_max) }
     requires right { AreRight config.now.access.rules }
     ensures served { IfOk result (λ log. DoorsServed config.now.table.rows config.now.access.rules config.now.serve A.shows S.shows S.ran 1 doors.old.items doors.new.items log) }
     ensures paths { IfOk result (λ log. DoorsPaths S.goes config.now.table.rows 1 doors.old.items doors.new.items log) }

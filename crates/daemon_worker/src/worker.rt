@@ -1,6 +1,7 @@
 //! The worker of one door, and all workers side by side.
 
 ghost use Rattle.std.specs.Prelude.{◌≡◌, ◌+◌, ◌<◌, ◌≤◌, ℕ, All, length, slice_index_or, vec_len};
+ghost use Rattle.farm_types.specs.Limits.{workers_max};
 ghost use Rattle.access_list.specs.Rules.{AreRight};
 ghost use Rattle.daemon_worker.specs.Workers.{IsReady, Worked};
 
@@ -24,7 +25,7 @@ fn work<A: Door, S: Station>(
     config: &DaemonConfig,
     worker: &mut Worker<A, S>,
 )
-    requires at { at < 16 }
+    requires at { at < workers_max }
     requires right { AreRight config.now.access.rules }
     requires ready { IsReady config.now.serve worker.old }
     ensures { Worked config.now.table.rows config.now.access.rules config.now.serve A.shows S.shows S.ran S.goes (at + 1) worker.old worker.new }
@@ -49,7 +50,7 @@ fn work_side_by_side<R: Threads + Sync, A: Door + Send, S: Station + Send>(
 where
     A::Link: Send,
     requires threads { 0 < threads }
-    requires few { length workers.old ≤ 16 }
+    requires few { length workers.old ≤ workers_max }
     requires right { AreRight config.now.access.rules }
     requires ready { All (λ worker. IsReady config.now.serve worker) workers.old }
     ensures each { (at : ℕ) (d : _) → at < length workers.old →
@@ -73,7 +74,7 @@ pub(crate) fn work_all<R: Threads + Sync, A: Door + Send, S: Station + Send>(
 where
     A::Link: Send,
     requires some { 0 < length workers.old.items }
-    requires few { length workers.old.items ≤ 16 }
+    requires few { length workers.old.items ≤ workers_max }
     requires right { AreRight config.now.access.rules }
     requires ready { All (λ worker. IsReady config.now.serve worker) workers.old.items }
     ensures count { length workers.new.items ≡ length workers.old.items }

@@ -11,6 +11,7 @@ use edge_real::{
     Notices, PAUSE_MILLIS, StdSink, StdSource, command_words, own_folder, variable, watch_kits,
 };
 use farm_program::farm;
+use farm_types::exits::NO_MEMORY;
 use host_turns::{spread, turned};
 use kept_input::KeptSource;
 use reasons::{Given, tell_carriage_return, tell_refusal};
@@ -30,9 +31,6 @@ const HOSTS: &str = "DISTCC_HOSTS";
 
 /// The variables of the environment that are read.
 const VARIABLES: [&str; 3] = [HOSTS, "DISTCC_FALLBACK", "DISTCC_BACKOFF_PERIOD"];
-
-/// The status where memory is wanting.
-const NO_MEMORY: u8 = 105;
 
 /// The status where a command would replace its source: that of gcc.
 const REFUSED: u8 = 1;

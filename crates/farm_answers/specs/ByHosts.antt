@@ -1,11 +1,12 @@
 -- Answers that begin with the host list.
 use Rattle.std.specs.Prelude.{ℕ, List, [], ◌∷◌}
+use Rattle.farm_types.specs.Exits.{bad_hosts_status}
 use Rattle.farm_types.specs.declared.hosts.Hosts.{Hosts}
 use Rattle.host_list.specs.declared.fault.HostFault.{HostFault}
 use Rattle.host_list.specs.HostLists.{HostListOf, HostFaultStands}
 use Rattle.stream_print.specs.Prints.{SinksView}
 use Rattle.stream_print.specs.Printing.{complaint, Printing, WantOf}
-use Rattle.farm_answers.specs.Texts.{bad_hosts_status, no_memory_text, host_fault_text}
+use Rattle.farm_answers.specs.Texts.{no_memory_text, host_fault_text}
 
 -- The text is this host list, and then the rest was done with it; or it has this fault, by which it was refused; or memory was
 -- wanting while it was read. What the text is tells the first two apart; the last is free.

@@ -53,19 +53,6 @@ cycle_text cycle = codes "farm: needs: cycle" ++ flat_map job_text cycle ++ code
 abbrev pub rehearsal_text : ℕ → ℕ → ℕ → List ℕ
 rehearsal_text jobs done bytes = codes "rehearse " ++ decimal jobs ++ codes " ok " ++ decimal done ++ codes " bytes " ++ decimal bytes ++ codes "\n"
 
--- the exit statuses for words and environment, for the host list, for an input that can't be read, and for the job list
-abbrev pub bad_words_status : ℕ
-bad_words_status = 101
-
-abbrev pub bad_hosts_status : ℕ
-bad_hosts_status = 106
-
-abbrev pub cannot_read_status : ℕ
-cannot_read_status = 107
-
-abbrev pub bad_jobs_status : ℕ
-bad_jobs_status = 109
-
 -- what `--version` prints
 abbrev pub version_text : List ℕ
 version_text = version

@@ -1,13 +1,15 @@
 //! How `farm` ends where the jobs are right and their needs are not.
 
 ghost use Rattle.std.specs.Prelude.{◌≡◌, ◌++◌, [], ◌∷◌, IfOk, OnOk};
+ghost use Rattle.farm_types.specs.Exits.{bad_text_status};
 ghost use Rattle.stream_print.specs.Prints.{sinks_view};
 ghost use Rattle.stream_print.specs.Printing.{Printing, complaint};
-ghost use Rattle.farm_answers.specs.Texts.{bad_jobs_status, cycle_text, job_text, needs_fault_text, no_memory_text};
+ghost use Rattle.farm_answers.specs.Texts.{cycle_text, job_text, needs_fault_text, no_memory_text};
 
-use crate::refuse::{BAD_JOBS, NO_MEMORY_TEXT, refuse_by, want_memory};
+use crate::refuse::{NO_MEMORY_TEXT, refuse_by, want_memory};
 use edge_traits::Sink;
 use farm_types::Bytes;
+use farm_types::exits::BAD_TEXT;
 use job_graph::{GraphFault, Numbers};
 use std::alloc::{AllocError, Global};
 use stream_print::complain;
@@ -20,13 +22,13 @@ pub fn refuse_needs<O: Sink, E: Sink>(
     out: &mut O,
     err: &mut E,
 ) -> u8
-    ensures { Printing no_memory_text (complaint (needs_fault_text line fault) ∷ []) bad_jobs_status
+    ensures { Printing no_memory_text (complaint (needs_fault_text line fault) ∷ []) bad_text_status
         (sinks_view O.shows E.shows out.old err.old)
         (sinks_view O.shows E.shows out.new err.new) result }
 {
     let fault = fault.number();
     let text = format!(in alloc; "farm: needs: fault {fault} at line {line}\n");
-    refuse_by(text, BAD_JOBS, out, err)
+    refuse_by(text, BAD_TEXT, out, err)
 }
 
 // Adds the printed number of a job.
@@ -57,12 +59,12 @@ pub fn refuse_cycle<O: Sink, E: Sink>(
     out: &mut O,
     err: &mut E,
 ) -> u8
-    ensures { Printing no_memory_text (complaint (cycle_text cycle.now) ∷ []) bad_jobs_status
+    ensures { Printing no_memory_text (complaint (cycle_text cycle.now) ∷ []) bad_text_status
         (sinks_view O.shows E.shows out.old err.old)
         (sinks_view O.shows E.shows out.new err.new) result }
 {
     match cycle_line(alloc, cycle.as_slice()) {
-        Ok(text) => complain(text.as_slice(), BAD_JOBS, NO_MEMORY_TEXT, out, err),
+        Ok(text) => complain(text.as_slice(), BAD_TEXT, NO_MEMORY_TEXT, out, err),
         Err(_) => want_memory(out, err),
     }
 }

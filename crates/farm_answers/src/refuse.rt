@@ -1,27 +1,17 @@
 //! How `farm` ends where it does nothing.
 
 ghost use Rattle.std.specs.Prelude.{◌≡◌, ℕ, List, [], ◌∷◌, IfOk, string_bytes};
+ghost use Rattle.farm_types.specs.Exits.{bad_words_status, bad_hosts_status, fault_status, bad_text_status};
 ghost use Rattle.stream_print.specs.Prints.{sinks_view};
 ghost use Rattle.stream_print.specs.Printing.{Printing, WantOf, complaint};
-ghost use Rattle.farm_answers.specs.Texts.{bad_hosts_status, bad_jobs_status, bad_period_text, bad_words_status, bad_words_text, cannot_read_status, cannot_read_text, host_fault_text, job_fault_text, no_memory_text};
+ghost use Rattle.farm_answers.specs.Texts.{bad_period_text, bad_words_text, cannot_read_text, host_fault_text, job_fault_text, no_memory_text};
 
 use edge_traits::Sink;
+use farm_types::exits::{BAD_HOSTS, BAD_TEXT, BAD_WORDS, FAULT};
 use host_list::HostFault;
 use job_list::JobFault;
 use std::alloc::{AllocError, Global};
 use stream_print::{complain, no_memory};
-
-/// The exit status for words that don't fit.
-pub const BAD_WORDS: u8 = 101;
-
-/// The exit status where the host list has a fault.
-pub const BAD_HOSTS: u8 = 106;
-
-/// The exit status where the input could not be read.
-pub const CANNOT_READ: u8 = 107;
-
-/// The exit status where the job list has a fault.
-pub const BAD_JOBS: u8 = 109;
 
 /// What is printed where memory is wanting outside a job.
 pub const NO_MEMORY_TEXT: &[u8] = b"farm: no memory\n";
@@ -69,13 +59,13 @@ pub fn refuse_period<O: Sink, E: Sink>(out: &mut O, err: &mut E) -> u8
 
 /// Refuses an input that could not be read.
 pub fn refuse_unread<O: Sink, E: Sink>(out: &mut O, err: &mut E) -> u8
-    ensures { Printing no_memory_text (complaint cannot_read_text ∷ []) cannot_read_status
+    ensures { Printing no_memory_text (complaint cannot_read_text ∷ []) fault_status
         (sinks_view O.shows E.shows out.old err.old)
         (sinks_view O.shows E.shows out.new err.new) result }
 {
     complain(
         b"farm: cannot read the job list\n",
-        CANNOT_READ,
+        FAULT,
         NO_MEMORY_TEXT,
         out,
         err,
@@ -117,11 +107,11 @@ pub fn refuse_job_list<O: Sink, E: Sink>(
     out: &mut O,
     err: &mut E,
 ) -> u8
-    ensures { Printing no_memory_text (complaint (job_fault_text line fault) ∷ []) bad_jobs_status
+    ensures { Printing no_memory_text (complaint (job_fault_text line fault) ∷ []) bad_text_status
         (sinks_view O.shows E.shows out.old err.old)
         (sinks_view O.shows E.shows out.new err.new) result }
 {
     let fault = fault.number();
     let text = format!(in alloc; "farm: job list: fault {fault} at line {line}\n");
-    refuse_by(text, BAD_JOBS, out, err)
+    refuse_by(text, BAD_TEXT, out, err)
 }

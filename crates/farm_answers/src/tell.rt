@@ -8,9 +8,10 @@ ghost use Rattle.farm_answers.specs.Texts.{no_memory_text, output, rehearsal_tex
 
 use crate::refuse::want_memory;
 use edge_traits::Sink;
+use farm_types::exits::STOPPED;
 use farm_words::{CommandName, help_text, version_text};
 use std::alloc::Global;
-use stream_print::{PrintStop, STOPPED, print};
+use stream_print::{PrintStop, print};
 
 /// The exit status where everything was done.
 const DONE: u8 = 0;

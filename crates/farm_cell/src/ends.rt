@@ -1,5 +1,6 @@
 //! The first and the last call of the shared slots.
 ghost use Rattle.std.specs.Prelude.{◌≡◌, ◌<◌, ◌≤◌, [], All, IfOk};
+ghost use Rattle.farm_types.specs.Limits.{workers_max};
 ghost use Rattle.crossbeam_utils.specs.Seq.{cell_view};
 ghost use Rattle.slot_table.specs.Limits.{AreValid};
 ghost use Rattle.slot_table.specs.History.{IsLegal, state_after, outstanding};
@@ -65,7 +66,7 @@ impl Cell<16, 34> {
         callers: u32,
     ) -> Result<(Cell<16, 34>, Passes), AllocError>
         requires limits { AreValid limits }
-        requires callers { (0 < callers) × (callers ≤ 16) }
+        requires callers { (0 < callers) × (callers ≤ workers_max) }
         ensures limits { IfOk result (λ made. limits_of made.0 ≡ limits) }
         ensures callers { IfOk result (λ made. callers_of made.0 ≡ callers) }
         ensures passes { IfOk result (λ made. AreAllOf made.0 made.1.items) }

@@ -3,14 +3,12 @@
 
 use compile_database::farm_jobs;
 use edge_real::{StdSink, StdSource};
+use farm_types::exits::NO_MEMORY;
 use kept_input::KeptSource;
 use std::alloc::AllocError;
 use std::env;
 use std::io::Eprint;
 use std::process::ExitCode;
-
-/// The exit status for want of memory.
-const NO_MEMORY: u8 = 105;
 
 // The words of the command line. Where one isn't UTF-8, they are one empty word, which is refused.
 fn words_of(rt: &HostRuntime) -> Result<Vec<String>, AllocError> {

@@ -1,5 +1,6 @@
 -- Which jobs can be done, and which configurations can be used.
 use Rattle.std.specs.Prelude.{ℕ, ◌<◌, ◌≤◌, List, [], All, length, slice_index_or}
+use Rattle.farm_types.specs.Limits.{jobs_max, hosts_max}
 use Rattle.farm_types.specs.declared.hosts.Hosts.{Hosts}
 use Rattle.farm_types.specs.declared.jobs.JobConfig.{JobConfig}
 use Rattle.farm_machine.specs.Jobs.{Job, job_of}
@@ -11,12 +12,12 @@ job_at jobs config number = job_of (slice_index_or jobs number []) config
 -- 1 to 512 jobs, each with a word
 pub record AreDoable (jobs : List (List (List ℕ))) : Type 0 where
   pub some : 1 ≤ length jobs
-  pub most : length jobs ≤ 512
+  pub most : length jobs ≤ jobs_max
   pub words : All (λ words. 0 < length words) jobs
 
 -- at most 16 entries, each with a slot, and a local slot
 pub record AreUsable (hosts : Hosts) : Type 0 where
-  pub few : length hosts.list ≤ 16
+  pub few : length hosts.list ≤ hosts_max
   pub slots : All (λ host. 1 ≤ host.limit) hosts.list
   pub local_slots : 1 ≤ hosts.local_slots
 
@@ -24,4 +25,4 @@ pub record AreUsable (hosts : Hosts) : Type 0 where
 pub record IsUsable (config : JobConfig) : Type 0 where
   pub hosts : AreUsable config.hosts
   pub some : 1 ≤ config.tries
-  pub tries : config.tries ≤ 16
+  pub tries : config.tries ≤ hosts_max

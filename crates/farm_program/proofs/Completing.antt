@@ -1,6 +1,7 @@
 -- Where source and sinks do nothing wrong, a build is completed, or memory was wanting.
 use Rattle.std.proofs.Common.{◌≡◌, ◌⊎◌, ◌≤◌, ℕ, IsTrue, List, ◌++◌, ◌∙◌, length, sym, ap, subst, refl, inl, inr, arith}
 use Rattle.std.proofs.lemmas.List.{append-nil, length-append}
+use Rattle.farm_types.specs.Exits.{memory_status}
 use Rattle.farm_types.specs.declared.hosts.Hosts.{Hosts}
 use Rattle.farm_types.specs.declared.jobs.JobConfig.{JobConfig}
 use Rattle.edge_traits.specs.Sources.{SourceView}
@@ -8,7 +9,7 @@ use Rattle.stream_print.specs.declared.pieces.SinkKind.{SinkKind}
 use Rattle.stream_print.specs.declared.pieces.SinkKind.TheVariants.{Out, Err as ErrSink}
 use Rattle.stream_print.specs.declared.pieces.Piece.{Piece}
 use Rattle.stream_print.specs.Prints.{SinksView, DidStop, DidStopOn, Printed}
-use Rattle.stream_print.specs.Printing.{Printing, all_printed, sink_stopped, memory_wanted, memory_status}
+use Rattle.stream_print.specs.Printing.{Printing, all_printed, sink_stopped, memory_wanted}
 use Rattle.stream_print.specs.Printing.{WantTold, told_whole, told_stopped}
 use Rattle.stream_print.specs.Printing.{told_wanted}
 use Rattle.stream_print.specs.Reads.{AllRead}

@@ -1,8 +1,8 @@
 -- Where source and sinks do nothing wrong, all levels of a graph are run, or memory was wanting.
 use Rattle.std.proofs.Common.{◌≡◌, ◌⊎◌, ◌≤◌, ℕ, IsTrue, List, [], ◌++◌, length, sym, ap, subst, inl, inr, arith, Ok, Err}
 use Rattle.std.proofs.lemmas.List.{length-append}
+use Rattle.farm_types.specs.Exits.{memory_status}
 use Rattle.farm_types.specs.declared.jobs.JobConfig.{JobConfig}
-use Rattle.stream_print.specs.Printing.{memory_status}
 use Rattle.stream_print.specs.Reads.{AllRead}
 use Rattle.farm_machine.specs.Devices.{Devices}
 use Rattle.job_list.specs.declared.fault.JobFault.{JobFault}

@@ -1,5 +1,6 @@
 -- What `build` and `cc` do, once words, environment and host list are right.
 use Rattle.std.specs.Prelude.{◌≡◌, ℕ, min, Bool, List, [], ◌∷◌, length}
+use Rattle.farm_types.specs.Exits.{fault_status, bad_text_status}
 use Rattle.farm_types.specs.declared.hosts.Hosts.{Hosts}
 use Rattle.farm_types.specs.declared.jobs.JobConfig.{JobConfig}
 use Rattle.edge_traits.specs.Causes.{Still}
@@ -18,7 +19,7 @@ use Rattle.report_text.specs.Pieces.{pieces, command_pieces}
 use Rattle.report_text.specs.Numbers.{number}
 use Rattle.stream_print.specs.Prints.{SinksView}
 use Rattle.stream_print.specs.Printing.{Printing, WantOf}
-use Rattle.farm_answers.specs.Texts.{bad_jobs_status, cannot_read_status, cannot_read_text, job_fault_text, no_memory_text}
+use Rattle.farm_answers.specs.Texts.{cannot_read_text, job_fault_text, no_memory_text}
 use Rattle.farm_program.specs.Worlds.{World, WithoutJobs, Refused}
 
 -- how jobs are run
@@ -70,9 +71,9 @@ pub record Wanted {K : Type 0} (old new : World K) (answer : ℕ) : Type 0 where
 -- No job was run: what was read of the input has a fault of a job list, or it couldn't be read, or memory was wanting. What the input is
 -- and how far it could be read tell the first two from a build; the last is free.
 pub data NoneRan {K : Type 0} (HasFault : ℕ → JobFault → Type 0) (old new : World K) (answer : ℕ) : Type 0 where
-  faulty : {line : ℕ} {fault : JobFault} → HasFault line fault → Refused (job_fault_text line fault) bad_jobs_status old new answer
+  faulty : {line : ℕ} {fault : JobFault} → HasFault line fault → Refused (job_fault_text line fault) bad_text_status old new answer
       → NoneRan HasFault old new answer
-  unread : BrokeOff input_limit old.source new.source → Refused cannot_read_text cannot_read_status old new answer
+  unread : BrokeOff input_limit old.source new.source → Refused cannot_read_text fault_status old new answer
       → NoneRan HasFault old new answer
   wanted : Wanted old new answer → NoneRan HasFault old new answer
 

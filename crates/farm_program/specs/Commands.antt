@@ -1,5 +1,6 @@
 -- What each command of `farm` does.
 use Rattle.std.specs.Prelude.{◌≡◌, ℕ, true, List, [], ◌∷◌, None}
+use Rattle.farm_types.specs.Exits.{bad_words_status, bad_hosts_status}
 use Rattle.farm_types.specs.declared.jobs.JobConfig.{JobConfig}
 use Rattle.farm_types.specs.declared.hosts.Hosts.{Hosts}
 use Rattle.host_list.specs.declared.fault.HostFault.{HostFault}
@@ -10,7 +11,7 @@ use Rattle.farm_words.specs.Environment.{host_text_of, is_fallback_on, PeriodOf,
 use Rattle.farm_words.specs.Help.{help_of}
 use Rattle.farm_machine.specs.Devices.{Devices}
 use Rattle.stream_print.specs.Printing.{complaint, Printing, WantOf}
-use Rattle.farm_answers.specs.Texts.{bad_hosts_status, bad_period_text, bad_words_status, host_fault_text, no_memory_text, output, version_text}
+use Rattle.farm_answers.specs.Texts.{bad_period_text, host_fault_text, no_memory_text, output, version_text}
 use Rattle.farm_answers.specs.Lines.{class_line}
 use Rattle.farm_answers.specs.ByHosts.{ByHosts}
 use Rattle.farm_program.specs.Worlds.{World, Untouched, OnlyPrinted}

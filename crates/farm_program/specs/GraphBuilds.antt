@@ -1,5 +1,6 @@
 -- What `graph` does, once words, environment and host list are right.
 use Rattle.std.specs.Prelude.{◌≡◌, ℕ, ◌<◌, List, [], ◌∷◌, All}
+use Rattle.farm_types.specs.Exits.{bad_text_status}
 use Rattle.farm_types.specs.declared.jobs.JobConfig.{JobConfig}
 use Rattle.edge_traits.specs.Sources.{SourceView}
 use Rattle.stream_print.specs.Reads.{AllRead}
@@ -13,7 +14,7 @@ use Rattle.job_graph.specs.Lines.{cut_text}
 use Rattle.job_graph.specs.Graphs.{GraphOf, NeedsFaultStands, CycleStands}
 use Rattle.stream_print.specs.Prints.{SinksView}
 use Rattle.stream_print.specs.Printing.{complaint, Printing, WantOf}
-use Rattle.farm_answers.specs.Texts.{bad_jobs_status, cycle_text, job_fault_text}
+use Rattle.farm_answers.specs.Texts.{cycle_text, job_fault_text}
 use Rattle.farm_answers.specs.Texts.{needs_fault_text, no_memory_text}
 use Rattle.farm_program.specs.Worlds.{World, Refused}
 use Rattle.farm_program.specs.Builds.{HasFaultOf, NoneRan}
@@ -78,9 +79,9 @@ pub data BuildsGraph {K : Type 0} (d : Devices K) (config : JobConfig) (most : �
   graph_built : GraphBuilt d config most old new answer → BuildsGraph d config most old new answer
   none_ran : NoneRan (HasJobsFault old.source new.source) old new answer → BuildsGraph d config most old new answer
   needs_faulty : {text : List ℕ} {line : ℕ} {fault : GraphFault} → AllRead old.source new.source text → NeedsFaultStands text line fault
-      → Refused (needs_fault_text line fault) bad_jobs_status old new answer → BuildsGraph d config most old new answer
+      → Refused (needs_fault_text line fault) bad_text_status old new answer → BuildsGraph d config most old new answer
   cyclic : {text cycle : List ℕ} → AllRead old.source new.source text → CycleStands text cycle
-      → Refused (cycle_text cycle) bad_jobs_status old new answer → BuildsGraph d config most old new answer
+      → Refused (cycle_text cycle) bad_text_status old new answer → BuildsGraph d config most old new answer
   cut_short : GraphCutShort d config most old new answer → BuildsGraph d config most old new answer
 
 -- the rest of it, once the whole text was read
@@ -91,13 +92,13 @@ pub data RunsGraph {K : Type 0} (d : Devices K) (config : JobConfig) (most : ℕ
   text_cut : {graph : Graph} → GraphOf text graph → LevelsCut d config most graph old_kits new_kits made old new answer
       → RunsGraph d config most text old_kits new_kits made old new answer
   text_jobs : {line : ℕ} {fault : JobFault} → JobFaultStands (cut_text text) line fault → new_kits ≡ old_kits → made ≡ []
-      → Printing no_memory_text (complaint (job_fault_text line fault) ∷ []) bad_jobs_status old new answer
+      → Printing no_memory_text (complaint (job_fault_text line fault) ∷ []) bad_text_status old new answer
       → RunsGraph d config most text old_kits new_kits made old new answer
   text_needs : {line : ℕ} {fault : GraphFault} → NeedsFaultStands text line fault → new_kits ≡ old_kits → made ≡ []
-      → Printing no_memory_text (complaint (needs_fault_text line fault) ∷ []) bad_jobs_status old new answer
+      → Printing no_memory_text (complaint (needs_fault_text line fault) ∷ []) bad_text_status old new answer
       → RunsGraph d config most text old_kits new_kits made old new answer
   text_cycle : {cycle : List ℕ} → CycleStands text cycle → new_kits ≡ old_kits → made ≡ []
-      → Printing no_memory_text (complaint (cycle_text cycle) ∷ []) bad_jobs_status old new answer
+      → Printing no_memory_text (complaint (cycle_text cycle) ∷ []) bad_text_status old new answer
       → RunsGraph d config most text old_kits new_kits made old new answer
   text_wanted : new_kits ≡ old_kits → made ≡ [] → WantOf no_memory_text [] old new answer
       → RunsGraph d config most text old_kits new_kits made old new answer

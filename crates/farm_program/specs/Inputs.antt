@@ -1,5 +1,6 @@
 -- What was read of an input, and why there is nothing to run.
 use Rattle.std.specs.Prelude.{◌≡◌, ℕ, List, [], ◌∷◌}
+use Rattle.farm_types.specs.Exits.{fault_status, bad_text_status}
 use Rattle.edge_traits.specs.Causes.{Still}
 use Rattle.edge_traits.specs.Sources.{SourceView}
 use Rattle.stream_print.specs.Reads.{AllRead, ReadTo, BrokeOff}
@@ -8,7 +9,7 @@ use Rattle.job_list.specs.declared.fault.JobFault.TheVariants.{TooLong}
 use Rattle.job_list.specs.Jobs.{JobsOf}
 use Rattle.stream_print.specs.Prints.{SinksView}
 use Rattle.stream_print.specs.Printing.{complaint, Printing, WantOf}
-use Rattle.farm_answers.specs.Texts.{bad_jobs_status, cannot_read_status, cannot_read_text, job_fault_text, no_memory_text}
+use Rattle.farm_answers.specs.Texts.{cannot_read_text, job_fault_text, no_memory_text}
 use Rattle.farm_program.specs.declared.input.InputError.{InputError}
 use Rattle.farm_program.specs.declared.input.InputError.TheVariants.{Jobs, Unread, Memory}
 use Rattle.farm_program.specs.Builds.{input_limit}
@@ -34,6 +35,6 @@ pub record IsTooLong (old new : SourceView) (line : ℕ) (fault : JobFault) : Ty
 -- what was to be printed of it, and the status
 abbrev pub InputRefused : InputError → SinksView → SinksView → ℕ → Type 0
 InputRefused (Jobs line fault) old new answer =
-    Printing no_memory_text (complaint (job_fault_text line fault) ∷ []) bad_jobs_status old new answer
-InputRefused Unread old new answer = Printing no_memory_text (complaint cannot_read_text ∷ []) cannot_read_status old new answer
+    Printing no_memory_text (complaint (job_fault_text line fault) ∷ []) bad_text_status old new answer
+InputRefused Unread old new answer = Printing no_memory_text (complaint cannot_read_text ∷ []) fault_status old new answer
 InputRefused Memory old new answer = WantOf no_memory_text [] old new answer

@@ -1,5 +1,6 @@
 -- How the jobs of a command are run, by its options and the variables of the environment.
 use Rattle.std.specs.Prelude.{◌≡◌, ℕ, List, [], ◌∷◌}
+use Rattle.farm_types.specs.Exits.{bad_words_status, bad_hosts_status}
 use Rattle.farm_types.specs.declared.hosts.Hosts.{Hosts}
 use Rattle.farm_types.specs.declared.jobs.JobConfig.{JobConfig}
 use Rattle.host_list.specs.HostLists.{HostListOf, HostFaultStands}
@@ -7,7 +8,7 @@ use Rattle.farm_words.specs.Options.{Given, try_count}
 use Rattle.farm_words.specs.Environment.{host_text_of, is_fallback_on, PeriodOf, HasBadPeriod}
 use Rattle.stream_print.specs.Prints.{SinksView}
 use Rattle.stream_print.specs.Printing.{complaint, Printing, WantOf}
-use Rattle.farm_answers.specs.Texts.{bad_hosts_status, bad_period_text, bad_words_status, host_fault_text, no_memory_text}
+use Rattle.farm_answers.specs.Texts.{bad_period_text, host_fault_text, no_memory_text}
 use Rattle.farm_program.specs.declared.settings.ConfigError.{ConfigError}
 use Rattle.farm_program.specs.declared.settings.ConfigError.TheVariants as config_error
 use Rattle.farm_program.specs.Builds.{config_of}

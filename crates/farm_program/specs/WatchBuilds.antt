@@ -1,5 +1,6 @@
 -- What `watch` does, once words, environment and host list are right.
 use Rattle.std.specs.Prelude.{◌≡◌, ℕ, ◌+◌, ◌-◌, ◌≤◌, min, Bool, true, List, [], ◌∷◌, ◌++◌, length}
+use Rattle.farm_types.specs.Exits.{stopped_status}
 use Rattle.farm_types.specs.declared.jobs.JobConfig.{JobConfig}
 use Rattle.farm_types.specs.declared.hosts.Host.{Host}
 use Rattle.farm_cell.specs.Passes.{seen_of}
@@ -15,7 +16,7 @@ use Rattle.report_text.specs.Pieces.{pieces}
 use Rattle.report_text.specs.Numbers.{number}
 use Rattle.stream_print.specs.declared.pieces.Piece.{Piece}
 use Rattle.stream_print.specs.Prints.{SinksView}
-use Rattle.stream_print.specs.Printing.{complaint, stopped_status, Printing, WantOf}
+use Rattle.stream_print.specs.Printing.{complaint, Printing, WantOf}
 use Rattle.watch_lines.specs.declared.count.Count.{Count}
 use Rattle.watch_lines.specs.declared.line_end.LineEnd.{LineEnd}
 use Rattle.watch_lines.specs.declared.line_end.LineEnd.TheVariants.{Whole, SinkFault, Memory}

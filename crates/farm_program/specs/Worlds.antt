@@ -1,5 +1,6 @@
 -- What the devices of the whole program show, what was built, and how a call ends that does no job.
 use Rattle.std.specs.Prelude.{◌≡◌, ℕ, ◌≤◌, List, [], ◌∷◌, All, length}
+use Rattle.farm_types.specs.Limits.{workers_max}
 use Rattle.edge_traits.specs.Sources.{SourceView}
 use Rattle.edge_traits.specs.Sinks.{SinkView}
 use Rattle.stream_print.specs.declared.pieces.Piece.{Piece}
@@ -41,5 +42,5 @@ pub record Refused {K : Type 0} (text : List ℕ) (status : ℕ) (old new : Worl
 -- so many kits at least, no more than 16 of them, and each can be used
 pub record AreReady {K : Type 0} (least : ℕ) (IsReady : K → Type 0) (kits : List K) : Type 0 where
   pub enough : least ≤ length kits
-  pub most : length kits ≤ 16
+  pub most : length kits ≤ workers_max
   pub ready : All IsReady kits

@@ -1,6 +1,7 @@
 //! What became of the jobs of a graph is printed job by job, each text made when it is needed.
 
 ghost use Rattle.std.specs.Prelude.{◌≡◌, ◌≤◌, ◌∷◌, [], length, OnOk, IfErr};
+ghost use Rattle.farm_types.specs.Limits.{jobs_max};
 ghost use Rattle.stream_print.specs.Prints.{sinks_view, Printed, BothGoOn};
 ghost use Rattle.stream_print.specs.Printing.{Printing, PrintedFront};
 ghost use Rattle.farm_answers.specs.Texts.{no_memory_text};
@@ -11,10 +12,11 @@ use crate::report::print_job;
 use edge_traits::Sink;
 use farm_answers::want_memory;
 use farm_types::Hosts;
+use farm_types::exits::STOPPED;
 use job_driver::Built;
 use report_text::skipped;
 use std::alloc::Global;
-use stream_print::{Piece, PrintStop, STOPPED, SinkKind, print_piece};
+use stream_print::{Piece, PrintStop, SinkKind, print_piece};
 
 // Prints the line of a job that was left out.
 fn print_skip<O: Sink, E: Sink>(
@@ -82,7 +84,7 @@ fn print_outcomes<O: Sink, E: Sink>(
     out: &mut O,
     err: &mut E,
 ) -> Result<(), PrintStop>
-    requires few { length states.now ≤ 512 }
+    requires few { length states.now ≤ jobs_max }
     ensures all { OnOk result (Printed (sinks_view O.shows E.shows out.old err.old)
         (sinks_view O.shows E.shows out.new err.new)
         (pieces_from hosts.now.list 0 (outcomes_in built.now states.now))) }
@@ -113,7 +115,7 @@ fn print_graph_total<O: Sink, E: Sink>(
     out: &mut O,
     err: &mut E,
 ) -> Result<(), PrintStop>
-    requires few { length states.now ≤ 512 }
+    requires few { length states.now ≤ jobs_max }
     ensures all { OnOk result (Printed (sinks_view O.shows E.shows out.old err.old)
         (sinks_view O.shows E.shows out.new err.new) (graph_total (outcomes_in built.now states.now) ∷ [])) }
     ensures front { IfErr result (λ stop. PrintedFront (graph_total (outcomes_in built.now states.now) ∷ []) stop
@@ -143,7 +145,7 @@ fn print_graph<O: Sink, E: Sink>(
     out: &mut O,
     err: &mut E,
 ) -> Result<(), PrintStop>
-    requires few { length states.now ≤ 512 }
+    requires few { length states.now ≤ jobs_max }
     ensures all { OnOk result (Printed (sinks_view O.shows E.shows out.old err.old)
         (sinks_view O.shows E.shows out.new err.new) (graph_pieces hosts.now.list (outcomes_in built.now states.now))) }
     ensures front { IfErr result (λ stop. PrintedFront (graph_pieces hosts.now.list (outcomes_in built.now states.now)) stop
@@ -171,7 +173,7 @@ pub fn finish_graph<O: Sink, E: Sink>(
     out: &mut O,
     err: &mut E,
 ) -> u8
-    requires few { length states.now ≤ 512 }
+    requires few { length states.now ≤ jobs_max }
     ensures { Printing no_memory_text (graph_pieces hosts.now.list (outcomes_in built.now states.now))
         (graph_number (outcomes_in built.now states.now))
         (sinks_view O.shows E.shows out.old err.old)

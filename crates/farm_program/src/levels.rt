@@ -1,6 +1,7 @@
 //! A graph's jobs are run level by level.
 
 ghost use Rattle.std.specs.Prelude.{◌≡◌, ◌+◌, ◌<◌, ◌≤◌, [], All, IfOk, OnOk, OnErr, List, length, slice_index_or};
+ghost use Rattle.farm_types.specs.Limits.{jobs_max};
 ghost use Rattle.edge_traits.specs.Keepers.{IsIdle};
 ghost use Rattle.edge_traits.specs.declared.kit.Kit.{Kit};
 ghost use Rattle.farm_machine.specs.Devices.{devices};
@@ -93,7 +94,7 @@ where
     D::Link: Send,
     requires plan { IsPlan plan.graph.now plan.config.now plan.most }
     requires within { All (λ job. job < length plan.graph.now.jobs) run.now }
-    requires few { length run.now ≤ 512 }
+    requires few { length run.now ≤ jobs_max }
     requires long { length progress.old.states.items ≡ length plan.graph.now.jobs }
     requires kits { AreReady 1 (λ kit. IsIdle (K.shows kit.keeper)) kits.old.items }
     ensures ran { OnOk result (WaveRan (devices D.shows S.shows K.shows C.shows D.may_give S.ran)

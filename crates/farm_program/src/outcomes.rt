@@ -2,18 +2,17 @@
 
 ghost use Rattle.std.specs.Prelude.{◌≡◌, ◌<◌, ◌≤◌, All, IfOk, length, count_by};
 ghost use Rattle.std.specs.Option.{option_copied};
+ghost use Rattle.farm_types.specs.Limits.{jobs_max};
 ghost use Rattle.farm_program.specs.Outcomes as outcomes;
 ghost use Rattle.farm_program.specs.Outcomes.{fate_of, fates_of, graph_number, graph_total_text, outcome_in, outcome_number, outcomes_in, with_run, with_skips};
 
 use farm_machine::Report;
 use farm_types::Bytes;
+use farm_types::exits::SKIPPED;
 use job_driver::Built;
 use job_graph::{Fate, FateList};
 use report_text::{is_done, number_of, total_of};
 use std::alloc::{AllocError, Global};
-
-/// The number of a job that was left out, as an exit status.
-const SKIPPED: u8 = 117;
 
 /// What became of a job.
 #[derive(Clone, Copy, Debug)]
@@ -125,7 +124,7 @@ fn count_good(built: &[Built], states: &[State]) -> usize
 
 /// The line of the total over all jobs.
 pub fn graph_total(alloc: Global, built: &[Built], states: &[State]) -> Result<Bytes, AllocError>
-    requires few { length states.now ≤ 512 }
+    requires few { length states.now ≤ jobs_max }
     ensures { IfOk result (λ text. text ≡ graph_total_text (outcomes_in built.now states.now)) }
 {
     let good = count_good(built, states);

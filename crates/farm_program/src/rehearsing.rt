@@ -1,5 +1,6 @@
 //! A rehearsal, and what it tells.
 ghost use Rattle.std.specs.Prelude.{◌≤◌};
+ghost use Rattle.farm_types.specs.Limits.{jobs_max};
 ghost use Rattle.stream_print.specs.Prints.{sinks_view};
 ghost use Rattle.farm_program.specs.Rehearsed.{PrintsCount, Rehearses};
 
@@ -38,7 +39,7 @@ pub fn run_rehearsal<T: Threads + Wait + Sync, O: Sink, E: Sink>(
     err: &mut E,
 ) -> Ended
     requires some { 1 ≤ jobs }
-    requires most { jobs ≤ 512 }
+    requires most { jobs ≤ jobs_max }
     ensures { Rehearses jobs result.built (sinks_view O.shows E.shows out.old err.old)
         (sinks_view O.shows E.shows out.new err.new) result.status }
 {

@@ -12,9 +12,10 @@ use edge_traits::Sink;
 use farm_answers::{NO_MEMORY_TEXT, want_memory};
 use farm_machine::{Report, ReportList};
 use farm_types::Hosts;
+use farm_types::exits::STOPPED;
 use report_text::{command_lines, lines_at, status, total};
 use std::alloc::Global;
-use stream_print::{Piece, PrintStop, STOPPED, SinkKind, finish, print_all, print_piece};
+use stream_print::{Piece, PrintStop, SinkKind, finish, print_all, print_piece};
 
 /// Prints the pieces of one job, whose line is that of this place.
 pub fn print_job<O: Sink, E: Sink>(

@@ -1,12 +1,14 @@
 //! The public call of the program.
 ghost use Rattle.std.specs.Prelude.{◌≡◌, ◌≤◌, ◌⊎◌, IsTrue, false, ℕ, List, [], map, string_bytes, length, All};
+ghost use Rattle.farm_types.specs.Exits.{bad_words_status, memory_status};
+ghost use Rattle.farm_types.specs.Limits.{workers_max};
 ghost use Rattle.farm_types.specs.declared.jobs.JobConfig.{JobConfig};
 ghost use Rattle.edge_traits.specs.Keepers.{IsIdle};
-ghost use Rattle.stream_print.specs.Printing.{complaint, memory_status};
+ghost use Rattle.stream_print.specs.Printing.{complaint};
 ghost use Rattle.farm_machine.specs.Devices.{devices};
 ghost use Rattle.job_list.specs.Jobs.{JobsOf};
 ghost use Rattle.farm_words.specs.Commands.{BadAt, IsCommand, Meaning, meaning};
-ghost use Rattle.farm_answers.specs.Texts.{bad_words_status, bad_words_text};
+ghost use Rattle.farm_answers.specs.Texts.{bad_words_text};
 ghost use Rattle.farm_program.specs.Worlds.{AreReady, world, OnlyPrinted};
 ghost use Rattle.farm_program.specs.Smooth.{IsSmooth, Completed, WatchCompleted};
 ghost use Rattle.farm_words.specs.Within.{IsWithin};
@@ -128,7 +130,7 @@ where
     D::Link: Send,
     requires input { (R.shows input.old).ended ≡ false }
     requires some { 1 ≤ length kits.old.items }
-    requires most { length kits.old.items ≤ 16 }
+    requires most { length kits.old.items ≤ workers_max }
     requires idle { All (λ kit. IsIdle (K.shows kit.keeper)) kits.old.items }
     requires out { (O.shows out.old).stopped ≡ false }
     requires err { (E.shows err.old).stopped ≡ false }

@@ -15,12 +15,12 @@ use crate::report::finish_build;
 use edge_traits::{Clock, Dialer, Keeper, Kit, Sink, Source, Station};
 use farm_answers::want_memory;
 use farm_machine::ReportList;
+use farm_types::exits::STOPPED;
 use farm_types::{Hosts, JobConfig, Jobs};
 use job_driver::{LineEnd, build_watched};
 use std::alloc::{AllocError, Global};
 use std::sync::Wait;
 use std::thread::Threads;
-use stream_print::STOPPED;
 
 /// How jobs are run, by how many workers at most, and how many lines tell of them.
 #[derive(Clone, Copy)]

@@ -1,6 +1,7 @@
 //! Devices of a run of `farm`, and what is seen after it.
 
 ghost use Rattle.std.specs.Prelude.{◌≡◌, ◌≤◌, false, length, All, IfOk};
+ghost use Rattle.farm_types.specs.Limits.{workers_max};
 ghost use Rattle.edge_traits.specs.Keepers.{IsIdle};
 ghost use Rattle.edge_traits.specs.Told.{told};
 ghost use Rattle.edge_memory.specs.Keepers.{keeper_state, keeper_shows};
@@ -193,7 +194,7 @@ pub(crate) fn kit(alloc: Global, script: &Script) -> Result<MemKit, AllocError>
 /// So many kits of a script, but 1 at least and 16 at most.
 pub(crate) fn kits(alloc: Global, script: &Script) -> Result<Vec<MemKit>, AllocError>
     ensures some { IfOk result (λ kits. 1 ≤ length kits.items) }
-    ensures most { IfOk result (λ kits. length kits.items ≤ 16) }
+    ensures most { IfOk result (λ kits. length kits.items ≤ workers_max) }
     ensures idle { IfOk result (λ kits. All (λ kit. IsIdle (keeper_shows (keeper_state kit.keeper))) kits.items) }
 {
     let count = kit_count(script.kits);
@@ -317,7 +318,7 @@ pub(crate) fn call<
 where
     D::Link: Send,
     requires some { 1 ≤ length kits.old.items }
-    requires most { length kits.old.items ≤ 16 }
+    requires most { length kits.old.items ≤ workers_max }
     requires idle { All (λ kit. IsIdle (K.shows kit.keeper)) kits.old.items }
     requires out { (O.shows out.old).stopped ≡ false }
     requires err { (E.shows err.old).stopped ≡ false }
@@ -354,7 +355,7 @@ pub(crate) fn told<
 where
     D::Link: Send,
     requires some { 1 ≤ length kits.old.items }
-    requires most { length kits.old.items ≤ 16 }
+    requires most { length kits.old.items ≤ workers_max }
     requires idle { All (λ kit. IsIdle (K.shows kit.keeper)) kits.old.items }
 {
     let mut out = Page::new(alloc);

@@ -1,6 +1,7 @@
 //! Devices of a kit, as the tests begin with them, and kits of a loop.
 
 ghost use Rattle.std.specs.Prelude.{◌≤◌, length, All, IfOk};
+ghost use Rattle.farm_types.specs.Limits.{workers_max};
 ghost use Rattle.edge_traits.specs.Keepers.{IsIdle};
 ghost use Rattle.edge_memory.specs.Keepers.{keeper_state, keeper_shows};
 ghost use Rattle.rehearsal.specs.Loops.{IsLoop};
@@ -28,7 +29,7 @@ pub fn standing_clock(alloc: Global) -> MemClock {
 /// So many, but 1 at least and 16 at most.
 pub fn kit_count(asked: usize) -> usize
     ensures some { 1 ≤ result }
-    ensures most { result ≤ 16 }
+    ensures most { result ≤ workers_max }
 {
     if asked == 0 {
         1

@@ -1,6 +1,7 @@
 //! `farm` over its own daemon: each kit has a loop to the sample compiler.
 
 ghost use Rattle.std.specs.Prelude.{◌≤◌, length, All, IfOk};
+ghost use Rattle.farm_types.specs.Limits.{workers_max};
 ghost use Rattle.edge_traits.specs.Keepers.{IsIdle};
 ghost use Rattle.edge_memory.specs.Keepers.{keeper_state, keeper_shows};
 
@@ -63,9 +64,9 @@ fn loop_kit(alloc: Global) -> Result<LoopKit, AllocError>
 
 fn loop_kits(alloc: Global, count: usize) -> Result<Vec<LoopKit>, AllocError>
     requires some { 1 ≤ count }
-    requires most { count ≤ 16 }
+    requires most { count ≤ workers_max }
     ensures some { IfOk result (λ kits. 1 ≤ length kits.items) }
-    ensures most { IfOk result (λ kits. length kits.items ≤ 16) }
+    ensures most { IfOk result (λ kits. length kits.items ≤ workers_max) }
     ensures idle { IfOk result (λ kits. All (λ kit. IsIdle (keeper_shows (keeper_state kit.keeper))) kits.items) }
 {
     let mut kits = Vec::new(alloc);
@@ -173,7 +174,7 @@ fn build_twelve<W: Threads + Wait + Sync>(
     kits: &mut Vec<LoopKit>,
 ) -> Result<Seen, AllocError>
     requires some { 1 ≤ length kits.old.items }
-    requires most { length kits.old.items ≤ 16 }
+    requires most { length kits.old.items ≤ workers_max }
     requires idle { All (λ kit. IsIdle (keeper_shows (keeper_state kit.keeper))) kits.old.items }
 {
     let asked = asked_for(alloc, WORDS, job_list(alloc)?)?;
@@ -194,7 +195,7 @@ fn expect_twelve<R: Abort + Threads + Wait + Sync>(
     count: usize,
 ) -> Result<(), Fail>
     requires some { 1 ≤ count }
-    requires most { count ≤ 16 }
+    requires most { count ≤ workers_max }
 {
     let mut kits = loop_kits(alloc, count)?;
     let seen = build_twelve(rt, alloc, &mut kits)?;

@@ -3,7 +3,8 @@
 
 mod bytes;
 mod copying;
-mod exits;
+mod decimals;
+pub mod exits;
 mod hosts;
 mod items;
 mod jobs;
@@ -15,6 +16,7 @@ mod trail;
 
 pub use bytes::Bytes;
 pub use copying::TryCopy;
+pub use decimals::{read_decimal, read_plain_decimal};
 pub use exits::exit_code;
 pub use hosts::{Host, HostName, HostVec, Hosts};
 pub use items::Items;

@@ -1,4 +1,3 @@
-mod NumberLemmas
 mod OptionReading
 mod CommandLemmas
 pub mod Periods

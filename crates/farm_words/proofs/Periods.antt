@@ -1,14 +1,15 @@
 -- One back-off period of each environment.
 use Rattle.std.proofs.Common.{◌≡◌, ℕ, List, Option, Some, None, codes, refl, sym, ◌∙◌, inl}
 use Rattle.std.specs.Prelude.{◌⊎◌, MatchOption}
-use Rattle.farm_words.specs.Limits.{period_digits, period_max, period_default}
+use Rattle.farm_types.specs.Limits.{period_max, period_default}
+use Rattle.farm_words.specs.Limits.{period_digits}
 use Rattle.farm_words.specs.Numbers.{IsPeriod}
 use Rattle.farm_words.specs.Environment.{value_of, PeriodOf, HasBadPeriod}
-use Rattle.farm_words.proofs.NumberLemmas.{number_or_none}
+use Rattle.farm_types.proofs.DecimalLemmas.{decimal_or_none}
 
 some_value : (value : Option (List ℕ)) → ((period : ℕ) × MatchOption value (period ≡ period_default) (λ v. IsPeriod v period)) ⊎ MatchOption value ⊥ (λ v. (n : ℕ) → ¬ (IsPeriod v n))
 some_value None = inl (period_default, refl)
-some_value (Some value) = number_or_none period_digits 0 period_max value
+some_value (Some value) = decimal_or_none period_digits 0 period_max value
 
 one_value : (value : Option (List ℕ)) (one other : ℕ) → MatchOption value (one ≡ period_default) (λ v. IsPeriod v one) → MatchOption value (other ≡ period_default) (λ v. IsPeriod v other) → one ≡ other
 one_value None one other h k = h ∙ sym k

@@ -1,40 +1,31 @@
 -- What the words of a command say is within its limits.
-use Rattle.std.proofs.Common.{◌≡◌, ◌≤◌, ℕ, Bool, true, false, ◌&&◌, List, [], ◌∷◌, length, Option, Some, None, Result, Ok, Err, nat_le, refl, sym, subst, arith}
+use Rattle.std.proofs.Common.{◌≡◌, ◌≤◌, ℕ, Bool, true, false, List, [], ◌∷◌, length, Option, Some, None, Result, Ok, Err, nat_le, refl, sym, subst, arith}
 use Rattle.std.specs.Prelude.{unwrap_or, ◌==◌, if◌then◌else◌, MatchBool}
 use Rattle.std.specs.Option.{option_and_then}
-use Rattle.std.specs.Str.Parse.{digits_value}
-use Rattle.std.proofs.lemmas.Bool.{leb-true}
+use Rattle.farm_types.proofs.DecimalLemmas.{decimal-within}
+use Rattle.farm_types.specs.Decimals.{decimal_of}
+use Rattle.farm_types.specs.Limits.{workers_max, jobs_max}
 use Rattle.farm_words.specs.declared.name.CommandName.{CommandName}
 use Rattle.farm_words.specs.declared.name.CommandName.TheVariants as name
 use Rattle.farm_words.specs.declared.name.FirstWord.{FirstWord}
 use Rattle.farm_words.specs.declared.name.FirstWord.TheVariants as first
 use Rattle.farm_words.specs.declared.name.OptionName.TheVariants as option
-use Rattle.farm_words.specs.Limits.{count_digits, workers_max, jobs_max, tries_digits, tries_max, lines_max}
-use Rattle.farm_words.specs.Numbers.{is_short_number, number_within, jobs_number}
+use Rattle.farm_words.specs.Limits.{count_digits, tries_digits, tries_max, lines_max}
+use Rattle.farm_words.specs.Numbers.{jobs_number}
 use Rattle.farm_words.specs.Commands.{Meaning, Cc, Scan, Rehearse, Help, Version, IsCommand, ByFirstWord, NamedCommand, asks_help, at_most, counted, rehearse_words}
 use Rattle.farm_words.specs.Options.{given_by}
 use Rattle.farm_words.specs.Names.{first_word_named, option_text}
 use Rattle.option_words.specs.Items.{Item, value_in}
 use Rattle.farm_words.specs.Within.{AreWithin, IsWithin}
 
--- a number that is read is within its limits
-numbered : (short low high : Bool) (least greatest n : ℕ) → low ≡ nat_le least n → high ≡ nat_le n greatest → (m : ℕ) → (if short && low && high then Some n else None) ≡ Some m → (least ≤ m) × (m ≤ greatest)
-numbered true true true least greatest n low high m is = let e : n ≡ m = grind (arith, is) in (let l = leb-true least n (sym low) in omega (arith, l, e), let h = leb-true n greatest (sym high) in omega (arith, h, e))
-numbered true true false least greatest n low high m is = absurd (grind (arith, is))
-numbered true false high' least greatest n low high m is = absurd (grind (arith, is))
-numbered false low' high' least greatest n low high m is = absurd (grind (arith, is))
-
-number-within : (digits least greatest : ℕ) (word : List ℕ) (m : ℕ) → number_within digits least greatest word ≡ Some m → (least ≤ m) × (m ≤ greatest)
-number-within digits least greatest word m is = numbered (is_short_number digits word) (nat_le least (digits_value 10 word)) (nat_le (digits_value 10 word) greatest) least greatest (digits_value 10 word) refl refl m is
-
 -- a value that isn't there stands for its default
-within-or : (digits greatest default : ℕ) (o : Option (List ℕ)) → (1 ≤ default) × (default ≤ greatest) → (1 ≤ unwrap_or (option_and_then (number_within digits 1 greatest) o) default) × (unwrap_or (option_and_then (number_within digits 1 greatest) o) default ≤ greatest)
+within-or : (digits greatest default : ℕ) (o : Option (List ℕ)) → (1 ≤ default) × (default ≤ greatest) → (1 ≤ unwrap_or (option_and_then (decimal_of digits 1 greatest) o) default) × (unwrap_or (option_and_then (decimal_of digits 1 greatest) o) default ≤ greatest)
 within-or digits greatest default None known = known
-within-or digits greatest default (Some word) known = go (number_within digits 1 greatest word) refl
+within-or digits greatest default (Some word) known = go (decimal_of digits 1 greatest word) refl
   where
-    go : (o : Option ℕ) → number_within digits 1 greatest word ≡ o → (1 ≤ unwrap_or o default) × (unwrap_or o default ≤ greatest)
+    go : (o : Option ℕ) → decimal_of digits 1 greatest word ≡ o → (1 ≤ unwrap_or o default) × (unwrap_or o default ≤ greatest)
     go None is = known
-    go (Some m) is = number-within digits 1 greatest word m is
+    go (Some m) is = decimal-within digits 1 greatest word m is
 
 items-within : (items : List Item) → AreWithin (given_by items)
 items-within items = record {
@@ -68,7 +59,7 @@ rehearsed (word ∷ words) = go (jobs_number word) refl
   where
     go : (o : Option ℕ) → jobs_number word ≡ o → ResultWithin (counted o (word ∷ words))
     go None is = tt
-    go (Some jobs) is = let few = number-within count_digits 1 jobs_max word jobs is in either (nat_le (length (word ∷ words)) 1) (Rehearse jobs) 2 (record { some = few.0; most = few.1 })
+    go (Some jobs) is = let few = decimal-within count_digits 1 jobs_max word jobs is in either (nat_le (length (word ∷ words)) 1) (Rehearse jobs) 2 (record { some = few.0; most = few.1 })
 
 named : (command : CommandName) (words : List (List ℕ)) (answer : Result Meaning ℕ) → NamedCommand command words answer → ResultWithin answer
 named name.Build words answer (Ok says, read, is) = subst ResultWithin (sym is) (subst AreWithin (sym read.2) (items-within read.0))

@@ -1,6 +1,6 @@
 -- What the environment says.
 use Rattle.std.specs.Prelude.{◌≡◌, ℕ, Bool, false, ◌&&◌, not, List, [], ◌∷◌, codes, bytes_eq, Option, Some, None, unwrap_or, MatchOption, if◌then◌else◌}
-use Rattle.farm_words.specs.Limits.{period_default}
+use Rattle.farm_types.specs.Limits.{period_default}
 use Rattle.farm_words.specs.Numbers.{IsPeriod}
 
 -- the value of a variable, each of which is a name and a value: of a name that stands twice the first holds

@@ -1,6 +1,7 @@
 -- The options of a command, by the words that they are.
 use Rattle.std.specs.Prelude.{◌≡◌, ℕ, ◌+◌, Bool, true, false, not, List, Option, Some, None, is_some, unwrap_or, Result, Ok, Err, if◌then◌else◌}
 use Rattle.std.specs.Option.{option_and_then, option_copied}
+use Rattle.farm_types.specs.Limits.{workers_default}
 use Rattle.option_words.specs.declared.table.Row.{Row}
 use Rattle.option_words.specs.Items.{Item, stands_in, value_in}
 use Rattle.option_words.specs.Tables.{Table}
@@ -9,7 +10,7 @@ use Rattle.farm_words.specs.declared.name.CommandName.{CommandName}
 use Rattle.farm_words.specs.declared.name.OptionName.{OptionName}
 use Rattle.farm_words.specs.declared.name.OptionName.TheVariants as option
 use Rattle.farm_words.specs.declared.options.Options.{Options}
-use Rattle.farm_words.specs.Limits.{workers_default, tries_default, lines_default}
+use Rattle.farm_words.specs.Limits.{tries_default, lines_default}
 use Rattle.farm_words.specs.Names.{option_text, option_named, takes_value, has_option}
 use Rattle.farm_words.specs.Numbers.{workers_number, tries_number, lines_number}
 

@@ -1,9 +1,11 @@
 //! Numbers in words.
 
 ghost use Rattle.std.specs.Prelude.{◌≡◌, ◌≤◌, ℕ, MatchOption};
-ghost use Rattle.farm_words.specs.Numbers.{IsNumber, IsPeriod, jobs_number, lines_number, tries_number, workers_number};
+ghost use Rattle.farm_types.specs.Decimals.{IsDecimal};
+ghost use Rattle.farm_words.specs.Numbers.{IsPeriod, jobs_number, lines_number, tries_number, workers_number};
 
 use farm_types::limits::{JOBS_MAX, PERIOD_MAX, WORKERS_MAX};
+use farm_types::read_decimal;
 
 /// The most decimal digits of a number of workers, of jobs or of lines.
 const COUNT_DIGITS: usize = 3;
@@ -22,15 +24,12 @@ const PERIOD_DIGITS: usize = 7;
 
 // The number within these two that a word spells in at most so many decimal digits, with nothing beside them.
 fn parse_number(word: &str, digits: usize, least: u32, greatest: u32) -> Option<u32>
-    ensures { MatchOption result ((n : ℕ) → ¬ (IsNumber digits least greatest word.now n)) (IsNumber digits least greatest word.now) }
+    requires { digits ≤ 9 }
+    ensures { MatchOption result ((n : ℕ) → ¬ (IsDecimal digits least greatest word.now n)) (IsDecimal digits least greatest word.now) }
 {
-    if digits < word.len() || word.starts_with('+') {
-        return None;
-    }
-    match word.parse::<u32>() {
-        Ok(number) if least <= number && number <= greatest => Some(number),
-        Ok(_) => None,
-        Err(_) => None,
+    match read_decimal(word.as_bytes(), digits, least, greatest) {
+        Some(number) => Some(number),
+        None => None,
     }
 }
 

@@ -4,6 +4,7 @@
 mod beginning;
 
 ghost use Rattle.std.specs.Prelude.{◌≡◌, ◌≤◌, true, false, length, map, Some, IfOk, IfSome, string_bytes};
+ghost use Rattle.farm_types.specs.Limits.{workers_max};
 ghost use Rattle.daemon_words.specs.Commands.{trusts};
 ghost use Rattle.edge_real.specs.Views.{policy_of as station_policy};
 
@@ -16,6 +17,7 @@ use edge_real::{
     ChildStation, PendingRemoval, SharedRemoval, StdSink, TcpDoor, WordPolicy, command_words,
     current_folder, own_folder,
 };
+use farm_types::exits::NO_MEMORY;
 use log::warn;
 use std::alloc::AllocError;
 use std::net::{TcpListener, TcpStream};
@@ -26,9 +28,6 @@ use std::sync::Arc;
 type SystemDoor = DoorKit<ListeningDoor, ChildStation<HostRuntime>>;
 
 type ListeningDoor = TcpDoor<HostRuntime, TcpListener, TcpStream>;
-
-/// The status where memory is wanting.
-const NO_MEMORY: u8 = 105;
 
 // The words of the command line. Where one isn't UTF-8, they are one word that is no option.
 fn words_of(rt: &HostRuntime) -> Result<Vec<String>, AllocError> {
@@ -124,9 +123,9 @@ fn doors_at(
     access: AccessList,
     policy: WordPolicy,
 ) -> Result<Vec<SystemDoor>, AllocError>
-    requires { IfSome place (λ place. place.doors ≤ 16) }
+    requires { IfSome place (λ place. place.doors ≤ workers_max) }
     ensures some { IfOk result (λ doors. 1 ≤ length doors.items) }
-    ensures few { IfOk result (λ doors. length doors.items ≤ 16) }
+    ensures few { IfOk result (λ doors. length doors.items ≤ workers_max) }
 {
     match place {
         Some(place) if 0 < place.doors => {
@@ -147,7 +146,7 @@ fn doors_at(
 // The words, and the doors that they ask for.
 fn doors_of(rt: &HostRuntime) -> Result<(Vec<String>, Vec<SystemDoor>), AllocError>
     ensures some { IfOk result (λ made. 1 ≤ length made.1.items) }
-    ensures few { IfOk result (λ made. length made.1.items ≤ 16) }
+    ensures few { IfOk result (λ made. length made.1.items ≤ workers_max) }
 {
     let words = words_of(rt)?;
     let place = door_place(words.as_slice());

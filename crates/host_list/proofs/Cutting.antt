@@ -6,7 +6,7 @@ use Rattle.std.proofs.lemmas.Bool.{cond_both, cases_Bool, false≢true, eq-eqb, 
 use Rattle.std.proofs.lemmas.Bool.Decides.{nat_tests}
 use Rattle.std.proofs.lemmas.List.Elements.{All-head, All-tail, All-cons, All-nil, All-weaker}
 use Rattle.std.proofs.lemmas.List.{drop_more, append-nil, nil_from_length}
-use Rattle.host_list.specs.TextWords.{TextWord, is_blank, without_comments, EndsRun, BeginsWithWord, RunsOf, WordsOf}
+use Rattle.host_list.specs.TextWords.{TextWord, is_blank_or_feed, without_comments, EndsRun, BeginsWithWord, RunsOf, WordsOf}
 use Rattle.host_list.specs.Runs.{with_byte, runs, words_of}
 use Rattle.host_list.specs.Steps.{ends_word, EndsWord, EndsLine, words_from}
 use Rattle.host_list.proofs.Ranges.{range_rest, range_first, length-range}
@@ -49,7 +49,7 @@ not_word_end_10 c h = grind (arith, nat_tests)
 not_word_end_35 : (c : ℕ) → in_word c ≡ true → eqb c 35 ≡ false
 not_word_end_35 c h = grind (arith, nat_tests)
 
-not_blank : (c : ℕ) → in_word c ≡ true → is_blank c ≡ false
+not_blank : (c : ℕ) → in_word c ≡ true → is_blank_or_feed c ≡ false
 not_blank c h = grind (arith, nat_tests)
 
 kept_word : (w rest : List ℕ) → AllPass in_word w → without_comments false (w ++ rest) ≡ w ++ without_comments false rest
@@ -74,7 +74,7 @@ with_byte_starts at c (w ∷ ws) = elim (w.at == at + 1) as (λ b. Starts at (co
 
 runs_start : (at : ℕ) (xs : List ℕ) → Starts at (runs at xs)
 runs_start at [] = tt
-runs_start at (c ∷ cs) = elim (is_blank c) as (λ b. Starts at (cond b (runs (at + 1) cs) (with_byte at c (runs (at + 1) cs)))) [ true ↦ Starts-later at (runs (at + 1) cs) (runs_start (at + 1) cs) | false ↦ with_byte_starts at c (runs (at + 1) cs) ]
+runs_start at (c ∷ cs) = elim (is_blank_or_feed c) as (λ b. Starts at (cond b (runs (at + 1) cs) (with_byte at c (runs (at + 1) cs)))) [ true ↦ Starts-later at (runs (at + 1) cs) (runs_start (at + 1) cs) | false ↦ with_byte_starts at c (runs (at + 1) cs) ]
 
 with_byte_far : (at c : ℕ) (ws : List TextWord) → Starts (at + 1 + 1) ws → with_byte at c ws ≡ record { at = at; bytes = c ∷ [] } ∷ ws
 with_byte_far at c [] h = refl
@@ -85,24 +85,24 @@ far_start at [] h = tt
 far_start at (c ∷ cs) h = rw h (runs_start (at + 1) cs)
 
 abbrev plain : ℕ → Bool
-plain c = not (is_blank c)
+plain c = not (is_blank_or_feed c)
 
-no_blank : (c : ℕ) → plain c ≡ true → is_blank c ≡ false
-no_blank c h = ⊎_elim (λ is. absurd (false≢true (sym (ap not is) ∙ h))) (λ none. none) (cases_Bool (is_blank c))
+no_blank : (c : ℕ) → plain c ≡ true → is_blank_or_feed c ≡ false
+no_blank c h = ⊎_elim (λ is. absurd (false≢true (sym (ap not is) ∙ h))) (λ none. none) (cases_Bool (is_blank_or_feed c))
 
 runs_word : (at c : ℕ) (cs t : List ℕ) → AllPass plain (c ∷ cs) → EndsRun t → runs at (c ∷ (cs ++ t)) ≡ record { at = at; bytes = c ∷ cs } ∷ runs (at + suc (length cs)) t
 runs_word at c [] t h stops =
-    let no : is_blank c ≡ false = no_blank c (All-head (λ c. plain c ≡ true) c [] h) in
+    let no : is_blank_or_feed c ≡ false = no_blank c (All-head (λ c. plain c ≡ true) c [] h) in
     rw no (with_byte_far at c (runs (at + 1) t) (far_start (at + 1) t stops))
 runs_word at c (d ∷ ds) t h stops =
-    let no : is_blank c ≡ false = no_blank c (All-head (λ c. plain c ≡ true) c (d ∷ ds) h) in
+    let no : is_blank_or_feed c ≡ false = no_blank c (All-head (λ c. plain c ≡ true) c (d ∷ ds) h) in
     let later = runs_word (at + 1) d ds t (All-tail (λ c. plain c ≡ true) c (d ∷ ds) h) stops in
     let same : eqb (at + 1) (at + 1) ≡ true = grind (arith, nat_tests) in
     let e : at + 1 + suc (length ds) ≡ at + suc (suc (length ds)) = omega arith in
     let joined : with_byte at c (record { at = at + 1; bytes = d ∷ ds } ∷ runs (at + 1 + suc (length ds)) t) ≡ record { at = at; bytes = c ∷ d ∷ ds } ∷ runs (at + suc (suc (length ds))) t = rw same (ap (λ a. record { at = at; bytes = c ∷ d ∷ ds } ∷ runs a t) e) in
     rw no (ap (with_byte at c) later ∙ joined)
 
-blank_end : (c : ℕ) → ends_word c ≡ true → (c == 35) ≡ false → is_blank c ≡ true
+blank_end : (c : ℕ) → ends_word c ≡ true → (c == 35) ≡ false → is_blank_or_feed c ≡ true
 blank_end c h no_hash = grind (arith, nat_tests)
 
 stops_run : (rest : List ℕ) → EndsWord rest → EndsRun (without_comments false rest)
@@ -132,11 +132,11 @@ word_at text i e first low high body ends =
 
 -- ---- the longest runs
 
-runs_gap : (at : ℕ) (gap rest : List ℕ) → AllPass is_blank gap → runs at (gap ++ rest) ≡ runs (at + length gap) rest
+runs_gap : (at : ℕ) (gap rest : List ℕ) → AllPass is_blank_or_feed gap → runs at (gap ++ rest) ≡ runs (at + length gap) rest
 runs_gap at [] rest h = let e : at ≡ at + 0 = omega arith in ap (λ a. runs a rest) e
 runs_gap at (c ∷ cs) rest h =
-    let here = All-head (λ c. is_blank c ≡ true) c cs h in
-    let later = runs_gap (at + 1) cs rest (All-tail (λ c. is_blank c ≡ true) c cs h) in
+    let here = All-head (λ c. is_blank_or_feed c ≡ true) c cs h in
+    let later = runs_gap (at + 1) cs rest (All-tail (λ c. is_blank_or_feed c ≡ true) c cs h) in
     let e : at + 1 + length cs ≡ at + suc (length cs) = omega arith in
     rw here (later ∙ ap (λ a. runs a rest) e)
 
@@ -151,15 +151,15 @@ runs_are at text (w ∷ ws) (rest, b, more) =
     ap (λ t. w ∷ t) later
     ∙ sym (ap (runs at) b.split ∙ runs_gap at b.gap (w.bytes ++ rest) b.blank ∙ ap (λ a. runs a (w.bytes ++ rest)) (sym b.place) ∙ run_first w.at w.bytes rest b.some b.plain b.ends)
 
-gap_more : (at c : ℕ) (cs : List ℕ) (ws : List TextWord) → is_blank c ≡ true → RunsOf (at + 1) cs ws → RunsOf at (c ∷ cs) ws
-gap_more at c cs [] is h = All-cons (λ c. is_blank c ≡ true) c cs is h
+gap_more : (at c : ℕ) (cs : List ℕ) (ws : List TextWord) → is_blank_or_feed c ≡ true → RunsOf (at + 1) cs ws → RunsOf at (c ∷ cs) ws
+gap_more at c cs [] is h = All-cons (λ c. is_blank_or_feed c ≡ true) c cs is h
 gap_more at c cs (w ∷ ws) is (rest, b, more) =
     let place = b.place in (
       rest,
       record {
         gap = c ∷ b.gap;
         split = ap (λ t. c ∷ t) b.split;
-        blank = All-cons (λ c. is_blank c ≡ true) c b.gap is b.blank;
+        blank = All-cons (λ c. is_blank_or_feed c ≡ true) c b.gap is b.blank;
         place = omega arith;
         some = b.some;
         plain = b.plain;
@@ -168,20 +168,20 @@ gap_more at c cs (w ∷ ws) is (rest, b, more) =
       more,
     )
 
-blank_ends : (cs : List ℕ) → AllPass is_blank cs → EndsRun cs
+blank_ends : (cs : List ℕ) → AllPass is_blank_or_feed cs → EndsRun cs
 blank_ends [] h = tt
-blank_ends (c ∷ cs) h = All-head (λ c. is_blank c ≡ true) c cs h
+blank_ends (c ∷ cs) h = All-head (λ c. is_blank_or_feed c ≡ true) c cs h
 
-gap_ends : (gap rest : List ℕ) → 1 ≤ length gap → AllPass is_blank gap → EndsRun (gap ++ rest)
+gap_ends : (gap rest : List ℕ) → 1 ≤ length gap → AllPass is_blank_or_feed gap → EndsRun (gap ++ rest)
 gap_ends [] rest some h = absurd (omega arith)
-gap_ends (c ∷ cs) rest some h = All-head (λ c. is_blank c ≡ true) c cs h
+gap_ends (c ∷ cs) rest some h = All-head (λ c. is_blank_or_feed c ≡ true) c cs h
 
 -- a word of one byte
-alone : (at c : ℕ) (cs : List ℕ) → is_blank c ≡ false → EndsRun cs → BeginsWithWord at (c ∷ cs) (record { at = at; bytes = c ∷ [] }) cs
+alone : (at c : ℕ) (cs : List ℕ) → is_blank_or_feed c ≡ false → EndsRun cs → BeginsWithWord at (c ∷ cs) (record { at = at; bytes = c ∷ [] }) cs
 alone at c cs no_space ends = record {
   gap = [];
   split = refl;
-  blank = All-nil (λ c. is_blank c ≡ true);
+  blank = All-nil (λ c. is_blank_or_feed c ≡ true);
   place = omega arith;
   some = omega arith;
   plain = All-cons (λ c. plain c ≡ true) c [] (ap not no_space) (All-nil (λ c. plain c ≡ true));
@@ -189,7 +189,7 @@ alone at c cs no_space ends = record {
 }
 
 -- a byte at the front of a word
-joined : (at c : ℕ) (cs : List ℕ) (w : TextWord) (ws : List TextWord) → is_blank c ≡ false → w.at ≡ at + 1 → RunsOf (at + 1) cs (w ∷ ws) → RunsOf at (c ∷ cs) (record { at = at; bytes = c ∷ w.bytes } ∷ ws)
+joined : (at c : ℕ) (cs : List ℕ) (w : TextWord) (ws : List TextWord) → is_blank_or_feed c ≡ false → w.at ≡ at + 1 → RunsOf (at + 1) cs (w ∷ ws) → RunsOf at (c ∷ cs) (record { at = at; bytes = c ∷ w.bytes } ∷ ws)
 joined at c cs w ws no_space here (rest, b, more) =
     let place = b.place in
     let none : b.gap ≡ [] = nil_from_length b.gap (omega arith) in
@@ -198,7 +198,7 @@ joined at c cs w ws no_space here (rest, b, more) =
       record {
         gap = [];
         split = ap (λ t. c ∷ t) (b.split ∙ ap (λ g. g ++ (w.bytes ++ rest)) none);
-        blank = All-nil (λ c. is_blank c ≡ true);
+        blank = All-nil (λ c. is_blank_or_feed c ≡ true);
         place = omega arith;
         some = omega arith;
         plain = All-cons (λ c. plain c ≡ true) c w.bytes (ap not no_space) b.plain;
@@ -207,7 +207,7 @@ joined at c cs w ws no_space here (rest, b, more) =
       subst (λ a. RunsOf a rest ws) end more,
     )
 
-apart : (at c : ℕ) (cs : List ℕ) (w : TextWord) (ws : List TextWord) → is_blank c ≡ false → (w.at == at + 1) ≡ false → RunsOf (at + 1) cs (w ∷ ws) → RunsOf at (c ∷ cs) (record { at = at; bytes = c ∷ [] } ∷ w ∷ ws)
+apart : (at c : ℕ) (cs : List ℕ) (w : TextWord) (ws : List TextWord) → is_blank_or_feed c ≡ false → (w.at == at + 1) ≡ false → RunsOf (at + 1) cs (w ∷ ws) → RunsOf at (c ∷ cs) (record { at = at; bytes = c ∷ [] } ∷ w ∷ ws)
 apart at c cs w ws no_space far (rest, b, more) =
     let place = b.place in
     let far_on : (w.at ≡ at + 1) → ⊥ = λ e. false≢true (sym far ∙ eq-eqb w.at (at + 1) e) in
@@ -215,7 +215,7 @@ apart at c cs w ws no_space far (rest, b, more) =
     let ends : EndsRun cs = subst EndsRun (sym b.split) (gap_ends b.gap (w.bytes ++ rest) some b.blank) in
     (cs, alone at c cs no_space ends, (rest, b, more))
 
-byte_more : (at c : ℕ) (cs : List ℕ) (ws : List TextWord) → is_blank c ≡ false → RunsOf (at + 1) cs ws → RunsOf at (c ∷ cs) (with_byte at c ws)
+byte_more : (at c : ℕ) (cs : List ℕ) (ws : List TextWord) → is_blank_or_feed c ≡ false → RunsOf (at + 1) cs ws → RunsOf at (c ∷ cs) (with_byte at c ws)
 byte_more at c cs [] no_space h = (cs, alone at c cs no_space (blank_ends cs h), h)
 byte_more at c cs (w ∷ ws) no_space h =
     cond_both (w.at == at + 1) (record { at = at; bytes = c ∷ w.bytes } ∷ ws) (record { at = at; bytes = c ∷ [] } ∷ w ∷ ws) (RunsOf at (c ∷ cs))
@@ -223,10 +223,10 @@ byte_more at c cs (w ∷ ws) no_space h =
     (λ other. apart at c cs w ws no_space other h)
 
 are_runs : (at : ℕ) (text : List ℕ) → RunsOf at text (runs at text)
-are_runs at [] = All-nil (λ c. is_blank c ≡ true)
+are_runs at [] = All-nil (λ c. is_blank_or_feed c ≡ true)
 are_runs at (c ∷ cs) =
     let later = are_runs (at + 1) cs in
-    cond_both (is_blank c) (runs (at + 1) cs) (with_byte at c (runs (at + 1) cs)) (RunsOf at (c ∷ cs))
+    cond_both (is_blank_or_feed c) (runs (at + 1) cs) (with_byte at c (runs (at + 1) cs)) (RunsOf at (c ∷ cs))
     (λ is. gap_more at c cs (runs (at + 1) cs) is later)
     (λ none. byte_more at c cs (runs (at + 1) cs) none later)
 

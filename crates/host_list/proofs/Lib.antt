@@ -1,5 +1,4 @@
 pub mod Cutting
-pub mod Numbers
 pub mod PartLemmas
 pub mod Ranges
 pub mod AnyLemmas

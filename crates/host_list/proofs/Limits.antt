@@ -5,12 +5,13 @@ use Rattle.std.specs.Str.{bytes_eq}
 use Rattle.std.proofs.lemmas.Bool.{false≢true, and_parts}
 use Rattle.std.proofs.lemmas.Slice.Eq.{bytes_eq-Decides}
 use Rattle.std.proofs.lemmas.List.Elements.{All-nil, All-cons}
+use Rattle.farm_types.specs.Decimals.{IsDecimal}
 use Rattle.farm_types.specs.declared.hosts.Host.{Host}
 use Rattle.farm_types.specs.declared.hosts.Hosts.{Hosts}
 use Rattle.host_list.specs.declared.meaning.Meaning.{Meaning}
 use Rattle.host_list.specs.declared.meaning.Meaning.TheVariants.{Entry, LocalSlots, LocalCpp, Randomize}
 use Rattle.host_list.specs.declared.fault.HostError.{HostError}
-use Rattle.host_list.specs.Names.{IsHostName, IsNumber}
+use Rattle.host_list.specs.Names.{IsHostName}
 use Rattle.host_list.specs.TextWords.{TextWord}
 use Rattle.host_list.specs.HostWords.{SpellsHost, SpellsParts, host_of, names_this_machine}
 use Rattle.host_list.specs.HostLists.{HostWords, hosts_in, last_slots, last_cpp, hosts_of, HostListOf, IsHost, AreHosts}
@@ -19,7 +20,7 @@ abbrev InRange : ℕ → Option ℕ → Type 0
 InRange most None = Unit {0}
 InRange most (Some n) = (1 ≤ n) × (n ≤ most)
 
-number_range : (digits greatest : ℕ) (text : List ℕ) (n : ℕ) → IsNumber digits greatest text n → (1 ≤ n) × (n ≤ greatest)
+number_range : (digits greatest : ℕ) (text : List ℕ) (n : ℕ) → IsDecimal digits 1 greatest text n → (1 ≤ n) × (n ≤ greatest)
 number_range digits greatest text n h = (h.low, h.high)
 
 parts_range : (port limit : Option ℕ) (parts : List ℕ) → SpellsParts port limit parts → InRange 65535 port × InRange 255 limit

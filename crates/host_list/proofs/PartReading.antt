@@ -1,18 +1,19 @@
 -- One reading of what stands behind a name.
-use Rattle.std.proofs.Common.{◌≡◌, ℕ, suc, ◌+◌, ◌<◌, ◌≤◌, Bool, true, false, not, ◌&&◌, cond, List, [], ◌∷◌, ◌++◌, length, get_or, Option, Some, None, Result, Ok, Err, refl, ap, sym, subst, ◌∙◌, ⊎_elim, inl, inr, arith}
-use Rattle.std.specs.Prelude.{◌==◌, nat_lt, nat_le, MatchBool, IsSome, ◌⊎◌}
+use Rattle.std.proofs.Common.{◌≡◌, ℕ, suc, ◌+◌, ◌<◌, Bool, true, false, not, cond, List, [], ◌∷◌, ◌++◌, length, get_or, Option, Some, None, Result, Ok, Err, refl, ap, sym, subst, ◌∙◌, ⊎_elim, arith}
+use Rattle.std.specs.Prelude.{◌==◌, MatchBool, IsSome, ◌⊎◌}
 use Rattle.std.specs.Char.{digit_value}
 use Rattle.std.specs.List.{AllPass}
-use Rattle.std.specs.Str.Parse.{AllDigits, digits_value}
-use Rattle.std.proofs.lemmas.Bool.{cases_Bool, false≢true, and_parts}
+use Rattle.std.specs.Str.Parse.{AllDigits}
+use Rattle.std.proofs.lemmas.Bool.{false≢true}
 use Rattle.std.proofs.lemmas.Bool.Decides.{nat_tests}
 use Rattle.std.proofs.lemmas.List.{append_assoc, append-nil, length-append}
 use Rattle.std.proofs.lemmas.List.Elements.{All-head, All-tail, All-from_get_or}
 use Rattle.host_list.specs.declared.fault.HostFault.{HostFault}
 use Rattle.host_list.specs.declared.fault.HostFault.TheVariants.{BadPort, BadLimit}
-use Rattle.host_list.specs.Names.{IsNumber, IsPort, IsLimit}
+use Rattle.host_list.specs.Names.{IsPort, IsLimit}
 use Rattle.host_list.specs.HostWords.{SpellsParts, SpellsPort, SpellsLimit, PartFault, WrongPart, EndsPart, is_separator}
-use Rattle.host_list.proofs.Numbers.{digit_at}
+use Rattle.farm_types.specs.Decimals.{IsDecimal, decimal_of}
+use Rattle.farm_types.proofs.DecimalLemmas.{digit_at, decimal_some, decimal_none}
 
 -- ---- tests
 
@@ -23,75 +24,17 @@ chosen false P Q x y r h f g = g h
 
 -- ---- numbers
 
-abbrev pub all_digits : List ℕ → Bool
-all_digits [] = true
-all_digits (c ∷ cs) = nat_lt (digit_value c) 10 && all_digits cs
-
-all_digits-true : (cs : List ℕ) → AllDigits 10 cs → all_digits cs ≡ true
-all_digits-true [] h = refl
-all_digits-true (c ∷ cs) h =
-    let here : nat_lt (digit_value c) 10 ≡ true = let small = h.0 in grind (arith, nat_tests) in
-    rw here (all_digits-true cs h.1)
-
-true-all_digits : (cs : List ℕ) → all_digits cs ≡ true → AllDigits 10 cs
-true-all_digits [] h = tt
-true-all_digits (c ∷ cs) h =
-    let two = and_parts (nat_lt (digit_value c) 10) (all_digits cs) h in
-    let here = two.0 in
-    (grind (arith, nat_tests), true-all_digits cs two.1)
-
-abbrev pub is_number : ℕ → ℕ → List ℕ → Bool
-is_number most greatest digits =
-    nat_le 1 (length digits) && (nat_le (length digits) most && (all_digits digits && (nat_le 1 (digits_value 10 digits) && nat_le (digits_value 10 digits) greatest)))
-
+-- the number from 1 to the greatest that the digits are
 unfoldable pub number_at : ℕ → ℕ → List ℕ → Option ℕ
-number_at most greatest digits = cond (is_number most greatest digits) (Some (digits_value 10 digits)) None
+number_at most greatest digits = decimal_of most 1 greatest digits
 
-le_true : (a b : ℕ) → a ≤ b → nat_le a b ≡ true
-le_true a b h = grind (arith, nat_tests)
-
-true_le : (a b : ℕ) → nat_le a b ≡ true → a ≤ b
-true_le a b h = grind (arith, nat_tests)
-
-pub number_found : (most greatest : ℕ) (digits : List ℕ) (n : ℕ) → IsNumber most greatest digits n → number_at most greatest digits ≡ Some n
+pub number_found : (most greatest : ℕ) (digits : List ℕ) (n : ℕ) → IsDecimal most 1 greatest digits n → number_at most greatest digits ≡ Some n
 unfolding number_at
-number_found most greatest digits n h =
-    let value = h.value in
-    let some = le_true 1 (length digits) h.some in
-    let few = le_true (length digits) most h.few in
-    let each = all_digits-true digits h.each in
-    let low : nat_le 1 (digits_value 10 digits) ≡ true = le_true 1 (digits_value 10 digits) (let l = h.low in omega arith) in
-    let high : nat_le (digits_value 10 digits) greatest ≡ true = le_true (digits_value 10 digits) greatest (let l = h.high in omega arith) in
-    rw (some, few, each, low, high) (ap Some value)
+number_found most greatest digits n h = sym (decimal_some most 1 greatest digits n h)
 
--- digits that pass the test are a number
-pub number_of : (most greatest : ℕ) (digits : List ℕ) → is_number most greatest digits ≡ true → IsNumber most greatest digits (digits_value 10 digits)
-number_of most greatest digits passes =
-    let v : ℕ = digits_value 10 digits in
-    let a = and_parts (nat_le 1 (length digits)) _ passes in
-    let b = and_parts (nat_le (length digits) most) _ a.1 in
-    let c = and_parts (all_digits digits) _ b.1 in
-    let d = and_parts (nat_le 1 v) (nat_le v greatest) c.1 in
-    record { some = true_le 1 (length digits) a.0; few = true_le (length digits) most b.0; each = true-all_digits digits c.0; value = refl; low = true_le 1 v d.0; high = true_le v greatest d.1 }
-
-pub number_none : (most greatest : ℕ) (digits : List ℕ) → ((n : ℕ) → IsNumber most greatest digits n → ⊥) → number_at most greatest digits ≡ None
+pub number_none : (most greatest : ℕ) (digits : List ℕ) → ((n : ℕ) → IsDecimal most 1 greatest digits n → ⊥) → number_at most greatest digits ≡ None
 unfolding number_at
-number_none most greatest digits wrong =
-    ⊎_elim
-    (λ yes. absurd (wrong (digits_value 10 digits) (number_of most greatest digits yes)))
-    (λ none. rw none refl)
-    (cases_Bool (is_number most greatest digits))
-
-no_number_at : (most greatest : ℕ) (digits : List ℕ) → is_number most greatest digits ≡ false → number_at most greatest digits ≡ None
-unfolding number_at
-no_number_at most greatest digits fails = rw fails refl
-
--- digits are a number or none
-pub number_or_none : (most greatest : ℕ) (digits : List ℕ) → ((n : ℕ) × IsNumber most greatest digits n) ⊎ ((n : ℕ) → IsNumber most greatest digits n → ⊥)
-number_or_none most greatest digits = ⊎_elim
-    (λ yes. inl (digits_value 10 digits, number_of most greatest digits yes))
-    (λ no. inr (λ n is. let found = number_found most greatest digits n is in let none = no_number_at most greatest digits no in cc))
-    (cases_Bool (is_number most greatest digits))
+number_none most greatest digits wrong = sym (decimal_none most 1 greatest digits wrong)
 
 -- ---- parts
 

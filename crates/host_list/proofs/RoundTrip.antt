@@ -12,16 +12,17 @@ use Rattle.std.proofs.lemmas.Int.Digits.{length-digits_of-le}
 use Rattle.std.specs.Int.Digits.{digits_of}
 use Rattle.std.proofs.lemmas.List.{append_assoc, append-nil, length-map, length-append}
 use Rattle.std.proofs.lemmas.List.Elements.{All-nil, All-cons, All-head, All-tail, All-append, All-weaker, All-from_get_or}
+use Rattle.farm_types.specs.Decimals.{IsDecimal}
 use Rattle.farm_types.specs.declared.hosts.Host.{Host}
 use Rattle.farm_types.specs.declared.hosts.Hosts.{Hosts}
 use Rattle.host_list.specs.declared.meaning.Meaning.{Meaning}
 use Rattle.host_list.specs.declared.meaning.Meaning.TheVariants.{Entry, LocalSlots, LocalCpp, Randomize}
-use Rattle.host_list.specs.Names.{IsNumber, IsPort, IsLimit}
+use Rattle.host_list.specs.Names.{IsPort, IsLimit}
 use Rattle.host_list.specs.TextWords.{without_comments}
 use Rattle.host_list.specs.Runs.{runs, words_of}
 use Rattle.host_list.specs.HostWords.{HostWord, SpellsHost, names_this_machine}
 use Rattle.host_list.specs.HostLists.{HostWords, hosts_in, last_slots, last_cpp, asks_randomize, hosts_of, HostListOf, IsHost, AreHosts, host_line, slots_line, options_text, printed_hosts}
-use Rattle.host_list.proofs.Numbers.{digit_at}
+use Rattle.farm_types.proofs.DecimalLemmas.{digit_at}
 use Rattle.host_list.proofs.Cutting.{in_word, word_cut, are_words}
 use Rattle.host_list.proofs.WordReading.{is_host_byte, host_bytes}
 
@@ -33,7 +34,7 @@ length-decimal k n low high fits =
     let same : length (decimal n) ≡ length (digits_of 10 n) = ap length (decimal-digits_of n low fits) ∙ length-map (digits_of 10 n) (λ d. 48 + d) in
     omega arith
 
-number_again : (k greatest n : ℕ) → 1 ≤ n → n ≤ greatest → n < 10 ^ k → n < 2 ^ 64 → IsNumber k greatest (decimal n) n
+number_again : (k greatest n : ℕ) → 1 ≤ n → n ≤ greatest → n < 10 ^ k → n < 2 ^ 64 → IsDecimal k 1 greatest (decimal n) n
 number_again k greatest n low high power fits =
     let numeral = decimal_is_IsNumeral n fits in
     record {

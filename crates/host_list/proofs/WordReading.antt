@@ -10,14 +10,15 @@ use Rattle.std.proofs.lemmas.List.{append-nil, drop_at, take_at, get_or_at}
 use Rattle.std.proofs.lemmas.List.Elements.{All-head, All-tail, All-from_get_or, All-append, All-cons, All-nil, All-weaker, All-get_or}
 use Rattle.std.proofs.lemmas.Slice.Eq.{starts_is}
 use Rattle.std.proofs.lemmas.Bool.Decides.{Decides-eqb}
+use Rattle.farm_types.specs.Decimals.{IsDecimal}
 use Rattle.farm_types.specs.declared.hosts.Host.{Host}
 use Rattle.host_list.specs.declared.meaning.Meaning.{Meaning}
 use Rattle.host_list.specs.declared.meaning.Meaning.TheVariants.{Entry, LocalSlots, LocalCpp, Randomize}
 use Rattle.host_list.specs.declared.fault.HostFault.{HostFault}
 use Rattle.host_list.specs.declared.fault.HostFault.TheVariants.{Ssh, HostOption, Zeroconf, BadLimit, BadName, UnknownOption}
-use Rattle.host_list.specs.Names.{IsNumber, is_host_name_byte, IsHostName}
+use Rattle.host_list.specs.Names.{is_host_name_byte, IsHostName}
 use Rattle.host_list.specs.HostWords.{HostWord, WordFault, SpellsParts, SpellsPort, SpellsLimit, EndsPart, is_separator, name_reach, begins_with_name, begins_with, has_byte, host_of, SpellsHost, SlotsFault, OptionFault, PlusFault, EntryFault, IsAtStart}
-use Rattle.host_list.proofs.Numbers.{digit_at}
+use Rattle.farm_types.proofs.DecimalLemmas.{digit_at}
 use Rattle.host_list.proofs.AnyLemmas.{any_none}
 use Rattle.host_list.proofs.PartReading.{chosen, number_at, number_found, number_none, cut, check, parts_right, parts_wrong, Verdict}
 
@@ -85,7 +86,7 @@ name_host_byte c h = rw h refl
 digit_host_byte : (c : ℕ) → digit_value c < 10 → is_host_byte c ≡ true
 digit_host_byte c h = grind (arith, nat_tests)
 
-digits_host_bytes : (most greatest n : ℕ) (digits : List ℕ) → IsNumber most greatest digits n → AllPass is_host_byte digits
+digits_host_bytes : (most greatest n : ℕ) (digits : List ℕ) → IsDecimal most 1 greatest digits n → AllPass is_host_byte digits
 digits_host_bytes most greatest n digits h = All-from_get_or (λ c. is_host_byte c ≡ true) digits 0 (λ k lt. digit_host_byte (get_or digits k 0) (digit_at digits k lt h.each))
 
 port_bytes : (part : List ℕ) (port : ℕ) → SpellsPort part port → AllPass is_host_byte part

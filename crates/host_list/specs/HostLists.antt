@@ -2,6 +2,7 @@
 use Rattle.std.specs.Prelude.{ℕ, ◌≡◌, ◌+◌, ◌≤◌, List, [], ◌∷◌, ◌++◌, length, codes, Bool, true, false, ◌⊎◌, if◌then◌else◌, All}
 use Rattle.std.specs.List.{flat_map}
 use Rattle.std.specs.Fmt.{decimal}
+use Rattle.farm_types.specs.Limits.{hosts_max, slots_max}
 use Rattle.farm_types.specs.declared.hosts.Host.{Host}
 use Rattle.farm_types.specs.declared.hosts.Hosts.{Hosts}
 use Rattle.host_list.specs.declared.meaning.Meaning.{Meaning}
@@ -68,7 +69,7 @@ pub record HostListOf (text : List ℕ) (hosts : Hosts) : Type 0 where
   pub meanings : List Meaning
   pub split : WordsOf text words
   pub each : HostWords words meanings
-  pub few : length (hosts_in meanings) ≤ 16
+  pub few : length (hosts_in meanings) ≤ hosts_max
   pub meant : hosts ≡ hosts_of meanings
 
 -- ---- the fault
@@ -77,7 +78,7 @@ pub record HostListOf (text : List ℕ) (hosts : Hosts) : Type 0 where
 abbrev pub IsWrongWord : ℕ → TextWord → ℕ → HostFault → Type 0
 IsWrongWord count word at fault =
     ((place : ℕ) × WordFault word.bytes place fault × (at ≡ word.at + place))
-    ⊎ ((host : Host) × HostWord word.bytes (Entry host) × (count ≡ 16) × (at ≡ word.at) × (fault ≡ TooMany))
+    ⊎ ((host : Host) × HostWord word.bytes (Entry host) × (count ≡ hosts_max) × (at ≡ word.at) × (fault ≡ TooMany))
 
 -- the fault of a text: that of its first word that isn't right
 pub record HostFaultStands (text : List ℕ) (at : ℕ) (fault : HostFault) : Type 0 where
@@ -87,7 +88,7 @@ pub record HostFaultStands (text : List ℕ) (at : ℕ) (fault : HostFault) : Ty
   pub meanings : List Meaning
   pub split : WordsOf text (before ++ word ∷ after)
   pub right : HostWords before meanings
-  pub few : length (hosts_in meanings) ≤ 16
+  pub few : length (hosts_in meanings) ≤ hosts_max
   pub wrong : IsWrongWord (length (hosts_in meanings)) word at fault
 
 -- ---- the print
@@ -119,15 +120,15 @@ pub record IsHost (host : Host) : Type 0 where
   pub port_low : 1 ≤ host.port
   pub port_high : host.port ≤ 65535
   pub limit_low : 1 ≤ host.limit
-  pub limit_high : host.limit ≤ 255
+  pub limit_high : host.limit ≤ slots_max
   -- a local entry is `localhost`, and has the port that stands where none is given
   pub here : host.local ≡ true → (host.name.text ≡ codes "localhost") × (host.port ≡ 3632)
 
 -- what a host list has
 pub record AreHosts (hosts : Hosts) : Type 0 where
   pub each : All IsHost hosts.list
-  pub few : length hosts.list ≤ 16
+  pub few : length hosts.list ≤ hosts_max
   pub slots_low : 1 ≤ hosts.local_slots
-  pub slots_high : hosts.local_slots ≤ 255
+  pub slots_high : hosts.local_slots ≤ slots_max
   pub cpp_low : 1 ≤ hosts.local_cpp
-  pub cpp_high : hosts.local_cpp ≤ 255
+  pub cpp_high : hosts.local_cpp ≤ slots_max

@@ -2,12 +2,12 @@
 use Rattle.std.specs.Prelude.{ℕ, ◌≡◌, ◌+◌, List, [], ◌∷◌, ◌++◌, length, drop, min, codes, nat_eq, nat_lt, Bool, true, not, ◌&&◌, ◌||◌, ◌==◌, ◌⊎◌, if◌then◌else◌, Option, Some, None, is_none, IsSome, unwrap_or, slice_index, MatchBool}
 use Rattle.std.specs.List.{list_any, starts_with, prefix_len, AllPass}
 use Rattle.std.specs.Str.{bytes_eq}
+use Rattle.farm_types.specs.Bytes.{comma, dash, slash, colon, at_sign}
 use Rattle.farm_types.specs.declared.hosts.Host.{Host}
 use Rattle.host_list.specs.declared.meaning.Meaning.{Meaning}
 use Rattle.host_list.specs.declared.meaning.Meaning.TheVariants.{Entry, LocalSlots, LocalCpp, Randomize}
 use Rattle.host_list.specs.declared.fault.HostFault.{HostFault}
 use Rattle.host_list.specs.declared.fault.HostFault.TheVariants.{Ssh, HostOption, Zeroconf, BadPort, BadLimit, BadName, UnknownOption}
-use Rattle.host_list.specs.Bytes.{comma, dash, slash, colon, at_sign}
 use Rattle.host_list.specs.Names.{is_host_name_byte, IsHostName, IsPort, IsLimit}
 
 -- ---- what a word means

@@ -1,6 +1,6 @@
 -- The words of a text, computed from its end.
 use Rattle.std.specs.Prelude.{ℕ, ◌+◌, List, [], ◌∷◌, false, ◌==◌, if◌then◌else◌}
-use Rattle.host_list.specs.TextWords.{TextWord, is_blank, without_comments}
+use Rattle.host_list.specs.TextWords.{TextWord, is_blank_or_feed, without_comments}
 
 -- a byte at this place goes to the front of a word that begins right behind it, or else is a word of its own
 abbrev pub with_byte : ℕ → ℕ → List TextWord → List TextWord
@@ -12,7 +12,7 @@ with_byte at c (w ∷ ws) =
 -- the longest runs without blanks, in order; the text begins at this place
 abbrev pub runs : ℕ → List ℕ → List TextWord
 runs at [] = []
-runs at (c ∷ cs) = if is_blank c then runs (at + 1) cs else with_byte at c (runs (at + 1) cs)
+runs at (c ∷ cs) = if is_blank_or_feed c then runs (at + 1) cs else with_byte at c (runs (at + 1) cs)
 
 -- those of a whole text once comments are cut
 abbrev pub words_of : List ℕ → List TextWord

@@ -1,12 +1,13 @@
 -- What the steps of the reader give.
 use Rattle.std.specs.Prelude.{ℕ, ◌≡◌, ◌≤◌, ◌⊎◌, List, length, Some, None, drop, ◌++◌, ◌∷◌, [], Bool, ◌||◌, ◌==◌, true, false}
+use Rattle.farm_types.specs.Bytes.{line_feed, hash, slash, colon}
+use Rattle.farm_types.specs.Limits.{hosts_max}
 use Rattle.farm_types.specs.declared.hosts.Hosts.{Hosts}
 use Rattle.host_list.specs.declared.parts.Parts.{Parts}
 use Rattle.host_list.specs.declared.meaning.Meaning.{Meaning}
 use Rattle.host_list.specs.declared.meaning.Meaning.TheVariants.{Entry, LocalSlots, LocalCpp, Randomize}
-use Rattle.host_list.specs.Bytes.{line_feed, hash, slash, colon}
 use Rattle.host_list.specs.Names.{IsPort, IsLimit}
-use Rattle.host_list.specs.TextWords.{TextWord, is_blank, without_comments}
+use Rattle.host_list.specs.TextWords.{TextWord, is_blank_or_feed, without_comments}
 use Rattle.host_list.specs.Runs.{runs, words_of}
 use Rattle.host_list.specs.HostWords.{HostWord}
 use Rattle.host_list.specs.HostLists.{HostWords, hosts_in, hosts_of}
@@ -19,7 +20,7 @@ AddsPart old separator number new =
 
 -- a byte that is in no word
 abbrev pub ends_word : ℕ → Bool
-ends_word c = is_blank c || c == hash
+ends_word c = is_blank_or_feed c || c == hash
 
 -- the end of a word, or of the text, comes next
 abbrev pub EndsWord : List ℕ → Type 0
@@ -48,7 +49,7 @@ pub record ReadsUpTo (text : List ℕ) (from : ℕ) (hosts : Hosts) : Type 0 whe
   pub meanings : List Meaning
   pub words : words_of text ≡ before ++ words_from from text
   pub right : HostWords before meanings
-  pub few : length (hosts_in meanings) ≤ 16
+  pub few : length (hosts_in meanings) ≤ hosts_max
   pub meant : hosts ≡ hosts_of meanings
 
 -- a word more was read into a list of hosts, which has at most 16 entries still
@@ -56,4 +57,4 @@ pub record TakesWord (word : List ℕ) (old new : Hosts) : Type 0 where
   pub meaning : Meaning
   pub right : HostWord word meaning
   pub meant : new ≡ with_meaning old meaning
-  pub few : length new.list ≤ 16
+  pub few : length new.list ≤ hosts_max

@@ -1,11 +1,11 @@
 -- The words of a text, with their places.
 use Rattle.std.specs.Prelude.{ℕ, ◌≡◌, ◌≤◌, ◌+◌, List, [], ◌∷◌, ◌++◌, length, Bool, not, true, false, ◌||◌, ◌==◌, if◌then◌else◌}
 use Rattle.std.specs.List.{AllPass}
-use Rattle.host_list.specs.Bytes.{tab, line_feed, form_feed, space, hash}
+use Rattle.farm_types.specs.Bytes.{tab, line_feed, form_feed, space, hash}
 
 -- space, tab, line feed or form feed
-abbrev pub is_blank : ℕ → Bool
-is_blank c = c == space || c == tab || c == line_feed || c == form_feed
+abbrev pub is_blank_or_feed : ℕ → Bool
+is_blank_or_feed c = c == space || c == tab || c == line_feed || c == form_feed
 
 -- the text from a place that is or isn't inside a comment, with spaces in place of the comments' bytes:
 -- a comment begins with `#` and ends with its line
@@ -24,21 +24,21 @@ pub record TextWord : Type 0 where
 -- a blank, or nothing, comes next
 abbrev pub EndsRun : List ℕ → Type 0
 EndsRun [] = Unit {0}
-EndsRun (c ∷ cs) = is_blank c ≡ true
+EndsRun (c ∷ cs) = is_blank_or_feed c ≡ true
 
 -- a text that begins at this place is blanks, then this word, a longest run without blanks, and then the rest
 pub record BeginsWithWord (from : ℕ) (text : List ℕ) (word : TextWord) (rest : List ℕ) : Type 0 where
   pub gap : List ℕ
   pub split : text ≡ gap ++ (word.bytes ++ rest)
-  pub blank : AllPass is_blank gap
+  pub blank : AllPass is_blank_or_feed gap
   pub place : word.at ≡ from + length gap
   pub some : 1 ≤ length word.bytes
-  pub plain : AllPass (λ c. not (is_blank c)) word.bytes
+  pub plain : AllPass (λ c. not (is_blank_or_feed c)) word.bytes
   pub ends : EndsRun rest
 
 -- the longest runs without blanks of a text that begins at this place, in order
 abbrev pub RunsOf : ℕ → List ℕ → List TextWord → Type 0
-RunsOf from text [] = AllPass is_blank text
+RunsOf from text [] = AllPass is_blank_or_feed text
 RunsOf from text (w ∷ ws) = (rest : List ℕ) × BeginsWithWord from text w rest × RunsOf (w.at + length w.bytes) rest ws
 
 -- the words of a text: the longest runs without blanks once comments are cut

@@ -1,6 +1,7 @@
 //! The list of hosts that a text means.
 
 ghost use Rattle.std.specs.Prelude.{ℕ, ◌≡◌, ◌≤◌, ◌<◌, ◌+◌, ◌^◌, length, [], false, IfOk, IfErr, OnOk};
+ghost use Rattle.farm_types.specs.Limits.{hosts_max};
 ghost use Rattle.host_list.specs.HostWords.{HostWord, WordFault};
 ghost use Rattle.host_list.specs.HostLists.{HostListOf, HostFaultStands, IsWrongWord, hosts_of, AreHosts};
 ghost use Rattle.host_list.specs.Answers.{IsError, Gives, GivesFault};
@@ -65,7 +66,7 @@ fn read_at(alloc: Global, at: usize, word: &[u8]) -> Result<Meaning, HostError>
 // Reads a word that begins at a place of a text into a list.
 fn take_word(alloc: Global, hosts: &mut Hosts, at: usize, word: &[u8]) -> Result<(), HostError>
     requires fits { at + length word.now < 2 ^ 64 }
-    requires few { length hosts.old.list ≤ 16 }
+    requires few { length hosts.old.list ≤ hosts_max }
     ensures taken { OnOk result (TakesWord word.now hosts.old hosts.new) }
     ensures fault { IfErr result
         (λ e. IsError (IsWrongWord (length hosts.old.list) (record { at = at; bytes = word.now })) e) }

@@ -1,14 +1,17 @@
 //! Numbers of a host list.
 
-ghost use Rattle.std.specs.Prelude.{ℕ, ◌≤◌, ◌<◌, ◌^◌, IfSome, IfNone};
-ghost use Rattle.host_list.specs.Names.{IsNumber, IsPort, IsLimit};
+ghost use Rattle.std.specs.Prelude.{ℕ, IfSome, IfNone};
+ghost use Rattle.host_list.specs.Names.{IsPort, IsLimit};
+
+use farm_types::limits::SLOTS_MAX;
+use farm_types::read_decimal;
 
 /// The port that the digits spell: 1 to 65,535, in 1 to 5 digits.
 pub fn read_port(digits: &[u8]) -> Option<u16>
     ensures found { IfSome result (λ port. IsPort digits.now port) }
     ensures none { IfNone result ((port : ℕ) → IsPort digits.now port → ⊥) }
 {
-    let port = read_number(digits, 5, 65_535)?;
+    let port = read_decimal(digits, 5, 1, 65_535)?;
     Some(port as u16)
 }
 
@@ -17,29 +20,6 @@ pub fn read_limit(digits: &[u8]) -> Option<u8>
     ensures found { IfSome result (λ limit. IsLimit digits.now limit) }
     ensures none { IfNone result ((limit : ℕ) → IsLimit digits.now limit → ⊥) }
 {
-    let limit = read_number(digits, 3, 255)?;
+    let limit = read_decimal(digits, 3, 1, u32::from(SLOTS_MAX))?;
     Some(limit as u8)
-}
-
-// A number from 1 to the greatest, in at most this many digits.
-fn read_number(digits: &[u8], most: usize, greatest: u32) -> Option<u32>
-    requires { most ≤ 9 }
-    ensures found { IfSome result (λ n. IsNumber most greatest digits.now n) }
-    ensures none { IfNone result ((n : ℕ) → IsNumber most greatest digits.now n → ⊥) }
-{
-    if digits.is_empty() || most < digits.len() {
-        return None;
-    }
-    let mut n = 0;
-    for digit in digits {
-        if !digit.is_ascii_digit() {
-            return None;
-        }
-        n = n * 10 + u32::from(*digit - b'0');
-    }
-    if 1 <= n && n <= greatest {
-        Some(n)
-    } else {
-        None
-    }
 }

@@ -2,8 +2,8 @@
 
 ghost use Rattle.std.specs.Prelude.{ℕ, ◌≡◌, ◌≤◌, ◌<◌, ◌+◌, length, List, [], ◌∷◌, false, not, ◌||◌, ◌==◌, drop, slice_range, slice_index, IfSome, IfNone, IsTrue};
 ghost use Rattle.std.specs.List.{AllPass};
-ghost use Rattle.host_list.specs.Bytes.{line_feed, form_feed, hash};
-ghost use Rattle.host_list.specs.TextWords.{is_blank};
+ghost use Rattle.farm_types.specs.Bytes.{line_feed, form_feed, hash};
+ghost use Rattle.host_list.specs.TextWords.{is_blank_or_feed};
 ghost use Rattle.host_list.specs.Steps.{words_from, ends_word, EndsWord, EndsLine};
 
 use memchr::{memchr, memchr2, memchr3};
@@ -15,8 +15,8 @@ pub struct PlacedWord<'a> {
     pub bytes: &'a [u8],
 }
 
-fn is_blank(byte: u8) -> bool
-    ensures { result ≡ is_blank byte }
+fn is_blank_or_feed(byte: u8) -> bool
+    ensures { result ≡ is_blank_or_feed byte }
 {
     matches!(byte, b' ' | b'\t' | b'\n' | b'\x0c')
 }
@@ -47,7 +47,7 @@ fn skip_gap(text: &[u8], from: usize) -> usize
     while at < text.len() {
         if text[at] == b'#' {
             at = line_end(text, at + 1);
-        } else if is_blank(text[at]) {
+        } else if is_blank_or_feed(text[at]) {
             at += 1;
         } else {
             return at;

@@ -1,6 +1,7 @@
 //! The text of a host list, turned.
 
 ghost use Rattle.std.specs.Prelude.{ℕ, ◌≡◌, true, false, IfOk, length, ◌<◌, ◌≤◌, ◌^◌};
+ghost use Rattle.farm_types.specs.Limits.{hosts_max};
 ghost use Rattle.farm_types.specs.declared.hosts.Hosts.{Hosts};
 ghost use Rattle.host_list.specs.declared.fault.HostFault.{HostFault};
 ghost use Rattle.host_list.specs.HostLists.{AreHosts, HostFaultStands, HostListOf};
@@ -48,7 +49,7 @@ fn turned_hosts(alloc: Global, hosts: &Hosts, share: u32) -> Result<Hosts, Alloc
 
 // The entries from the one that this share points to, and then those before it.
 fn turn(alloc: Global, list: &[Host], share: u32) -> Result<HostVec, AllocError>
-    requires { length list.now ≤ 16 }
+    requires { length list.now ≤ hosts_max }
     ensures { IfOk result (λ made. made ≡ turn (first_of share (length list.now)) list.now) }
 {
     let (front, back) = list.split_at(first_of(share, list.len()));
@@ -59,7 +60,7 @@ fn turn(alloc: Global, list: &[Host], share: u32) -> Result<HostVec, AllocError>
 
 // The place to which a share points, among so many.
 fn first_of(share: u32, count: usize) -> usize
-    requires { count ≤ 16 }
+    requires { count ≤ hosts_max }
     ensures value { result ≡ first_of share count }
     ensures within { result ≤ count }
 {

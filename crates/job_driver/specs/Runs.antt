@@ -1,5 +1,6 @@
 -- What a run of jobs has beside the jobs: before its workers began, and when they are done.
 use Rattle.std.specs.Prelude.{◌≡◌, ℕ, ◌<◌, ◌≤◌, List, [], length, map, slice_index_or, vec_capacity, All}
+use Rattle.farm_types.specs.Limits.{workers_max}
 use Rattle.farm_types.specs.declared.jobs.JobConfig.{JobConfig}
 use Rattle.edge_traits.specs.declared.kit.Kit.{Kit}
 use Rattle.edge_traits.specs.Keepers.{IsIdle}
@@ -18,7 +19,7 @@ use Rattle.job_driver.specs.Workers.{kit_of, pass_of, reserve_of, AreSlotsFor, H
 pub record HasKits {K : Type 0} (d : Devices K) (workers : ℕ) (kits : List K) : Type 0 where
   pub some : 1 ≤ workers
   pub enough : workers ≤ length kits
-  pub most : length kits ≤ 16
+  pub most : length kits ≤ workers_max
   pub idle : All (λ kit. IsIdle (d.shows kit).keeper) kits
 
 -- workers that have done nothing yet, one for each pass of the cell

@@ -1,5 +1,6 @@
 //! All jobs of a list.
 ghost use Rattle.std.specs.Prelude.{◌≡◌, ◌≤◌, All, IfOk, OnErr, length};
+ghost use Rattle.farm_types.specs.Limits.{workers_max};
 ghost use Rattle.edge_traits.specs.Keepers.{IsIdle};
 ghost use Rattle.farm_machine.specs.Jobs.{AreLimitsOf};
 ghost use Rattle.farm_cell.specs.Passes.{seen_of};
@@ -52,7 +53,7 @@ where
     requires config { IsUsable config.now }
     requires some { 1 ≤ workers }
     requires kits { workers ≤ length kits.old.items }
-    requires most { length kits.old.items ≤ 16 }
+    requires most { length kits.old.items ≤ workers_max }
     requires idle { All (λ kit. IsIdle (K.shows kit.keeper)) kits.old.items }
     ensures ran { IfOk result (λ built. JobsRan (devices D.shows S.shows K.shows C.shows D.may_give S.ran)
         built.last.limits (job_at jobs.now config.now) config.now.period workers

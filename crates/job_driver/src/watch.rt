@@ -1,6 +1,7 @@
 //! The watcher's part of a build, beside its workers.
 ghost use Rattle.std.specs.Prelude.{◌≡◌, ℕ, ◌<◌, ◌≤◌, [], All, length, map, slice_index_or, vec_len};
 ghost use Rattle.std.specs.Fork.{AcceptsEach, ChangesEach};
+ghost use Rattle.farm_types.specs.Limits.{workers_max};
 ghost use Rattle.edge_traits.specs.Told.{Grew};
 ghost use Rattle.farm_cell.specs.Passes.{limits_of};
 ghost use Rattle.farm_monitor.specs.Boards.{board_watched};
@@ -162,7 +163,7 @@ where
     D::Link: Send,
     requires slots { AreSlotsFor plan.jobs.now plan.config.now (limits_of cell.now) }
     requires ready { AreReady (devices D.shows S.shows K.shows C.shows D.may_give S.ran) cell.now (length plan.jobs.now) workers.old.items }
-    requires few { length workers.old.items ≤ 16 }
+    requires few { length workers.old.items ≤ workers_max }
     requires fits { IsFor (length workers.old.items) beside.old }
     ensures len { (vec_len workers.new ≡ vec_len workers.old) × (length workers.new.items ≡ length workers.old.items) }
     ensures each { (number : ℕ) (d : _) → number < length workers.old.items →

@@ -1,5 +1,6 @@
 //! All jobs of a list, while somebody watches.
 ghost use Rattle.std.specs.Prelude.{◌≡◌, ◌+◌, ◌^◌, ◌<◌, ◌≤◌, [], All, IfOk, OnErr, true, length, map, vec_capacity};
+ghost use Rattle.farm_types.specs.Limits.{workers_max};
 ghost use Rattle.edge_traits.specs.Keepers.{IsIdle};
 ghost use Rattle.farm_machine.specs.Jobs.{AreLimitsOf};
 ghost use Rattle.farm_cell.specs.Passes.{seen_of};
@@ -140,7 +141,7 @@ where
     requires config { IsUsable config.now }
     requires some { 1 ≤ workers }
     requires kits { workers < length kits.old.items }
-    requires most { length kits.old.items ≤ 16 }
+    requires most { length kits.old.items ≤ workers_max }
     requires lines { lines ≤ 100 }
     requires idle { All (λ kit. IsIdle (K.shows kit.keeper)) kits.old.items }
     ensures ran { IfOk result (λ watched. WatchedRan (devices D.shows S.shows K.shows C.shows D.may_give S.ran)

@@ -6,7 +6,7 @@ use Rattle.std.specs.List.{AllPass, filter, slice_split}
 use Rattle.std.proofs.lemmas.Bool.Decides.{nat_tests}
 use Rattle.std.proofs.lemmas.List.{append-nil, take-append-drop, length-drop, length-take-le, drop_more, take_rest}
 use Rattle.std.proofs.lemmas.List.Splits.{slice_split-cons_yes, slice_split_none, slice_split_at}
-use Rattle.job_list.specs.Parts.{is_blank}
+use Rattle.farm_types.specs.Bytes.{is_blank}
 use Rattle.job_graph.specs.Lines.{plain_words}
 
 -- a part that is a word

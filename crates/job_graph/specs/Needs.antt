@@ -1,10 +1,9 @@
 -- The needs of each job, and what is wrong with a line of needs.
-use Rattle.std.specs.Prelude.{ℕ, ◌+◌, ◌-◌, List, [], ◌∷◌, ◌++◌, length, Bool, true, false, not, ◌&&◌, ◌||◌, nat_le, Option, Some, None}
+use Rattle.std.specs.Prelude.{ℕ, ◌+◌, ◌-◌, List, [], ◌∷◌, ◌++◌, Bool, true, false, not, ◌&&◌, ◌||◌, nat_le, Option, Some, None}
 use Rattle.std.specs.Prelude.{if◌then◌else◌}
 use Rattle.std.specs.List.{filter_map}
 use Rattle.std.specs.Option.{is_some}
-use Rattle.std.specs.Str.{all_ascii_digits}
-use Rattle.std.specs.Str.Parse.{digits_value}
+use Rattle.farm_types.specs.Decimals.{decimal_of}
 use Rattle.job_list.specs.Texts.{is_job, lines_of}
 use Rattle.job_graph.specs.declared.fault.GraphFault.{GraphFault}
 use Rattle.job_graph.specs.declared.fault.GraphFault.TheVariants.{BadNeed, NoJobAfter}
@@ -12,13 +11,9 @@ use Rattle.job_graph.specs.Lines.{is_needs, needed_words}
 
 -- ---- a word
 
--- 1 to 3 decimal digits
-abbrev pub is_need_number : List ℕ → Bool
-is_need_number word = nat_le 1 (length word) && nat_le (length word) 3 && all_ascii_digits word
-
--- the number that a word spells so
+-- the number that a word spells in 1 to 3 decimal digits
 abbrev pub short_number : List ℕ → Option ℕ
-short_number word = if is_need_number word then Some (digits_value 10 word) else None
+short_number word = decimal_of 3 0 999 word
 
 -- the place of the job with this printed number, which is 1 to the number of jobs
 abbrev pub job_numbered : ℕ → Option ℕ → Option ℕ

@@ -2,7 +2,7 @@
 
 ghost use Rattle.std.specs.Prelude.{◌≡◌, ◌∷◌, [], ◌<◌, ◌≤◌, not, true, false, length, slice_range, slice_index, IfSome, IfNone};
 ghost use Rattle.std.specs.List.{AllPass};
-ghost use Rattle.job_list.specs.Parts as parts;
+ghost use Rattle.farm_types.specs.Bytes as bytes;
 ghost use Rattle.job_graph.specs.Lines.{plain_words, is_needs, needed_words};
 
 use job_list::is_blank;
@@ -11,8 +11,8 @@ use memchr::memchr2;
 // The end of the word that a line begins with: its first blank, or the line's end.
 fn word_end(line: &[u8]) -> usize
     ensures high { result ≤ length line.now }
-    ensures word { AllPass (λ c. not (parts.is_blank c)) (slice_range line.now 0 result) }
-    ensures ends { result < length line.now → parts.is_blank (slice_index line.now result) ≡ true }
+    ensures word { AllPass (λ c. not (bytes.is_blank c)) (slice_range line.now 0 result) }
+    ensures ends { result < length line.now → bytes.is_blank (slice_index line.now result) ≡ true }
 {
     match memchr2(b' ', b'\t', line) {
         Some(end) => end,

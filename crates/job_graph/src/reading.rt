@@ -1,6 +1,7 @@
 //! The needs of each job of a text.
 
 ghost use Rattle.std.specs.Prelude.{ℕ, ◌≡◌, ◌<◌, ◌≤◌, ◌++◌, ◌∷◌, [], true, false, length, IfOk, IfErr, None};
+ghost use Rattle.farm_types.specs.Limits.{job_list_max};
 ghost use Rattle.job_list.specs.Texts.{lines_of};
 ghost use Rattle.job_graph.specs.Lines.{plain_words};
 ghost use Rattle.job_graph.specs.Needs.{all_named, jobs_named, needs_fault, needs_of};
@@ -31,7 +32,7 @@ fn add_needs(ahead: &mut Numbers, words: &[u8], count: usize) -> Result<bool, Al
 
 /// Reads the needs of each job of a text with so many jobs.
 pub fn read_needs(alloc: Global, text: &[u8], count: usize) -> Result<NeedLists, GraphError>
-    requires short { length text.now ≤ 16_777_216 }
+    requires short { length text.now ≤ job_list_max }
     requires jobs { job_count (lines_of text.now) ≡ count }
     ensures right { IfOk result (λ needs. needs_fault count text.now ≡ None) }
     ensures needs { IfOk result (λ needs. needs ≡ needs_of count text.now) }

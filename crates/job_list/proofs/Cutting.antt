@@ -4,10 +4,10 @@ use Rattle.std.specs.Prelude.{not, ◌==◌, if◌then◌else◌}
 use Rattle.std.specs.List.{flat_map}
 use Rattle.std.proofs.lemmas.List.{append_assoc, append-nil}
 use Rattle.std.proofs.lemmas.Bool.Decides.{nat_tests}
+use Rattle.farm_types.specs.Bytes.{single_quote, double_quote, backslash, is_blank}
 use Rattle.job_list.specs.declared.fault.JobFault.{JobFault}
 use Rattle.job_list.specs.declared.fault.JobFault.TheVariants.{OpenQuote, BadEscape}
-use Rattle.job_list.specs.Bytes.{single_quote, double_quote, backslash}
-use Rattle.job_list.specs.Parts.{Each, IsInSingle, Quoted, literal, kept, escaped, IsQuoted, quoted_text, is_mark, is_blank, is_bare, Part, blank, bare, after_backslash, single, double, IsPart, part_text}
+use Rattle.job_list.specs.Parts.{Each, IsInSingle, Quoted, literal, kept, escaped, IsQuoted, quoted_text, is_mark, is_bare, Part, blank, bare, after_backslash, single, double, IsPart, part_text}
 use Rattle.job_list.specs.Lines.{words_of, LineOf, LineFault, BreaksOff, IsCutMark}
 
 -- where in a line a byte stands: outside quotes, there behind a backslash, between single quotes, between double

@@ -5,8 +5,7 @@ use Rattle.std.specs.List.{AllPass, slice_get}
 use Rattle.std.proofs.lemmas.List.{append_assoc, append-nil, length-drop, drop_more, drop_all}
 use Rattle.std.proofs.lemmas.List.Folds.{drop_split}
 use Rattle.std.proofs.lemmas.List.Splits.{slice_split_none, slice_split_at}
-use Rattle.job_list.specs.Bytes.{line_feed, hash}
-use Rattle.job_list.specs.Parts.{is_blank}
+use Rattle.farm_types.specs.Bytes.{line_feed, hash, is_blank}
 use Rattle.job_list.specs.Texts.{is_job, lines_of, NumberedLine, jobs_from, job_lines}
 use Rattle.job_list.specs.Outputs.{AreApart, outputs_of}
 use Rattle.job_list.specs.Jobs.{JobOf, AreJobs, IsWrongLine, HasWrongLine, JobsOf, JobFaultStands}

@@ -11,7 +11,7 @@ use Rattle.std.proofs.lemmas.List.Elements.{All-nil, All-cons, All-head, All-tai
 use Rattle.std.proofs.lemmas.List.Splits.{slice_split_none}
 use Rattle.std.proofs.lemmas.List.Sums.{split_at_first, fails_before_first, passes_at_first}
 use Rattle.std.proofs.lemmas.Str.{IsUtf8-append, IsUtf8-nil, IsUtf8-from_ascii, IsUtf8-take, IsUtf8-drop, IsCharBoundary-before_ascii, IsCharBoundary-after_ascii}
-use Rattle.job_list.specs.Bytes.{line_feed, space, double_quote, backslash}
+use Rattle.farm_types.specs.Bytes.{line_feed, space, double_quote, backslash}
 use Rattle.job_list.specs.Parts.{Each, Quoted, literal, escaped, is_mark, IsQuoted, quoted_text, quoted_bytes, Part, blank, double, IsPart, part_text}
 use Rattle.job_list.specs.Lines.{words_of, goes_on, onto_words, LineOf}
 use Rattle.job_list.specs.Texts.{is_job, lines_of, jobs_from, job_lines}

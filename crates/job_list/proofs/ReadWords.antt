@@ -8,8 +8,8 @@ use Rattle.std.proofs.Math.Seq.{get_or-append_seam, take-append_seam, drop-appen
 use Rattle.std.proofs.lemmas.List.{append_assoc, append-nil, length-append}
 use Rattle.std.proofs.lemmas.List.Elements.{All-nil, All-cons, All-head, All-tail}
 use Rattle.std.proofs.lemmas.Str.{IsUtf8-append, IsUtf8-take, IsUtf8-drop, IsCharBoundary-before_ascii, IsCharBoundary-after_ascii}
-use Rattle.job_list.specs.Bytes.{line_feed, single_quote, double_quote, backslash}
-use Rattle.job_list.specs.Parts.{Each, Quoted, literal, kept, escaped, quoted_text, quoted_bytes, is_blank, Part, blank, bare, after_backslash, single, double, IsPart, part_text, part_bytes}
+use Rattle.farm_types.specs.Bytes.{line_feed, single_quote, double_quote, backslash, is_blank}
+use Rattle.job_list.specs.Parts.{Each, Quoted, literal, kept, escaped, quoted_text, quoted_bytes, Part, blank, bare, after_backslash, single, double, IsPart, part_text, part_bytes}
 use Rattle.job_list.specs.Lines.{words_of, goes_on, onto_words, LineOf}
 use Rattle.job_list.specs.Texts.{lines_of, is_job, jobs_from}
 use Rattle.job_list.specs.Jobs.{HasNoZero, JobOf, AreJobs, JobsOf}

@@ -2,6 +2,7 @@
 use Rattle.std.specs.Prelude.{ℕ, ◌≡◌, ◌+◌, ◌≤◌, ◌<◌, List, [], ◌∷◌, ◌++◌, length, not, ◌==◌, ◌⊎◌, Some}
 use Rattle.std.specs.List.{AllPass, slice_get}
 use Rattle.std.specs.Str.{IsUtf8}
+use Rattle.farm_types.specs.Limits.{jobs_max, job_list_max}
 use Rattle.job_list.specs.declared.fault.JobFault.{JobFault}
 use Rattle.job_list.specs.declared.fault.JobFault.TheVariants.{NoJobs, TooMany, TooLong, SameOutput, NotText}
 use Rattle.job_list.specs.Lines.{LineOf, LineFault}
@@ -28,7 +29,7 @@ abbrev pub IsWrongLine : ℕ → List ℕ → JobFault → Type 0
 IsWrongLine count line fault =
     ((fault ≡ NotText) × (IsText line → ⊥))
     ⊎ (IsText line × LineFault line fault)
-    ⊎ ((fault ≡ TooMany) × (count ≡ 512) × (words : List (List ℕ)) × JobOf line words)
+    ⊎ ((fault ≡ TooMany) × (count ≡ jobs_max) × (words : List (List ℕ)) × JobOf line words)
 
 -- ---- all jobs
 
@@ -41,10 +42,10 @@ AreJobs (l ∷ ls) (j ∷ js) = JobOf l.bytes j × AreJobs ls js
 
 -- the text is a list of these jobs
 pub record JobsOf (text : List ℕ) (jobs : List (List (List ℕ))) : Type 0 where
-  pub short : length text ≤ 16_777_216
+  pub short : length text ≤ job_list_max
   pub each : AreJobs (job_lines text) jobs
   pub some : 1 ≤ length jobs
-  pub few : length jobs ≤ 512
+  pub few : length jobs ≤ jobs_max
   pub apart : AreApart (outputs_of jobs)
 
 -- ---- the fault
@@ -57,7 +58,7 @@ pub record HasWrongLine (lines : List NumberedLine) (at : ℕ) (fault : JobFault
   pub jobs : List (List (List ℕ))
   pub split : lines ≡ before ++ line ∷ after
   pub right : AreJobs before jobs
-  pub few : length jobs ≤ 512
+  pub few : length jobs ≤ jobs_max
   pub wrong : IsWrongLine (length jobs) line.bytes fault
   pub place : at ≡ line.number
 
@@ -68,7 +69,7 @@ pub record SharesOutput (lines : List NumberedLine) (at : ℕ) (fault : JobFault
   pub second : ℕ
   pub line : NumberedLine
   pub each : AreJobs lines jobs
-  pub few : length jobs ≤ 512
+  pub few : length jobs ≤ jobs_max
   pub pair : IsLeastPair (outputs_of jobs) first second
   pub there : slice_get lines second ≡ Some line
   pub place : at ≡ line.number
@@ -84,5 +85,5 @@ LinesFault lines at fault =
 -- the fault of a text, by the first of these rules that it falls under
 abbrev pub JobFaultStands : List ℕ → ℕ → JobFault → Type 0
 JobFaultStands text at fault =
-    ((16_777_216 < length text) × (at ≡ 0) × (fault ≡ TooLong (length text)))
-    ⊎ ((length text ≤ 16_777_216) × LinesFault (job_lines text) at fault)
+    ((job_list_max < length text) × (at ≡ 0) × (fault ≡ TooLong (length text)))
+    ⊎ ((length text ≤ job_list_max) × LinesFault (job_lines text) at fault)

@@ -1,9 +1,9 @@
 -- The words of a line, and what is wrong with a line that has none.
 use Rattle.std.specs.Prelude.{ℕ, ◌≡◌, List, [], ◌∷◌, ◌++◌, Bool, true, false, ◌⊎◌}
 use Rattle.std.specs.List.{flat_map}
+use Rattle.farm_types.specs.Bytes.{double_quote, single_quote, backslash}
 use Rattle.job_list.specs.declared.fault.JobFault.{JobFault}
 use Rattle.job_list.specs.declared.fault.JobFault.TheVariants.{OpenQuote, BadEscape}
-use Rattle.job_list.specs.Bytes.{double_quote, single_quote, backslash}
 use Rattle.job_list.specs.Parts.{Each, IsInSingle, Quoted, IsQuoted, quoted_text, Part, blank, IsPart, part_text, part_bytes}
 
 -- ---- the words

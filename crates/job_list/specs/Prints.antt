@@ -2,7 +2,7 @@
 use Rattle.std.specs.Prelude.{ℕ, ◌≤◌, List, length, [], ◌∷◌, ◌++◌, not, ◌||◌, ◌==◌, All, if◌then◌else◌}
 use Rattle.std.specs.List.{AllPass, flat_map}
 use Rattle.std.specs.Str.{IsUtf8}
-use Rattle.job_list.specs.Bytes.{line_feed, space, double_quote, backslash}
+use Rattle.farm_types.specs.Bytes.{line_feed, space, double_quote, backslash}
 use Rattle.job_list.specs.Parts.{is_mark}
 
 -- ---- the words

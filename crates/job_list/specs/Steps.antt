@@ -1,12 +1,13 @@
 -- What the steps of the reader give.
 use Rattle.std.specs.Prelude.{ℕ, ◌≡◌, ◌+◌, ◌<◌, ◌≤◌, List, [], ◌∷◌, ◌++◌, length, drop, map, Option, Some, None, true, false, ◌⊎◌}
 use Rattle.std.specs.List.{flat_map, slice_get}
+use Rattle.farm_types.specs.Bytes.{double_quote}
+use Rattle.farm_types.specs.Limits.{jobs_max}
 use Rattle.job_list.specs.declared.line.Reader.{Reader}
 use Rattle.job_list.specs.declared.quotes.Closed.{Closed}
 use Rattle.job_list.specs.declared.list.Listed.{Listed}
 use Rattle.job_list.specs.declared.fault.JobFault.{JobFault}
 use Rattle.job_list.specs.declared.fault.JobFault.TheVariants.{SameOutput}
-use Rattle.job_list.specs.Bytes.{double_quote}
 use Rattle.job_list.specs.Parts.{Each, Quoted, IsQuoted, quoted_text, quoted_bytes, Part, IsPart, part_text}
 use Rattle.job_list.specs.Lines.{words_of, goes_on, onto_words}
 use Rattle.job_list.specs.Texts.{is_job, lines_of, NumberedLine, jobs_from, job_lines}
@@ -73,7 +74,7 @@ AddsLine line number old new =
 -- and there are at most 512 jobs still
 pub record TakesLine (line : List ℕ) (number : ℕ) (old new : Listed) : Type 0 where
   pub by : AddsLine line number old new
-  pub few : length new.jobs ≤ 512
+  pub few : length new.jobs ≤ jobs_max
 
 -- the jobs of a text are these lines and those from a place on, where a line with this number begins; none begins
 -- behind the text's end
@@ -87,7 +88,7 @@ pub record ListsUpTo (text : List ℕ) (from number : ℕ) (listed : Listed) : T
   pub before : List NumberedLine
   pub left : Left text from number before
   pub right : AreJobs before listed.jobs
-  pub few : length listed.jobs ≤ 512
+  pub few : length listed.jobs ≤ jobs_max
   pub numbers : listed.lines ≡ numbers_of before
 
 -- two of the listed jobs have the same output

@@ -1,8 +1,7 @@
 -- The lines of a text, and those that are jobs.
 use Rattle.std.specs.Prelude.{ℕ, ◌+◌, List, [], ◌∷◌, Bool, false, not, ◌==◌, if◌then◌else◌}
 use Rattle.std.specs.List.{slice_split}
-use Rattle.job_list.specs.Bytes.{line_feed, hash}
-use Rattle.job_list.specs.Parts.{is_blank}
+use Rattle.farm_types.specs.Bytes.{line_feed, hash, is_blank}
 
 -- the lines of a text, between its line feeds
 abbrev pub lines_of : List ℕ → List (List ℕ)

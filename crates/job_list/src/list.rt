@@ -1,6 +1,7 @@
 //! The jobs that a text lists.
 
 ghost use Rattle.std.specs.Prelude.{ℕ, ◌≡◌, ◌≤◌, ◌<◌, ◌+◌, ◌++◌, ◌∷◌, [], List, true, false, length, OnOk, IfOk, IfErr, All};
+ghost use Rattle.farm_types.specs.Limits.{jobs_max, job_list_max};
 ghost use Rattle.job_list.specs.declared.fault.JobFault.{JobFault};
 ghost use Rattle.job_list.specs.Texts as texts;
 ghost use Rattle.job_list.specs.Texts.{job_lines};
@@ -49,7 +50,7 @@ fn read_job(alloc: Global, line: &[u8], number: u32) -> Result<Words, JobError>
 
 // Reads one line more.
 fn take_line(alloc: Global, listed: &mut Listed, line: &[u8], number: u32) -> Result<(), JobError>
-    requires few { length listed.old.jobs ≤ 512 }
+    requires few { length listed.old.jobs ≤ jobs_max }
     ensures taken { OnOk result (TakesLine line.now number listed.old listed.new) }
     ensures fault { IfErr result (λ e. IsError (λ at fault. (at ≡ number)
         × (texts.is_job line.now ≡ true) × IsWrongLine (length listed.old.jobs) line.now fault) e) }
@@ -70,9 +71,9 @@ fn take_line(alloc: Global, listed: &mut Listed, line: &[u8], number: u32) -> Re
 
 // Reads the lines of a text, one after another.
 fn read_lines(alloc: Global, text: &[u8]) -> Result<Listed, JobError>
-    requires { length text.now ≤ 16_777_216 }
+    requires { length text.now ≤ job_list_max }
     ensures jobs { IfOk result (λ listed. AreJobs (job_lines text.now) listed.jobs) }
-    ensures few { IfOk result (λ listed. length listed.jobs ≤ 512) }
+    ensures few { IfOk result (λ listed. length listed.jobs ≤ jobs_max) }
     ensures numbers { IfOk result (λ listed. listed.lines ≡ numbers_of (job_lines text.now)) }
     ensures fault { IfErr result (λ e. IsError (HasWrongLine (job_lines text.now)) e) }
 {
@@ -93,10 +94,10 @@ fn read_lines(alloc: Global, text: &[u8]) -> Result<Listed, JobError>
 
 // Reads the jobs of a text, before their outputs are compared.
 fn read_jobs(alloc: Global, text: &[u8]) -> Result<Listed, JobError>
-    ensures short { IfOk result (λ _. length text.now ≤ 16_777_216) }
+    ensures short { IfOk result (λ _. length text.now ≤ job_list_max) }
     ensures jobs { IfOk result (λ listed. AreJobs (job_lines text.now) listed.jobs) }
     ensures some { IfOk result (λ listed. 1 ≤ length listed.jobs) }
-    ensures few { IfOk result (λ listed. length listed.jobs ≤ 512) }
+    ensures few { IfOk result (λ listed. length listed.jobs ≤ jobs_max) }
     ensures numbers { IfOk result (λ listed. listed.lines ≡ numbers_of (job_lines text.now)) }
     ensures fault { IfErr result (λ e. IsError (JobFaultStands text.now) e) }
 {
@@ -120,7 +121,7 @@ fn read_jobs(alloc: Global, text: &[u8]) -> Result<Listed, JobError>
 
 // The jobs, of which no two have the same output.
 fn check_outputs(alloc: Global, listed: Listed) -> Result<Jobs, JobError>
-    requires few { length listed.jobs ≤ 512 }
+    requires few { length listed.jobs ≤ jobs_max }
     requires numbers { length listed.lines ≡ length listed.jobs }
     ensures jobs { IfOk result (λ jobs. jobs ≡ listed.jobs) }
     ensures apart { OnOk result (AreApart (outputs_of listed.jobs)) }

@@ -1,6 +1,7 @@
 //! The line of a list of words.
 
 ghost use Rattle.std.specs.Prelude.{◌≡◌, ◌≤◌, ◌++◌, ◌∷◌, [], true, length, IfOk, OnOk, IsTrue, ◌↔◌};
+ghost use Rattle.farm_types.specs.Limits.{job_list_max};
 ghost use Rattle.job_list.specs.Lines.{LineOf};
 ghost use Rattle.job_list.specs.Texts.{is_job, lines_of};
 ghost use Rattle.job_list.specs.Jobs.{JobOf, JobsOf};
@@ -72,7 +73,7 @@ pub fn print_words(alloc: Global, words: &Words) -> Result<Bytes, AllocError>
     ensures job { AreJobWords words.now
         → IfOk result (λ line. (is_job line ≡ true) × JobOf line words.now) }
     ensures again { AreJobWords words.now
-        → IfOk result (λ line. length line ≤ 16_777_216 → JobsOf line (words.now ∷ [])) }
+        → IfOk result (λ line. length line ≤ job_list_max → JobsOf line (words.now ∷ [])) }
 {
     put_words(alloc, words)
 }

@@ -2,7 +2,7 @@
 
 ghost use Rattle.std.specs.Prelude.{◌≡◌, ◌≤◌, ◌<◌, not, ◌==◌, length, slice_index, slice_range, IsTrue, ◌↔◌};
 ghost use Rattle.std.specs.List.{AllPass};
-ghost use Rattle.job_list.specs.Bytes.{line_feed};
+ghost use Rattle.farm_types.specs.Bytes.{line_feed};
 ghost use Rattle.job_list.specs.Texts as texts;
 ghost use Rattle.job_list.specs.Jobs.{HasNoZero, IsText};
 

@@ -1,5 +1,6 @@
 -- The course of a job as its contract tells it: by the table, with the bounds of runs and fetches and the rule on want of memory.
 use Rattle.std.specs.Prelude.{◌≡◌, ◌⊎◌, ℕ, ◌≤◌, List, [], ◌∷◌, ◌++◌, length}
+use Rattle.farm_types.specs.Limits.{preprocessed_max}
 use Rattle.edge_traits.specs.declared.entries.Exchange.{Exchange}
 use Rattle.edge_traits.specs.Deeds.{ran, fetched, exchanged}
 use Rattle.edge_traits.specs.Stations.{IsWithin}
@@ -17,7 +18,7 @@ use Rattle.job_run.specs.Gives.{IsUnhurt}
 abbrev pub AreCompiles : List Act → Type 0
 AreCompiles [] = Unit {0}
 AreCompiles (Did (ran x) ∷ acts) = IsWithin compile_bounds x.ran × AreCompiles acts
-AreCompiles (Did (fetched x) ∷ acts) = (length x.bytes ≤ 41943040) × AreCompiles acts
+AreCompiles (Did (fetched x) ∷ acts) = (length x.bytes ≤ preprocessed_max) × AreCompiles acts
 AreCompiles (act ∷ acts) = AreCompiles acts
 
 -- Each run leaves no more than its bounds let it, and each fetch is within its own. A run that is the first act is the preprocessor's, and

@@ -1,5 +1,6 @@
 -- What a job's parts see: the job, the devices, and the slots.
 use Rattle.std.specs.Prelude.{◌≡◌, ℕ, ◌+◌, ◌<◌, ◌≤◌, Bool, false, List, [], length}
+use Rattle.farm_types.specs.Limits.{hosts_max}
 use Rattle.farm_types.specs.declared.hosts.Host.{Host}
 use Rattle.farm_types.specs.declared.jobs.JobConfig.{JobConfig}
 use Rattle.farm_types.specs.declared.request.Request.{Request}
@@ -28,9 +29,9 @@ job_in task = job_of task.words.now task.config.now
 
 -- at most 16 entries, and 1 to 16 of them may be asked for a job
 pub record IsAskable (config : JobConfig) : Type 0 where
-  pub entries : length config.hosts.list ≤ 16
+  pub entries : length config.hosts.list ≤ hosts_max
   pub some : 1 ≤ config.tries
-  pub tries : config.tries ≤ 16
+  pub tries : config.tries ≤ hosts_max
 
 -- the command's source is this word, and it is preprocessed already or not
 pub record HasSource (words : List (List ℕ)) (input : ℕ) (preprocessed : Bool) : Type 0 where

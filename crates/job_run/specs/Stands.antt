@@ -1,5 +1,6 @@
 -- When a job's keeper stands still, and by which fetch a job fails.
 use Rattle.std.specs.Prelude.{◌≡◌, ℕ, List, []}
+use Rattle.farm_types.specs.Limits.{preprocessed_max}
 use Rattle.edge_traits.specs.Causes.{Still, IsRemoval}
 use Rattle.edge_traits.specs.Deeds.{exchanges_in}
 use Rattle.edge_traits.specs.declared.faults.FetchFault.{FetchFault}
@@ -38,5 +39,5 @@ KeeperStands end acts old new = KeepsStill acts old new
 -- there or is longer than that.
 abbrev pub FetchEnds : List ℕ → End → List Act → KeeperView → KeeperView → Type 0
 FetchEnds name (Failed Fetch) acts old new =
-    HasNoExchange acts → (fault : FetchFault) × (fetch_failure fault ≡ Fetch) × FetchCause name 41943040 old new fault
+    HasNoExchange acts → (fault : FetchFault) × (fetch_failure fault ≡ Fetch) × FetchCause name preprocessed_max old new fault
 FetchEnds name end acts old new = Unit {0}

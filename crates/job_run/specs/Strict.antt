@@ -1,5 +1,6 @@
 -- The walk of a job's acts, with each run and each fetch within its bounds, and want of memory that hides no fault of an exchange.
 use Rattle.std.specs.Prelude.{◌≡◌, ◌≤◌, List, [], ◌∷◌, length}
+use Rattle.farm_types.specs.Limits.{preprocessed_max}
 use Rattle.edge_traits.specs.Deeds.{ran, fetched}
 use Rattle.edge_traits.specs.Stations.{IsWithin}
 use Rattle.child_runner.specs.Runs.{preprocessor_bounds, compile_bounds, in_place_bounds}
@@ -17,7 +18,7 @@ abbrev pub IsStrict : Act → At → At → Type 0
 IsStrict (Did (ran x)) Start to = IsWithin preprocessor_bounds x.ran
 IsStrict (Did (ran x)) LentInPlace to = IsWithin in_place_bounds x.ran
 IsStrict (Did (ran x)) at to = IsWithin compile_bounds x.ran
-IsStrict (Did (fetched x)) at to = length x.bytes ≤ 41943040
+IsStrict (Did (fetched x)) at to = length x.bytes ≤ preprocessed_max
 IsStrict (Met (Gives k)) (Sent host source note tried x) (Over (Failed Memory)) = IsUnhurt x
 IsStrict act at to = Unit {0}
 

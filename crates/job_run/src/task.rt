@@ -1,5 +1,6 @@
 // A job as its parts see it.
 ghost use Rattle.std.specs.Prelude.{◌≡◌, ◌<◌, ◌≤◌, length};
+ghost use Rattle.farm_types.specs.Limits.{hosts_max};
 ghost use Rattle.arg_scan.specs.Class.{IsRemote};
 ghost use Rattle.arg_strip.specs.Words.{output_of};
 
@@ -14,9 +15,9 @@ pub(crate) struct Command<'a> {
     pub(crate) number: u32,
     pub(crate) config: &'a JobConfig,
     pub(crate) ghost word: { 0 < length words.now },
-    pub(crate) ghost entries: { length config.now.hosts.list ≤ 16 },
+    pub(crate) ghost entries: { length config.now.hosts.list ≤ hosts_max },
     pub(crate) ghost some: { 1 ≤ config.now.tries },
-    pub(crate) ghost tries: { config.now.tries ≤ 16 },
+    pub(crate) ghost tries: { config.now.tries ≤ hosts_max },
 }
 
 /// What stays the same through a job whose command may be sent.
@@ -30,7 +31,7 @@ pub(crate) struct Task<'a> {
     pub(crate) output: &'a Bytes,
     pub(crate) ghost remote: { IsRemote words.now },
     pub(crate) ghost named: { output.now ≡ output_of words.now },
-    pub(crate) ghost entries: { length config.now.hosts.list ≤ 16 },
+    pub(crate) ghost entries: { length config.now.hosts.list ≤ hosts_max },
     pub(crate) ghost some: { 1 ≤ config.now.tries },
-    pub(crate) ghost tries: { config.now.tries ≤ 16 },
+    pub(crate) ghost tries: { config.now.tries ≤ hosts_max },
 }

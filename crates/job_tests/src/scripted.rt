@@ -240,9 +240,9 @@ fn job_at<R: Wait, D: Dialer, S: Station, K: Keeper, C: Clock, G: Grants>(
 ) -> Result<Report, Fail>
     requires word { 0 < length words.now }
     requires hosts { AreLimitsOf (G.limits grants.old) config.now.hosts }
-    requires entries { length config.now.hosts.list ≤ 16 }
+    requires entries { length config.now.hosts.list ≤ hosts_max }
     requires some { 1 ≤ config.now.tries }
-    requires tries { config.now.tries ≤ 16 }
+    requires tries { config.now.tries ≤ hosts_max }
     requires ready { G.ready grants.old }
     requires spare { 64 * cost G.alone ≤ G.spare grants.old }
     requires none { outstanding (G.mine grants.old) ≡ [] }

@@ -1,5 +1,6 @@
 //! Slots, as the tests begin with them.
 ghost use Rattle.std.specs.Prelude.{◌≡◌, ◌≤◌, [], length, IfOk};
+ghost use Rattle.farm_types.specs.Limits.{hosts_max};
 ghost use Rattle.farm_machine.specs.Jobs.{AreLimitsOf};
 
 use farm_machine::limits_of;
@@ -10,7 +11,7 @@ use std::test::Fail;
 
 /// The slots of one thread for these entries, with room for two jobs.
 pub fn slots_of(alloc: Global, hosts: &Hosts) -> Result<OneThread<16>, Fail>
-    requires { length hosts.now.list ≤ 16 }
+    requires { length hosts.now.list ≤ hosts_max }
     ensures limits { IfOk result (λ slots. AreLimitsOf slots.limits hosts.now) }
     ensures mine { IfOk result (λ slots. slots.mine ≡ []) }
     ensures spare { IfOk result (λ slots. 128 ≤ slots.spare) }

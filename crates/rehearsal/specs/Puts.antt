@@ -1,10 +1,7 @@
 -- The objects that were put.
 use Rattle.std.specs.Prelude.{ℕ, ◌≤◌, List, length, Option, Some, None, slice_get}
+use Rattle.farm_types.specs.Limits.{object_max}
 use Rattle.edge_traits.specs.declared.entries.Put.{Put}
-
--- the most bytes of an object
-abbrev pub object_max : ℕ
-object_max = 33554432
 
 abbrev pub IsSmall : Put → Type 0
 IsSmall put = length put.bytes ≤ object_max

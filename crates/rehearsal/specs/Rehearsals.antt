@@ -1,6 +1,7 @@
 -- What a rehearsal leaves.
 use Rattle.std.specs.Prelude.{ℕ, Bool, ◌≡◌, min, true, false, codes, List, [], ◌∷◌, length, All, count_by, Option, Some, None, slice_get, if◌then◌else◌, ◌==◌}
 use Rattle.std.specs.List.{AllZip, sum_by}
+use Rattle.farm_types.specs.Limits.{period_default}
 use Rattle.farm_types.specs.declared.hosts.Hosts.{Hosts}
 use Rattle.farm_types.specs.declared.jobs.JobConfig.{JobConfig}
 use Rattle.farm_types.specs.declared.ran.Ran.{Ran}
@@ -41,7 +42,7 @@ rehearsal_hosts = record {
 }
 
 abbrev pub rehearsal_config : JobConfig
-rehearsal_config = record { hosts = rehearsal_hosts; fallback = true; retry = true; period = 60; tries = 1 }
+rehearsal_config = record { hosts = rehearsal_hosts; fallback = true; retry = true; period = period_default; tries = 1 }
 
 -- four workers, but no more than there are jobs
 abbrev pub rehearsal_workers : ℕ → ℕ
@@ -112,7 +113,7 @@ pub record IsRehearsal (n : ℕ) (built : Built) (count : Option Count) : Type 0
   pub old : List RehearsalKit
   pub fresh : All (λ kit. IsFresh (files_of n) kit) old
   pub new : List RehearsalKit
-  pub ran : JobsRan loop_devices built.last.limits (job_at (jobs_of n) rehearsal_config) 60 (rehearsal_workers n) built.reports (seen_of built.pass) built.last.state old new
+  pub ran : JobsRan loop_devices built.last.limits (job_at (jobs_of n) rehearsal_config) period_default (rehearsal_workers n) built.reports (seen_of built.pass) built.last.state old new
   pub one_each : length built.reports ≡ n
   pub returned : All (λ report. is_done_or_wanted report.end ≡ true) built.reports
   pub tells : Tells n built.reports count

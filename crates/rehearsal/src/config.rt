@@ -3,6 +3,7 @@
 ghost use Rattle.std.specs.Prelude.{◌≡◌, IfOk};
 ghost use Rattle.rehearsal.specs.Rehearsals.{rehearsal_config};
 
+use farm_types::limits::PERIOD_DEFAULT;
 use farm_types::{Bytes, Host, HostName, HostVec, Hosts, JobConfig};
 use std::alloc::{AllocError, Global};
 
@@ -29,7 +30,7 @@ pub(crate) fn rehearsal_config(alloc: Global) -> Result<JobConfig, AllocError>
         },
         fallback: true,
         retry: true,
-        period: 60,
+        period: PERIOD_DEFAULT,
         tries: 1,
     })
 }

@@ -2,15 +2,14 @@
 
 ghost use Rattle.std.specs.Prelude.{◌≡◌, ◌<◌, ◌≤◌, [], None, All, length};
 ghost use Rattle.std.specs.Option.{ForSome};
+ghost use Rattle.farm_types.specs.Limits.{object_max};
 ghost use Rattle.rehearsal.specs.Puts as puts;
-ghost use Rattle.rehearsal.specs.Puts.{IsSmall, object_max};
+ghost use Rattle.rehearsal.specs.Puts.{IsSmall};
 
 use edge_traits::{EdgeFault, FetchFault, Keeper, Put};
+use farm_types::limits::OBJECT_MAX;
 use farm_types::{Bytes, Items};
 use std::alloc::Global;
-
-/// The most bytes of an object.
-const OBJECT_MAX: usize = 33_554_432;
 
 /// A keeper in memory that remembers what was put. Its counts stand still: it has no file to give, so a fetch wants memory,
 /// and so does a put above the limit of objects.

@@ -1,6 +1,7 @@
 //! The kits of a rehearsal.
 
 ghost use Rattle.std.specs.Prelude.{◌≡◌, ◌≤◌, All, IfOk, length};
+ghost use Rattle.farm_types.specs.Limits.{jobs_max};
 ghost use Rattle.loop_link.specs.Replies.{AreOwnNames};
 ghost use Rattle.workload.specs.Loads.{files_of};
 ghost use Rattle.rehearsal.specs.Rehearsals.{IsFresh, scc_table};
@@ -33,7 +34,7 @@ pub fn compiler_table(alloc: Global) -> Result<Compilers, AllocError>
 // A kit over the workload's files, of which the loop and the station each have a copy.
 fn kit(alloc: Global, n: u32) -> Result<RehearsalKit, AllocError>
     requires some { 1 ≤ n }
-    requires most { n ≤ 512 }
+    requires most { n ≤ jobs_max }
     ensures { IfOk result (λ kit. IsFresh (files_of n) kit) }
 {
     let there = SampleStation::new(make(alloc, n)?.files);
@@ -49,7 +50,7 @@ fn kit(alloc: Global, n: u32) -> Result<RehearsalKit, AllocError>
 /// So many kits over the workload's files.
 pub(crate) fn kits(alloc: Global, n: u32, count: usize) -> Result<Vec<RehearsalKit>, AllocError>
     requires some { 1 ≤ n }
-    requires most { n ≤ 512 }
+    requires most { n ≤ jobs_max }
     ensures count { IfOk result (λ kits. length kits.items ≡ count) }
     ensures fresh { IfOk result (λ kits. All (λ kit. IsFresh (files_of n) kit) kits.items) }
 {

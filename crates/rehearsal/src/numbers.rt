@@ -2,10 +2,10 @@
 
 ghost use Rattle.std.specs.Prelude.{◌≡◌, ◌≤◌, length, count_by};
 ghost use Rattle.std.specs.List.{sum_by};
+ghost use Rattle.farm_types.specs.Limits.{object_max, jobs_max};
 ghost use Rattle.report_text.specs.Pieces as pieces;
 ghost use Rattle.rehearsal.specs.Counts as counts;
 ghost use Rattle.rehearsal.specs.Counts.{puts_of, CountsDone};
-ghost use Rattle.rehearsal.specs.Puts.{object_max};
 
 use crate::RehearsalKit;
 use farm_machine::{End, Event, EventList, Report};
@@ -43,7 +43,7 @@ fn object_len(kits: &[RehearsalKit], report: &Report) -> u64
 
 // The length of the objects of all jobs together.
 fn bytes_put(kits: &[RehearsalKit], reports: &[Report]) -> u64
-    requires { length reports.now ≤ 512 }
+    requires { length reports.now ≤ jobs_max }
     ensures { result ≡ sum_by (counts.report_len (puts_of kits.now)) reports.now }
 {
     let mut bytes = 0;
@@ -78,7 +78,7 @@ fn done_well(reports: &[Report]) -> usize
 
 /// Counts what the jobs of these reports left, or nothing where one of them failed.
 pub(crate) fn count_reports(kits: &[RehearsalKit], reports: &[Report]) -> Option<Count>
-    requires { length reports.now ≤ 512 }
+    requires { length reports.now ≤ jobs_max }
     ensures { CountsDone (puts_of kits.now) reports.now result }
 {
     for report in reports {

@@ -1,6 +1,7 @@
 //! A rehearsal.
 
 ghost use Rattle.std.specs.Prelude.{◌≤◌, IfOk};
+ghost use Rattle.farm_types.specs.Limits.{jobs_max};
 ghost use Rattle.rehearsal.specs.Rehearsals.{IsRehearsal};
 
 use crate::Count;
@@ -34,7 +35,7 @@ pub fn rehearse<R: Threads + Wait + Sync>(
     n: u32,
 ) -> Result<Rehearsed, AllocError>
     requires some { 1 ≤ n }
-    requires most { n ≤ 512 }
+    requires most { n ≤ jobs_max }
     ensures { IfOk result (λ done. IsRehearsal n done.built done.count) }
 {
     put_law();

@@ -1,5 +1,6 @@
 -- What a reader has taken of a reply, and what it makes of more bytes.
 use Rattle.std.specs.Prelude.{ℕ, ◌≡◌, ◌<◌, ◌≤◌, ◌+◌, ◌^◌, ◌⊎◌, List, [], ◌++◌, length, take, false}
+use Rattle.farm_types.specs.Limits.{messages_max}
 use Rattle.wire_tokens.specs.declared.faults.ReplyFault.{ReplyFault}
 use Rattle.wire_tokens.specs.Format.{Field, Due, body_len, Stands, Progress}
 use Rattle.wire_tokens.specs.Partial.{IsShortToken, IsDueToken}
@@ -35,8 +36,8 @@ IsPlaced p text object = IsReading (fields_of p) (bytes_of p) p.given text objec
 
 pub record Counts (p : Partial) : Type 0 where
   pub at_part : IsAtPart p.part p.status
-  pub small_err : length p.err ≤ 1048576
-  pub small_out : length p.out ≤ 1048576
+  pub small_err : length p.err ≤ messages_max
+  pub small_out : length p.out ≤ messages_max
 
 -- a token is on its way
 pub record InToken (p : Partial) : Type 0 where

@@ -8,15 +8,16 @@ use crate::pieces::is_done;
 use edge_traits::Cause;
 use farm_machine::{End, Report, ReportList, Why5};
 use farm_types::exit_code;
+use farm_types::exits::{BAD_TEXT, FAULT, NO_HOST, NO_LINK, NO_MEMORY, TRUNCATED};
 
 fn cause_number(cause: Cause) -> u8
     ensures { result ≡ specs.cause_number cause }
 {
     match cause {
-        Cause::Dial => 103,
-        Cause::Send | Cause::Recv | Cause::Stopped => 107,
-        Cause::Truncated { .. } => 108,
-        Cause::BadReply { .. } => 109,
+        Cause::Dial => NO_LINK,
+        Cause::Send | Cause::Recv | Cause::Stopped => FAULT,
+        Cause::Truncated { .. } => TRUNCATED,
+        Cause::BadReply { .. } => BAD_TEXT,
     }
 }
 
@@ -24,10 +25,10 @@ fn why_number(why: Why5) -> u8
     ensures { result ≡ specs.why_number why }
 {
     match why {
-        Why5::Station | Why5::Put | Why5::Fetch => 107,
+        Why5::Station | Why5::Put | Why5::Fetch => FAULT,
         Why5::Broke { cause, .. } => cause_number(cause),
-        Why5::NoHost => 116,
-        Why5::Memory => 105,
+        Why5::NoHost => NO_HOST,
+        Why5::Memory => NO_MEMORY,
     }
 }
 

@@ -9,6 +9,7 @@ use Rattle.std.specs.Str.{bytes_eq}
 use Rattle.std.proofs.lemmas.Bool.{cases_Bool}
 use Rattle.std.proofs.lemmas.Cmp.{nat_list_eq_equiv}
 use lib.Pointwise.{pointwise}
+use Rattle.farm_types.specs.Limits.{source_max}
 use Rattle.farm_types.specs.declared.ran.Ran.{Ran}
 use Rattle.arg_scan.specs.Names.{is_reserved}
 use Rattle.file_map.specs.FileMaps.{Files}
@@ -18,7 +19,7 @@ use Rattle.sample_compiler.specs.declared.stops.ExpandStop.TheVariants.{Fault}
 use Rattle.sample_compiler.specs.declared.task.Task.{Task}
 use Rattle.sample_compiler.specs.Lookups.{Agrees, Stopped, is_listed}
 use Rattle.sample_compiler.specs.Samples.{task_text, LeavesAsked, LeftBy}
-use Rattle.sample_compiler.specs.Loads.{unstaged, fetch_max, AreShort}
+use Rattle.sample_compiler.specs.Loads.{unstaged, AreShort}
 
 same_name : (a b : List ℕ) → slice_cmp nat_cmp a b ≡ Equal → a ≡ b
 same_name = slice_cmp-IsAntisymmetric nat_cmp-IsAntisymmetric
@@ -101,13 +102,13 @@ pub none_short : (known : Files) → known ≡ empty → AreShort known
 none_short known none = λ path content is. let gone : get known path ≡ None = ap (λ m. get m path) none ∙ get-empty (slice_cmp nat_cmp) path in absurd (cc)
 
 -- one file more, of few bytes
-pub one_short : (known now : Files) (path content : List ℕ) → now ≡ insert known path content → length content ≤ fetch_max → AreShort known → AreShort now
+pub one_short : (known now : Files) (path content : List ℕ) → now ≡ insert known path content → length content ≤ source_max → AreShort known → AreShort now
 one_short known now path content grown few short = λ q bytes at.
     let at_q : get now q ≡ cond (pointwise nat_eq q path) (Some content) (get known q) = ap (λ m. get m q) grown ∙ put_at known path content q in
     ⊎_elim
     (λ same. let here : get now q ≡ Some content = at_q ∙ ap (λ test. cond test (Some content) (get known q)) same in
     let one : content ≡ bytes = cc in
-    subst (λ b. length b ≤ fetch_max) one few)
+    subst (λ b. length b ≤ source_max) one few)
     (λ other. let before : get now q ≡ get known q = at_q ∙ ap (λ test. cond test (Some content) (get known q)) other in short q bytes (sym before ∙ at))
     (cases_Bool (pointwise nat_eq q path))
 

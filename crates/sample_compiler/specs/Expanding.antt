@@ -1,6 +1,7 @@
 -- What the preprocessor makes of a text.
 use Rattle.std.specs.Prelude.{ℕ, zero, suc, ◌+◌, List, [], ◌∷◌, ◌++◌, codes, ◌==◌, if◌then◌else◌, Option, Some, None, Result, Ok, Err}
 use Rattle.std.specs.FinMap.{get}
+use Rattle.farm_types.specs.Bytes.{hash}
 use Rattle.file_map.specs.FileMaps.{Files}
 use Rattle.sample_compiler.specs.declared.defines.Define.{Define}
 use Rattle.sample_compiler.specs.declared.stops.ExpandFault.{ExpandFault}
@@ -66,7 +67,7 @@ directive include line defines bytes None = other_directive line defines (define
 -- one line: a directive leaves none
 abbrev pub expand_line : Includes → ℕ → List Define → List ℕ → ExpandResult
 expand_line include line defines bytes =
-    if begins (λ c. c == 35) bytes then directive include line defines bytes (include_of bytes)
+    if begins (λ c. c == hash) bytes then directive include line defines bytes (include_of bytes)
     else Ok (record { defines = defines; text = replaced defines bytes ++ codes "\n" })
 
 -- the lines from this number on, in order

@@ -2,6 +2,7 @@
 use Rattle.std.specs.Prelude.{ℕ, ◌≡◌, ◌⊎◌, ◌<◌, ◌≤◌, not, true, List, [], ◌∷◌, ◌++◌, length, Option, Some, None, IsTrue}
 use Rattle.std.specs.List.{flat_map}
 use Rattle.std.specs.FinMap.{get, retain_keys}
+use Rattle.farm_types.specs.Limits.{source_max}
 use Rattle.farm_types.specs.declared.ran.Ran.{Ran}
 use Rattle.edge_traits.specs.Told.{Told, Grew, Became}
 use Rattle.edge_traits.specs.declared.entries.Fetch.{Fetch}
@@ -20,13 +21,9 @@ use Rattle.sample_compiler.specs.Tasks.{task_of}
 abbrev pub unstaged : Files → Files
 unstaged files = retain_keys files (λ path. not (is_reserved path))
 
--- the most bytes of a file that is fetched
-abbrev pub fetch_max : ℕ
-fetch_max = 33554432
-
 -- each file has at most as many bytes as are fetched
 abbrev pub AreShort : Files → Type 0
-AreShort files = (path content : List ℕ) → get files path ≡ Some content → length content ≤ fetch_max
+AreShort files = (path content : List ℕ) → get files path ≡ Some content → length content ≤ source_max
 
 -- the keeper's files are as they were, nothing was put, and the counts haven't fallen
 pub record OnlyFetched (old now : KeeperView) : Type 0 where
@@ -39,7 +36,7 @@ pub record OnlyFetched (old now : KeeperView) : Type 0 where
 -- a file was above the bound, with this length
 pub record WasTooLong (old now : KeeperView) (bytes : ℕ) : Type 0 where
   pub rose : Rose old.overruns now.overruns
-  pub above : fetch_max < bytes
+  pub above : source_max < bytes
   pub long : IsTrue now.files.known → (path : List ℕ) × HasLength now.files.value path bytes
 
 -- When a load that came to nothing may answer so. It wants memory only where no fetch had failed.

@@ -1,6 +1,7 @@
 -- Which names are looked up, in order.
 use Rattle.std.specs.Prelude.{ℕ, zero, suc, ◌≡◌, ◌+◌, ◌==◌, ◌||◌, List, [], ◌∷◌, ◌++◌, codes, if◌then◌else◌, Bool, Option, Some, None, is_some, Result, Ok, Err}
 use Rattle.std.specs.FinMap.{get}
+use Rattle.farm_types.specs.Bytes.{hash}
 use Rattle.file_map.specs.FileMaps.{Files}
 use Rattle.sample_compiler.specs.declared.defines.Define.{Define}
 use Rattle.sample_compiler.specs.declared.stops.ExpandStop.{ExpandStop}
@@ -42,7 +43,7 @@ by_directive seeks defines None = []
 
 -- one line
 abbrev pub by_line : Seeks → List Define → List ℕ → List (List ℕ)
-by_line seeks defines bytes = if begins (λ c. c == 35) bytes then by_directive seeks defines (include_of bytes) else []
+by_line seeks defines bytes = if begins (λ c. c == hash) bytes then by_directive seeks defines (include_of bytes) else []
 
 -- behind a line with a fault nothing is looked up
 abbrev pub after_line : ExpandResult → (List Define → List (List ℕ)) → List (List ℕ)

@@ -2,7 +2,7 @@
 
 ghost use Rattle.std.specs.Prelude.{ℕ, ◌≡◌, ◌+◌, ◌<◌, ◌^◌, length, List, true, IfOk, IfErr};
 ghost use Rattle.std.specs.List.{take_while};
-ghost use Rattle.sample_lang.specs.Bytes.{is_blank};
+ghost use Rattle.farm_types.specs.Bytes.{is_blank_or_line_feed};
 ghost use Rattle.sample_lang.specs.Tokens as tokens;
 ghost use Rattle.sample_lang.specs.Tokens.{behind};
 ghost use Rattle.sample_lang.specs.Sources.{SourceOf, SourceFault, FaultStands};
@@ -72,8 +72,8 @@ fn line_feeds(bytes: &[u8]) -> u64
 // Passes over the blanks in front.
 fn skip_blanks(left: Left<'_>) -> Left<'_>
     requires { left.line + length left.text.now < 2 ^ 64 }
-    ensures line { result.line ≡ left.entry.line + tokens.lines (take_while is_blank left.entry.text.now) }
-    ensures text { result.text.now ≡ behind is_blank left.entry.text.now }
+    ensures line { result.line ≡ left.entry.line + tokens.lines (take_while is_blank_or_line_feed left.entry.text.now) }
+    ensures text { result.text.now ≡ behind is_blank_or_line_feed left.entry.text.now }
 {
     let len = blank_len(left.text);
     Left {

@@ -8,13 +8,15 @@ use Rattle.std.specs.Str.Parse.{digits_value}
 use Rattle.std.proofs.lemmas.Bool.{and_from, ltb-true, ltb-false, le-leb, le-ltb}
 use Rattle.std.proofs.lemmas.Bool.Decides.{nat_tests}
 use Rattle.std.proofs.lemmas.List.{append-nil}
+use Rattle.std.specs.Char.{is_ascii_digit}
+use Rattle.farm_types.specs.Bytes.{is_blank_or_line_feed}
 use Rattle.sample_lang.specs.declared.token.Token.{Token}
 use Rattle.sample_lang.specs.declared.token.Token.TheVariants.{IntWord, ExternWord, Identifier, Integer, Plus, Minus, Times, Equals}
 use Rattle.sample_lang.specs.declared.token.Token.TheVariants.{Semicolon, Open, Close, StrayByte, LongName, LargeNumber}
 use Rattle.sample_lang.specs.declared.program.Part.{Part}
 use Rattle.sample_lang.specs.declared.program.Part.TheVariants.{Add, Sub, Mul}
 use Rattle.sample_lang.specs.declared.program.Item.{Item}
-use Rattle.sample_lang.specs.Bytes.{is_blank, begins_name, is_name_byte, is_digit}
+use Rattle.sample_lang.specs.Bytes.{begins_name, is_name_byte}
 use Rattle.sample_lang.specs.Tokens.{Placed, kinds, behind, word_token, number_token, symbol_token, IsRun, BeginsWith, TokensOf}
 use Rattle.sample_lang.specs.Grammar.{Expr, Alone, Sum, Difference, Term, Single, Product, Factor, Literal, Reference, Group, ItemForm}
 use Rattle.sample_lang.specs.Grammar.{Needs, Defines, expr_tokens, term_tokens, factor_tokens, item_tokens, forms_tokens, expr_code}
@@ -80,24 +82,24 @@ right_symbol c =
     (λ _. right_cond (eqb c 59) Semicolon _ (λ _. tt) (λ _. right_cond (eqb c 40) Open _ (λ _. tt) (λ _.
     right_cond (eqb c 41) Close StrayByte (λ _. tt) (λ _. tt)))))))
 
-begins_by_cases : (c : ℕ) (cs : List ℕ) (token : Token) (rest : List ℕ) (b d : Bool) → begins_name c ≡ b → is_digit c ≡ d
+begins_by_cases : (c : ℕ) (cs : List ℕ) (token : Token) (rest : List ℕ) (b d : Bool) → begins_name c ≡ b → is_ascii_digit c ≡ d
     → MatchBool b (IsRun is_name_byte word_token (c ∷ cs) token rest)
-    (MatchBool d (IsRun is_digit number_token (c ∷ cs) token rest) ((token ≡ symbol_token c) × (rest ≡ cs)))
+    (MatchBool d (IsRun is_ascii_digit number_token (c ∷ cs) token rest) ((token ≡ symbol_token c) × (rest ≡ cs)))
     → IsRightToken token
 begins_by_cases c cs token rest true d is digit h =
     let word : List ℕ = take_while is_name_byte (c ∷ cs) in
     subst IsRightToken (sym h.0)
     (right_word word (front_begins is_name_byte begins_name c cs (name_byte c is) is) (front_all is_name_byte (c ∷ cs)))
-begins_by_cases c cs token rest false true is digit h = subst IsRightToken (sym h.0) (right_number (take_while is_digit (c ∷ cs)))
+begins_by_cases c cs token rest false true is digit h = subst IsRightToken (sym h.0) (right_number (take_while is_ascii_digit (c ∷ cs)))
 begins_by_cases c cs token rest false false is digit h = subst IsRightToken (sym h.0) (right_symbol c)
 
 right_begin : (text : List ℕ) (token : Token) (rest : List ℕ) → BeginsWith text token rest → IsRightToken token
 right_begin [] token rest h = absurd h
-right_begin (c ∷ cs) token rest h = begins_by_cases c cs token rest (begins_name c) (is_digit c) refl refl h
+right_begin (c ∷ cs) token rest h = begins_by_cases c cs token rest (begins_name c) (is_ascii_digit c) refl refl h
 
 tokens_right : (line : ℕ) (text : List ℕ) (ps : List Placed) → TokensOf line text ps → AreRightTokens (kinds ps)
 tokens_right line text [] h = tt
-tokens_right line text (p ∷ ps) h = (right_begin (behind is_blank text) p.token h.0 h.1.begins, tokens_right p.line h.0 ps h.2)
+tokens_right line text (p ∷ ps) h = (right_begin (behind is_blank_or_line_feed text) p.token h.0 h.1.begins, tokens_right p.line h.0 ps h.2)
 
 both : (ts us : List Token) → AreRightTokens (ts ++ us) → AreRightTokens ts × AreRightTokens us
 both [] us h = (tt, h)

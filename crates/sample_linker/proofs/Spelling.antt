@@ -17,7 +17,7 @@ use Rattle.sample_lang.specs.Names as names
 use Rattle.sample_linker.specs.declared.kind.Kind.{Kind}
 use Rattle.sample_linker.specs.declared.kind.Kind.TheVariants.{Object, Image}
 use Rattle.sample_compiler.specs.Objects.{code_part_text, item_line}
-use Rattle.sample_linker.specs.Lines.{is_line_feed, is_blank, heading, has_needs, is_name, leaves_one, code_of, def_item, need_item}
+use Rattle.sample_linker.specs.Lines.{is_line_feed, is_space, heading, has_needs, is_name, leaves_one, code_of, def_item, need_item}
 use Rattle.sample_linker.specs.Lines.{line_item}
 use Rattle.sample_linker.specs.Files.{is_known, may_follow, following, go_on, lines_items, headed_items, file_items}
 use Rattle.sample_linker.specs.Right.{IsRightItem, AreRightItems, AreRightParts, Says}
@@ -81,8 +81,8 @@ def_reads name (p ∷ ps) h k l =
     let rest : List ℕ = part_word p ++ flat_map code_part_text ps in
     let clear = (name_is_clear name h).0 in
     ap (λ t. def_item (name ++ (t ++ flat_map code_part_text ps))) (part_is p)
-    ∙ ap (λ n. def_by n (after_first is_blank (name ++ 32 ∷ rest))) (before_at is_blank name rest 32 clear refl)
-    ∙ ap (λ t. def_by name t) (after_at is_blank name rest 32 clear refl)
+    ∙ ap (λ n. def_by n (after_first is_space (name ++ 32 ∷ rest))) (before_at is_space name rest 32 clear refl)
+    ∙ ap (λ t. def_by name t) (after_at is_space name rest 32 clear refl)
     ∙ cond_yes (is_name name) _ _ h
     ∙ ap (option_map (λ code. Def name code)) (code_reads p ps k l)
 

@@ -5,7 +5,7 @@ use Rattle.std.specs.Prelude.{not, ◌||◌, ◌==◌}
 use Rattle.std.specs.List.{list_all, flat_map, slice_split, All}
 use Rattle.std.specs.Str.{bytes_eq}
 use Rattle.std.specs.Str.Parse.{AllDigits, digits_value}
-use Rattle.std.specs.Char.{digit_value}
+use Rattle.std.specs.Char.{digit_value, is_ascii_digit}
 use Rattle.std.specs.Fmt.{decimal}
 use Rattle.std.proofs.lemmas.Bool.{and_parts, and_from, and_left, lt-ltb, cases_lt}
 use Rattle.std.proofs.lemmas.List.{append-nil}
@@ -15,21 +15,21 @@ use Rattle.std.proofs.lemmas.List.Elements.{All-nil, All-cons}
 use Rattle.std.proofs.lemmas.List.Splits.{slice_split_none, slice_split_at}
 use Rattle.sample_lang.specs.declared.program.Part.{Part}
 use Rattle.sample_lang.specs.declared.program.Part.TheVariants.{Number, Name, Add, Sub, Mul}
-use Rattle.sample_lang.specs.Bytes.{is_name_byte, is_digit}
+use Rattle.sample_lang.specs.Bytes.{is_name_byte}
 use Rattle.sample_compiler.specs.Objects.{code_part_text}
-use Rattle.sample_linker.specs.Lines.{is_line_feed, is_blank, begins_by, is_name, is_number, part_of, parts_behind, and_then, whole_code}
+use Rattle.sample_linker.specs.Lines.{is_line_feed, is_space, begins_by, is_name, is_number, part_of, parts_behind, and_then, whole_code}
 use Rattle.sample_linker.specs.Lines.{code_of, leaves_one}
 use Rattle.sample_linker.specs.Right.{IsRightPart, AreRightParts}
 
 -- ---- bytes
 
-digit_is : (c : ℕ) → digit_value c < 10 → is_digit c ≡ true
+digit_is : (c : ℕ) → digit_value c < 10 → is_ascii_digit c ≡ true
 digit_is c h = grind (arith, nat_tests)
 
-digit_clear : (c : ℕ) → is_digit c ≡ true → (is_blank c ≡ false) × (is_line_feed c ≡ false)
+digit_clear : (c : ℕ) → is_ascii_digit c ≡ true → (is_space c ≡ false) × (is_line_feed c ≡ false)
 digit_clear c h = (grind (arith, nat_tests), grind (arith, nat_tests))
 
-name_clear : (c : ℕ) → is_name_byte c ≡ true → (is_blank c ≡ false) × (is_line_feed c ≡ false)
+name_clear : (c : ℕ) → is_name_byte c ≡ true → (is_space c ≡ false) × (is_line_feed c ≡ false)
 name_clear c h = (grind (arith, nat_tests), grind (arith, nat_tests))
 
 -- ---- words have no blanks and no line feeds
@@ -46,19 +46,19 @@ pub Clear-append : (p : ℕ → Bool) (xs ys : List ℕ) → Clear p xs → Clea
 Clear-append p [] ys h k = k
 Clear-append p (x ∷ xs) ys h k = (h.0, Clear-append p xs ys h.1 k)
 
-digits_pass : (ds : List ℕ) → AllDigits 10 ds → list_all is_digit ds ≡ true
+digits_pass : (ds : List ℕ) → AllDigits 10 ds → list_all is_ascii_digit ds ≡ true
 digits_pass [] h = refl
-digits_pass (c ∷ cs) h = and_from (is_digit c) (list_all is_digit cs) (digit_is c h.0) (digits_pass cs h.1)
+digits_pass (c ∷ cs) h = and_from (is_ascii_digit c) (list_all is_ascii_digit cs) (digit_is c h.0) (digits_pass cs h.1)
 
-pub digits_clear : (ds : List ℕ) → list_all is_digit ds ≡ true → Clear is_blank ds × Clear is_line_feed ds
+pub digits_clear : (ds : List ℕ) → list_all is_ascii_digit ds ≡ true → Clear is_space ds × Clear is_line_feed ds
 digits_clear [] h = (tt, tt)
 digits_clear (c ∷ cs) h =
-    let both = and_parts (is_digit c) (list_all is_digit cs) h in
+    let both = and_parts (is_ascii_digit c) (list_all is_ascii_digit cs) h in
     let here = digit_clear c both.0 in
     let more = digits_clear cs both.1 in
     ((here.0, more.0), (here.1, more.1))
 
-pub bytes_clear : (cs : List ℕ) → list_all is_name_byte cs ≡ true → Clear is_blank cs × Clear is_line_feed cs
+pub bytes_clear : (cs : List ℕ) → list_all is_name_byte cs ≡ true → Clear is_space cs × Clear is_line_feed cs
 bytes_clear [] h = (tt, tt)
 bytes_clear (c ∷ cs) h =
     let both = and_parts (is_name_byte c) (list_all is_name_byte cs) h in
@@ -73,18 +73,18 @@ name_bytes name h =
     let c = and_parts _ _ b.0 in
     (and_parts _ _ c.0).1
 
-pub name_is_clear : (name : List ℕ) → is_name name ≡ true → Clear is_blank name × Clear is_line_feed name
+pub name_is_clear : (name : List ℕ) → is_name name ≡ true → Clear is_space name × Clear is_line_feed name
 name_is_clear name h = bytes_clear name (name_bytes name h)
 
 -- ---- numbers
 
-pub decimal_passes : (n : ℕ) → n < 2 ^ 64 → list_all is_digit (decimal n) ≡ true
+pub decimal_passes : (n : ℕ) → n < 2 ^ 64 → list_all is_ascii_digit (decimal n) ≡ true
 decimal_passes n h = digits_pass (decimal n) (decimal_is_IsNumeral n h).0.1
 
 -- the first byte of some digits
-first_digit : (w : List ℕ) → 0 < length w → list_all is_digit w ≡ true → begins_by is_digit w ≡ true
+first_digit : (w : List ℕ) → 0 < length w → list_all is_ascii_digit w ≡ true → begins_by is_ascii_digit w ≡ true
 first_digit [] h k = absurd (omega (arith, h))
-first_digit (c ∷ cs) h k = (and_parts (is_digit c) (list_all is_digit cs) k).0
+first_digit (c ∷ cs) h k = (and_parts (is_ascii_digit c) (list_all is_ascii_digit cs) k).0
 
 not_zero : (w : List ℕ) → 48 < get_or w 0 0 → begins_by (λ c. c == 48) w ≡ false
 not_zero [] h = refl
@@ -117,7 +117,7 @@ cond_no b x y h = ap (λ t. cond t x y) h
 cond_yes : {X : Type 0} (b : Bool) (x y : X) → b ≡ true → cond b x y ≡ x
 cond_yes b x y h = ap (λ t. cond t x y) h
 
-digit_not : (c : ℕ) → is_digit c ≡ true → (eqb c 64 ≡ false) × (eqb c 43 ≡ false) × (eqb c 45 ≡ false) × (eqb c 42 ≡ false)
+digit_not : (c : ℕ) → is_ascii_digit c ≡ true → (eqb c 64 ≡ false) × (eqb c 43 ≡ false) × (eqb c 45 ≡ false) × (eqb c 42 ≡ false)
 digit_not c h = (grind (arith, nat_tests), grind (arith, nat_tests), grind (arith, nat_tests), grind (arith, nat_tests))
 
 number_reads : (w : List ℕ) (n : ℕ) → is_number w ≡ true → digits_value 10 w ≡ n → part_of w ≡ Some (Number n)
@@ -158,7 +158,7 @@ word_reads Add h = refl
 word_reads Sub h = refl
 word_reads Mul h = refl
 
-pub word_clear : (part : Part) → IsRightPart part → Clear is_blank (part_word part) × Clear is_line_feed (part_word part)
+pub word_clear : (part : Part) → IsRightPart part → Clear is_space (part_word part) × Clear is_line_feed (part_word part)
 word_clear (Number n) h = digits_clear (decimal n) (decimal_passes n h)
 word_clear (Name name) h = let rest = name_is_clear name h in ((refl, rest.0), (refl, rest.1))
 word_clear Add h = ((refl, tt), (refl, tt))
@@ -168,14 +168,14 @@ word_clear Mul h = ((refl, tt), (refl, tt))
 -- ---- codes
 
 split_words : (p : Part) (ps : List Part) → IsRightPart p → AreRightParts ps
-    → slice_split is_blank (part_word p ++ flat_map code_part_text ps) ≡ part_word p ∷ map part_word ps
+    → slice_split is_space (part_word p ++ flat_map code_part_text ps) ≡ part_word p ∷ map part_word ps
 split_words p [] h k =
-    ap (slice_split is_blank) (append-nil (part_word p))
-    ∙ slice_split_none is_blank (part_word p) (all_clear is_blank (part_word p) (word_clear p h).0)
+    ap (slice_split is_space) (append-nil (part_word p))
+    ∙ slice_split_none is_space (part_word p) (all_clear is_space (part_word p) (word_clear p h).0)
 split_words p (q ∷ qs) h k =
-    ap (λ t. slice_split is_blank (part_word p ++ (t ++ flat_map code_part_text qs))) (part_is q)
-    ∙ slice_split_at is_blank (part_word p) 32 (part_word q ++ flat_map code_part_text qs)
-    (all_clear is_blank (part_word p) (word_clear p h).0) refl
+    ap (λ t. slice_split is_space (part_word p ++ (t ++ flat_map code_part_text qs))) (part_is q)
+    ∙ slice_split_at is_space (part_word p) 32 (part_word q ++ flat_map code_part_text qs)
+    (all_clear is_space (part_word p) (word_clear p h).0) refl
     ∙ ap (λ ws. part_word p ∷ ws) (split_words q qs k.0 k.1)
 
 parts_read : (code ps : List Part) → AreRightParts ps → parts_behind code (map part_word ps) ≡ Some (code ++ ps)

@@ -1,6 +1,7 @@
 -- Which items can stand in an object or an image, and which texts are right: the same as Files says, from an item to its text.
 use Rattle.std.specs.Prelude.{ℕ, ◌≡◌, ◌<◌, ◌^◌, List, [], ◌∷◌, ◌++◌, true}
 use Rattle.std.specs.List.{flat_map}
+use Rattle.farm_types.specs.Bytes.{line_feed}
 use Rattle.sample_lang.specs.declared.program.Part.{Part}
 use Rattle.sample_lang.specs.declared.program.Part.TheVariants.{Number, Name, Add, Sub, Mul}
 use Rattle.sample_lang.specs.declared.program.Item.{Item}
@@ -34,6 +35,6 @@ AreRightItems kind (item ∷ items) = IsRightItem kind item × AreRightItems kin
 -- The text is right, and says these items: it is the heading and the line of each, each name is needed or defined once, and
 -- each name in a code is needed or defined on an earlier line.
 pub record Says (kind : Kind) (text : List ℕ) (items : List Item) : Type 0 where
-  pub spelled : text ≡ heading kind ++ (10 ∷ flat_map item_line items)
+  pub spelled : text ≡ heading kind ++ (line_feed ∷ flat_map item_line items)
   pub right : AreRightItems kind items
   pub declared : AreDeclared [] items

@@ -3,6 +3,7 @@ use Rattle.std.specs.Prelude.{ℕ, ◌≡◌, ◌⊎◌, ◌≤◌, ◌-◌, tru
 use Rattle.std.specs.Prelude.{Ok, Err, IsTrue}
 use Rattle.std.specs.List.{flat_map}
 use Rattle.std.specs.FinMap.{get}
+use Rattle.farm_types.specs.Limits.{object_max}
 use Rattle.edge_traits.specs.declared.entries.Fetch.{Fetch}
 use Rattle.edge_traits.specs.Told.{Grew}
 use Rattle.edge_traits.specs.Causes.{Rose, Still}
@@ -14,7 +15,7 @@ use Rattle.sample_program.specs.declared.fetching.FetchStop.TheVariants.{Missing
 
 -- the most bytes of all files together
 abbrev pub files_max : ℕ
-files_max = 33554432
+files_max = object_max
 
 -- ---- what comes of fetching, where the files are told
 

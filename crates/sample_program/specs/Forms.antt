@@ -2,11 +2,12 @@
 use Rattle.std.specs.Prelude.{ℕ, List, [], ◌∷◌, length, codes, not, ◌&&◌, nat_lt, nat_le, if◌then◌else◌, Bool, Option, None, Some}
 use Rattle.std.specs.List.{before_first, after_first}
 use Rattle.std.specs.Str.{bytes_eq}
+use Rattle.farm_types.specs.Limits.{jobs_max}
 use Rattle.arg_scan.specs.Names.{is_reserved}
 
 -- the most files that are linked
 abbrev pub link_max : ℕ
-link_max = 512
+link_max = jobs_max
 
 -- the word in front of the image's name
 abbrev pub is_output : List ℕ → Bool

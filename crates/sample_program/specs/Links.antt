@@ -2,8 +2,9 @@
 use Rattle.std.specs.Prelude.{ℕ, zero, suc, ◌≡◌, ◌⊎◌, List, [], ◌∷◌, ◌++◌, codes, get_or, Option, None, Some, Result, Ok, Err}
 use Rattle.std.specs.List.{flat_map}
 use Rattle.std.specs.Fmt.{decimal}
+use Rattle.farm_types.specs.Bytes.{space}
 use Rattle.farm_types.specs.declared.ran.Ran.{Ran}
-use Rattle.farm_types.specs.Exits.{exit_code_of}
+use Rattle.farm_types.specs.Exits.{exit_code_of, fault_status}
 use Rattle.edge_traits.specs.declared.entries.Put.{Put}
 use Rattle.edge_traits.specs.Told.{Grew}
 use Rattle.edge_traits.specs.Causes.{Still}
@@ -37,7 +38,7 @@ refused text = record { status = 256; out = []; err = text; object = [] }
 
 -- each name behind a blank
 abbrev pub listed : List (List ℕ) → List ℕ
-listed names = flat_map (λ name. 32 ∷ name) names
+listed names = flat_map (λ name. space ∷ name) names
 
 -- the name of the file with this number, counted from 1
 abbrev pub file_name : List (List ℕ) → ℕ → List ℕ
@@ -137,7 +138,7 @@ pub data DidRunImage (image : List ℕ) (old new : KeeperView) (ran : Ran) : Typ
 -- what a run left was printed; or what there is to print where there was none
 abbrev pub PrintsRan : Result Ran RunStop → SinksView → SinksView → ℕ → Type 0
 PrintsRan (Ok ran) sinks sinks_now answer = Printing no_memory_text (printed_by ran) (exit_code_of ran.status) sinks sinks_now answer
-PrintsRan (Err File) sinks sinks_now answer = Printing no_memory_text (complaint file_fault_text ∷ []) 107 sinks sinks_now answer
+PrintsRan (Err File) sinks sinks_now answer = Printing no_memory_text (complaint file_fault_text ∷ []) fault_status sinks sinks_now answer
 PrintsRan (Err Memory) sinks sinks_now answer = WantOf no_memory_text [] sinks sinks_now answer
 
 -- the message for words that aren't right, unless memory was wanting

@@ -1,7 +1,7 @@
 -- What `scc` does.
 use Rattle.std.specs.Prelude.{ℕ, ◌≡◌, ◌⊎◌, List, [], ◌∷◌, codes, Option, None, Some, IsTrue, MatchBool, bytes_eq}
 use Rattle.farm_types.specs.declared.ran.Ran.{Ran}
-use Rattle.farm_types.specs.Exits.{exit_code_of}
+use Rattle.farm_types.specs.Exits.{exit_code_of, fault_status}
 use Rattle.edge_traits.specs.declared.entries.Fetch.{Fetch}
 use Rattle.edge_traits.specs.Told.{Grew}
 use Rattle.edge_traits.specs.Causes.{Rose, Still, IsRemoval}
@@ -88,7 +88,7 @@ pub record StoppedRun (words : List (List ℕ)) (old new : KeeperView) (stop : R
 pub data Compiled (words : List (List ℕ)) (old new : KeeperView) (sinks sinks_now : SinksView) (answer : ℕ) : Type 0 where
   ran_so : (ran : Ran) → DidRun words old new ran → Printing no_memory_text (printed_by ran) (exit_code_of ran.status) sinks sinks_now answer
       → Compiled words old new sinks sinks_now answer
-  files_failed : StoppedRun words old new File → Printing no_memory_text (complaint file_fault_text ∷ []) 107 sinks sinks_now answer
+  files_failed : StoppedRun words old new File → Printing no_memory_text (complaint file_fault_text ∷ []) fault_status sinks sinks_now answer
       → Compiled words old new sinks sinks_now answer
   memory_wanted : StoppedRun words old new Memory → WantOf no_memory_text [] sinks sinks_now answer
       → Compiled words old new sinks sinks_now answer

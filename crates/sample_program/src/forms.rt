@@ -6,9 +6,10 @@ ghost use Rattle.sample_program.specs.Forms as forms;
 ghost use Rattle.sample_program.specs.Forms.{is_output};
 
 use arg_scan::is_reserved;
+use farm_types::limits::JOBS_MAX;
 
 /// The most files that are linked.
-const LINK_MAX: usize = 512;
+const LINK_MAX: usize = JOBS_MAX;
 
 /// The word in front of the image's name.
 const OUTPUT: &str = "-o";

@@ -16,14 +16,12 @@ use crate::linking::{link_files, run_image};
 use crate::messages::refuse_words;
 use crate::running::{RunStop, run};
 use edge_traits::{Keeper, Sink};
+use farm_types::exits::FAULT;
 use farm_types::{Bytes, Ran, exit_code};
 use std::alloc::Global;
 use stream_print::{Piece, SinkKind, complain, finish, no_memory};
 
-/// The exit status where files could not be fetched or put.
-const FILE_FAULT: u8 = 107;
-
-/// What is printed then.
+/// What is printed where files could not be fetched or put.
 const FILE_FAULT_TEXT: &[u8] = b"scc: file fault\n";
 
 /// What is printed where memory is wanting.
@@ -77,7 +75,7 @@ fn print_stop<O: Sink, E: Sink>(stop: RunStop, out: &mut O, err: &mut E) -> u8
         (sinks_view O.shows E.shows out.new err.new) result }
 {
     match stop {
-        RunStop::File => complain(FILE_FAULT_TEXT, FILE_FAULT, NO_MEMORY_TEXT, out, err),
+        RunStop::File => complain(FILE_FAULT_TEXT, FAULT, NO_MEMORY_TEXT, out, err),
         RunStop::Memory => no_memory(NO_MEMORY_TEXT, out, err),
     }
 }

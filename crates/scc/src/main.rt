@@ -2,13 +2,11 @@
 #![tactic(auto)]
 
 use edge_real::{DiskFiles, StdSink, command_words, own_folder};
+use farm_types::exits::NO_MEMORY;
 use object_delivery::FileKeeper;
 use sample_program::scc;
 use std::alloc::AllocError;
 use std::process::{self, ExitCode};
-
-/// The status where memory is wanting.
-const NO_MEMORY: u8 = 105;
 
 // The words of the command line. Where one isn't UTF-8, there are none, which the compiler doesn't take.
 fn words_of(rt: &HostRuntime) -> Result<Vec<String>, AllocError> {

@@ -1,5 +1,6 @@
 //! Calls on shared slots, by callers that hold one slot at most.
 ghost use Rattle.std.specs.Prelude.{◌≡◌, ◌<◌, [], ◌∷◌, Some, IfSome, IfNone};
+ghost use Rattle.farm_types.specs.Limits.{hosts_max};
 ghost use Rattle.slot_table.specs.Grants.{host_of, job_of};
 ghost use Rattle.slot_table.specs.History.{holding, outstanding};
 ghost use Rattle.farm_cell.specs.Passes.{mine_of};
@@ -65,7 +66,7 @@ pub fn take<R: Wait + Abort>(
 ) -> Grant
     requires pass { IsNumbered cell.now caller pass.old }
     requires none { outstanding (mine_of pass.old) ≡ [] }
-    requires entry { host < 16 }
+    requires entry { host < hosts_max }
     ensures pass { IsNumbered cell.now caller pass.new }
     ensures one { outstanding (mine_of pass.new) ≡ holding caller (job_of result) (Some (host_of result)) ∷ [] }
 {

@@ -1,5 +1,6 @@
 -- From what was printed to how it ended.
 use Rattle.std.proofs.Common.{◌≡◌, ◌<◌, ℕ, List, [], ◌∷◌, ◌++◌, length, take, refl, sym, inl, inr}
+use Rattle.farm_types.specs.Exits.{stopped_status, memory_status}
 use Rattle.edge_traits.specs.Told.{Grew}
 use Rattle.edge_traits.specs.Sinks.{SinkView}
 use Rattle.stream_print.specs.declared.one.PrintStop.{PrintStop}
@@ -8,7 +9,7 @@ use Rattle.stream_print.specs.declared.pieces.SinkKind.TheVariants.{Err as ErrSi
 use Rattle.stream_print.specs.declared.pieces.Piece.{Piece}
 use Rattle.stream_print.specs.Prints.{SinksView, Printed, PrintedPart, GoesOn, BothGoOn, DidStop, cut}
 use Rattle.stream_print.proofs.PrintLemmas.{Printed-join, Printed-err, goes-same, goes-later, GoesOn-join, part_of_one, DidStopOn-after}
-use Rattle.stream_print.specs.Printing.{complaint, stopped_status, memory_status, WantTold, told_whole, told_stopped, told_wanted, WantOf, Printing, PrintedFront, all_printed, memory_wanted}
+use Rattle.stream_print.specs.Printing.{complaint, WantTold, told_whole, told_stopped, told_wanted, WantOf, Printing, PrintedFront, all_printed, memory_wanted}
 
 -- the text for want of memory was printed whole
 pub want_whole : (notice : List ℕ) (out old new : SinkView) → Grew old.written new.written notice → GoesOn old new → WantOf notice [] (record { out = out; err = old }) (record { out = out; err = new }) memory_status

@@ -1,18 +1,11 @@
 -- How printing ended, and the exit status that was answered.
 use Rattle.std.specs.Prelude.{◌≡◌, ◌⊎◌, ℕ, List, [], ◌∷◌, ◌++◌}
+use Rattle.farm_types.specs.Exits.{stopped_status, memory_status}
 use Rattle.stream_print.specs.declared.one.PrintStop.{PrintStop}
 use Rattle.stream_print.specs.declared.one.PrintStop.TheVariants.{Stopped, Memory}
 use Rattle.stream_print.specs.declared.pieces.SinkKind.TheVariants.{Err as ErrSink}
 use Rattle.stream_print.specs.declared.pieces.Piece.{Piece}
 use Rattle.stream_print.specs.Prints.{SinksView, Printed, PrintedPart, IsCutPiece, GoesOn, BothGoOn, DidStopOn}
-
--- the exit status where a sink failed or took 0 bytes
-abbrev pub stopped_status : ℕ
-stopped_status = 100
-
--- the exit status for want of memory
-abbrev pub memory_status : ℕ
-memory_status = 105
 
 -- a text for the sink of errors
 abbrev pub complaint : List ℕ → Piece

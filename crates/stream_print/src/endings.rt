@@ -6,12 +6,7 @@ ghost use Rattle.stream_print.specs.Printing.{Printing, WantOf, complaint};
 
 use crate::{Piece, PrintStop, print, print_all};
 use edge_traits::Sink;
-
-/// The exit status where a sink failed or took 0 bytes, `stopped_status` of the specs.
-pub const STOPPED: u8 = 100;
-
-/// The exit status for want of memory, `memory_status` of the specs.
-pub const NO_MEMORY: u8 = 105;
+use farm_types::exits::{NO_MEMORY, STOPPED};
 
 /// Prints the notice that memory is wanting on the sink of errors, and answers the exit status: `NO_MEMORY`, or
 /// `STOPPED` where that sink stopped.

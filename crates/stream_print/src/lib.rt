@@ -6,7 +6,7 @@ mod one;
 mod pieces;
 mod reads;
 
-pub use endings::{NO_MEMORY, STOPPED, complain, finish, no_memory};
+pub use endings::{complain, finish, no_memory};
 pub use one::{PrintStop, print};
 pub use pieces::{Piece, SinkKind, print_all, print_piece};
 pub use reads::{Input, read_input};

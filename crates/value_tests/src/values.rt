@@ -2,7 +2,7 @@ use crate::filled::repeated;
 use farm_types::limits::{MESSAGES_MAX, WORD_MAX, WORDS_BYTES_MAX, WORDS_MAX};
 use farm_types::{
     Bytes, Ext, Host, HostName, Items, Outcome, PlacedWords, Ran, Request, Room, Trail, Word,
-    Words, exit_code,
+    Words, exit_code, read_decimal, read_plain_decimal,
 };
 use std::alloc::Global;
 use std::test::Fail;
@@ -23,6 +23,39 @@ fn exit_codes(rt: HostRuntime) {
     for (status, code) in EXIT_CODES {
         assert_eq!(rt; exit_code(*status), *code, "status {status}");
     }
+}
+
+// Texts, and the numbers from 1 to 255 that they are in at most 3 digits: where a zero may stand in front, and where none may.
+const DECIMALS: &[(&[u8], Option<u32>, Option<u32>)] = &[
+    (b"", None, None),
+    (b"0", None, None),
+    (b"1", Some(1), Some(1)),
+    (b"01", Some(1), None),
+    (b"001", Some(1), None),
+    (b"0001", None, None),
+    (b"000", None, None),
+    (b"255", Some(255), Some(255)),
+    (b"256", None, None),
+    (b"1000", None, None),
+    (b"+1", None, None),
+    (b"-1", None, None),
+    (b" 1", None, None),
+    (b"1x", None, None),
+    (b"/1", None, None),
+    (b":1", None, None),
+];
+
+#[test]
+fn decimals(rt: HostRuntime) {
+    for (text, with_zeros, plain) in DECIMALS {
+        assert_eq!(rt; read_decimal(text, 3, 1, 255), *with_zeros);
+        assert_eq!(rt; read_plain_decimal(text, 3, 1, 255), *plain);
+    }
+    assert_eq!(rt; read_plain_decimal(b"0", 9, 0, 999_999_999), Some(0));
+    assert_eq!(rt;
+        read_plain_decimal(b"999999999", 9, 0, 999_999_999),
+        Some(999_999_999)
+    );
 }
 
 fn request(alloc: Global, count: usize, len: usize) -> Result<Request, Fail> {

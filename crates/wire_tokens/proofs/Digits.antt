@@ -6,15 +6,15 @@ use Rattle.std.proofs.lemmas.List.{length-append, take_more}
 use Rattle.std.proofs.lemmas.List.Elements.{All-push}
 use Rattle.std.proofs.Math.Nat.{pow-le-pow_right}
 use Rattle.std.proofs.lemmas.Grind.{pow_more}
-use Rattle.wire_tokens.specs.Token.{is_digit, digit_of, number_of, lower_digit, lower_digits}
+use Rattle.wire_tokens.specs.Token.{is_hex_digit, digit_of, number_of, lower_digit, lower_digits}
 
 -- ---- one digit
 
-pub digit_of-below : (c : ℕ) → is_digit c ≡ true → digit_of c < 16
+pub digit_of-below : (c : ℕ) → is_hex_digit c ≡ true → digit_of c < 16
 digit_of-below c h = grind (arith, nat_tests)
 
-pub is_digit-lower_digit : (d : ℕ) → d < 16 → is_digit (lower_digit d) ≡ true
-is_digit-lower_digit d h = grind (arith, nat_tests)
+pub is_hex_digit-lower_digit : (d : ℕ) → d < 16 → is_hex_digit (lower_digit d) ≡ true
+is_hex_digit-lower_digit d h = grind (arith, nat_tests)
 
 pub digit_of-lower_digit : (d : ℕ) → d < 16 → digit_of (lower_digit d) ≡ d
 digit_of-lower_digit d h = grind (arith, nat_tests)
@@ -39,10 +39,10 @@ unfolding lower_digits
 length-lower_digits zero n = refl
 length-lower_digits (suc k) n = length-append (lower_digits k (n / 16)) (lower_digit (n % 16) ∷ []) ∙ ap (λ (x : ℕ). x + 1) (length-lower_digits k (n / 16)) ∙ omega arith
 
-pub each-lower_digits : (k n : ℕ) → AllPass is_digit (lower_digits k n)
+pub each-lower_digits : (k n : ℕ) → AllPass is_hex_digit (lower_digits k n)
 unfolding lower_digits
 each-lower_digits zero n = λ i d h. absurd (omega arith)
-each-lower_digits (suc k) n = All-push (λ (c : ℕ). is_digit c ≡ true) (lower_digits k (n / 16)) (lower_digit (n % 16)) (each-lower_digits k (n / 16)) (is_digit-lower_digit (n % 16) (omega arith))
+each-lower_digits (suc k) n = All-push (λ (c : ℕ). is_hex_digit c ≡ true) (lower_digits k (n / 16)) (lower_digit (n % 16)) (each-lower_digits k (n / 16)) (is_hex_digit-lower_digit (n % 16) (omega arith))
 
 pub number_of-lower_digits : (k n : ℕ) → n < 16 ^ k → number_of (lower_digits k n) ≡ n
 unfolding lower_digits

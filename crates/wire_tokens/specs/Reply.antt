@@ -1,5 +1,6 @@
 -- Which texts spell an outcome, and what is wrong with a text.
 use Rattle.std.specs.Prelude.{ℕ, ◌≡◌, List, [], ◌∷◌, ◌++◌, length, Option, Some, None, nat_le, ◌==◌, ◌||◌, true, false, if◌then◌else◌, codes}
+use Rattle.farm_types.specs.Limits.{messages_max, object_max}
 use Rattle.farm_types.specs.declared.ran.Outcome.{Outcome}
 use Rattle.farm_types.specs.Fits.{OutcomeFits}
 use Rattle.wire_tokens.specs.declared.faults.Which.TheVariants.{Serr, Sout, Doto}
@@ -35,14 +36,14 @@ abbrev pub version_fault : ℕ → Option ReplyFault
 version_fault n = if n == 1 then None else Some (BadVersion n)
 
 abbrev pub err_fault : ℕ → Option ReplyFault
-err_fault n = if nat_le n 1048576 then None else Some (TooLarge Serr n)
+err_fault n = if nat_le n messages_max then None else Some (TooLarge Serr n)
 
 abbrev pub out_fault : ℕ → Option ReplyFault
-out_fault n = if nat_le n 1048576 then None else Some (TooLarge Sout n)
+out_fault n = if nat_le n messages_max then None else Some (TooLarge Sout n)
 
 abbrev pub object_fault : ℕ → ℕ → Option ReplyFault
 object_fault status n =
-    if nat_le n 33554432 then (if (status == 0) || (n == 0) then None else Some (ObjectWithFailure status n)) else Some (TooLarge Doto n)
+    if nat_le n object_max then (if (status == 0) || (n == 0) then None else Some (ObjectWithFailure status n)) else Some (TooLarge Doto n)
 
 -- what is due after some fields of a reply
 abbrev pub reply_due : List Field → Option (Due ReplyFault)

@@ -1,6 +1,7 @@
 -- Which texts spell a request, and what is wrong with a text.
 use Rattle.std.specs.Prelude.{ℕ, ◌≡◌, ◌+◌, List, [], ◌∷◌, ◌++◌, length, Option, Some, None, nat_le, nat_lt, ◌==◌, ◌&&◌, true, false, if◌then◌else◌, codes, sum_by}
 use Rattle.std.specs.List.{flat_map}
+use Rattle.farm_types.specs.Limits.{words_max, word_max, words_bytes_max, source_max}
 use Rattle.farm_types.specs.declared.request.Request.{Request}
 use Rattle.farm_types.specs.Fits.{RequestFits}
 use Rattle.wire_tokens.specs.declared.faults.Which.TheVariants.{Argv, Words, Doti}
@@ -41,13 +42,13 @@ abbrev pub version_fault : ℕ → Option RequestFault
 version_fault n = if n == 1 then None else Some (BadVersion n)
 
 abbrev pub count_fault : ℕ → Option RequestFault
-count_fault n = if nat_le 1 n && nat_le n 1024 then None else Some (Count n)
+count_fault n = if nat_le 1 n && nat_le n words_max then None else Some (Count n)
 
 abbrev pub word_fault : ℕ → ℕ → Option RequestFault
-word_fault before n = if nat_le n 65536 then (if nat_le (before + n) 1048576 then None else Some (TooLarge Words n)) else Some (TooLarge Argv n)
+word_fault before n = if nat_le n word_max then (if nat_le (before + n) words_bytes_max then None else Some (TooLarge Words n)) else Some (TooLarge Argv n)
 
 abbrev pub source_fault : ℕ → Option RequestFault
-source_fault n = if nat_le n 33554432 then None else Some (TooLarge Doti n)
+source_fault n = if nat_le n source_max then None else Some (TooLarge Doti n)
 
 abbrev pub dist_due : Due RequestFault
 dist_due = record { name = codes "DIST"; has_body = false; refused = version_fault }

@@ -3,8 +3,8 @@ use Rattle.std.specs.Prelude.{ℕ, zero, suc, ◌≡◌, ◌≢◌, ◌+◌, ◌
 use Rattle.std.specs.List.{AllPass}
 
 -- 0 to 9, a to f or A to F
-abbrev pub is_digit : ℕ → Bool
-is_digit c = (nat_le 48 c && nat_le c 57) || (nat_le 97 c && nat_le c 102) || (nat_le 65 c && nat_le c 70)
+abbrev pub is_hex_digit : ℕ → Bool
+is_hex_digit c = (nat_le 48 c && nat_le c 57) || (nat_le 97 c && nat_le c 102) || (nat_le 65 c && nat_le c 70)
 
 -- what a digit of either case stands for
 abbrev pub digit_of : ℕ → ℕ
@@ -20,7 +20,7 @@ pub record IsToken (name : List ℕ) (n : ℕ) (text : List ℕ) : Type 0 where
   pub digits : List ℕ
   pub spelled : text ≡ name ++ digits
   pub eight : length digits ≡ 8
-  pub each : AllPass is_digit digits
+  pub each : AllPass is_hex_digit digits
   pub value : number_of digits ≡ n
 
 -- the lower-case digit of a number below 16
@@ -49,5 +49,5 @@ pub record IsBadDigit (name text : List ℕ) (at : ℕ) : Type 0 where
   pub after_name : 4 ≤ at
   pub in_token : at < 12
   pub there : at < length text
-  pub before : AllPass is_digit (take (at - 4) (drop 4 text))
-  pub no_digit : is_digit (slice_index text at) ≡ false
+  pub before : AllPass is_hex_digit (take (at - 4) (drop 4 text))
+  pub no_digit : is_hex_digit (slice_index text at) ≡ false

@@ -6,7 +6,7 @@ ghost use Rattle.wire_tokens.specs.Scan as scans;
 ghost use Rattle.wire_tokens.specs.Token as tokens;
 ghost use Rattle.wire_tokens.specs.Scan.{scan_of, IsTokenFault};
 ghost use Rattle.wire_tokens.specs.Partial.{place_in_token};
-ghost use Rattle.wire_tokens.specs.Token.{IsToken, token, lower_digit, is_digit, digit_of};
+ghost use Rattle.wire_tokens.specs.Token.{IsToken, token, lower_digit, is_hex_digit, digit_of};
 
 /// The four letters of a token's name.
 #[derive(Clone, Copy, Debug, PartialEq, Eq)]
@@ -44,13 +44,13 @@ fn lower_digit_of(d: u32) -> u8
 }
 
 fn is_hex_digit(c: u8) -> bool
-    ensures { result ≡ is_digit c }
+    ensures { result ≡ is_hex_digit c }
 {
     matches!(c, b'0'..=b'9' | b'a'..=b'f' | b'A'..=b'F')
 }
 
 fn value_of_digit(c: u8) -> u32
-    requires { IsTrue (is_digit c) }
+    requires { IsTrue (is_hex_digit c) }
     ensures { result ≡ digit_of c }
 {
     if c <= b'9' {
@@ -90,7 +90,7 @@ fn digits_len(text: &[u8]) -> usize
 // What eight digits stand for.
 fn number_of(digits: &[u8]) -> u32
     requires eight { length digits.now ≡ 8 }
-    requires each { AllPass is_digit digits.now }
+    requires each { AllPass is_hex_digit digits.now }
     ensures { result ≡ tokens.number_of digits.now }
 {
     let mut n = 0;

@@ -6,8 +6,9 @@ use Rattle.std.specs.List.{flat_map}
 use Rattle.std.proofs.lemmas.List.{append-nil}
 use Rattle.std.proofs.lemmas.List.Concat.{flat_map-cons}
 use Rattle.std.proofs.lemmas.List.Elements.{All-append, All-from_recursion, All-weaker, All-head, All-tail}
+use Rattle.farm_types.specs.Bytes.{line_feed}
 use Rattle.file_map.specs.FileMaps.{Files}
-use Rattle.sample_compiler.specs.Lines.{line_feed, with_byte, source_lines}
+use Rattle.sample_compiler.specs.Lines.{with_byte, source_lines}
 use Rattle.sample_compiler.specs.Words.{begins, begins_name, is_name_byte, join, word_pieces, piece_text, replaced}
 use Rattle.sample_compiler.specs.Expanding.{include, expand_lines, expanded}
 use Rattle.workload.specs.Loads.{source_text}

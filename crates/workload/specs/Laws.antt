@@ -1,5 +1,6 @@
 -- What the runs of the workload's jobs leave.
 use Rattle.std.specs.Prelude.{ℕ, ◌≡◌, ◌≤◌, ◌<◌, ◌^◌, false, List, [], map}
+use Rattle.farm_types.specs.Limits.{jobs_max}
 use Rattle.farm_types.specs.declared.ran.Ran.{Ran}
 use Rattle.farm_types.specs.declared.placed.Word.TheVariants.{Text}
 use Rattle.arg_scan.specs.Names.{is_preprocessed}
@@ -23,10 +24,10 @@ SentLaw = (job : ℕ) → job < 2 ^ 64 → IsSent job
 
 -- the preprocessor's run leaves the source itself, and no message
 abbrev pub PreprocessedLaw : Type 0
-PreprocessedLaw = (n job : ℕ) (ran : Ran) → n ≤ 512 → 1 ≤ job → job ≤ n
+PreprocessedLaw = (n job : ℕ) (ran : Ran) → n ≤ jobs_max → 1 ≤ job → job ≤ n
     → StationRan (files_of n) (map Text (preprocessing_words (job_words job))) [] ran → ran ≡ printed (text_of_job n job)
 
 -- a compile of the source by the words that are sent leaves what the compiler leaves by the job's own words over the files
 abbrev pub CompiledLaw : Type 0
-CompiledLaw = (n job : ℕ) (ran : Ran) → n ≤ 512 → 1 ≤ job → job ≤ n
+CompiledLaw = (n job : ℕ) (ran : Ran) → n ≤ jobs_max → 1 ≤ job → job ≤ n
     → StationRan (files_of n) (placed_words (stripped (job_words job))) (text_of_job n job) ran → SampleOf (files_of n) (job_words job) ran

@@ -1,6 +1,7 @@
 //! The workload of a number.
 
 ghost use Rattle.std.specs.Prelude.{◌≡◌, ◌≤◌, IfOk};
+ghost use Rattle.farm_types.specs.Limits.{jobs_max};
 ghost use Rattle.workload.specs.Loads.{jobs_of, files_of};
 
 use crate::generator::Generator;
@@ -22,7 +23,7 @@ pub struct Load {
 /// where A is the factor of the generator's Kth number after n.
 pub fn make(alloc: Global, n: u32) -> Result<Load, AllocError>
     requires some { 1 ≤ n }
-    requires most { n ≤ 512 }
+    requires most { n ≤ jobs_max }
     ensures jobs { IfOk result (λ load. load.jobs ≡ jobs_of n) }
     ensures files { IfOk result (λ load. load.files ≡ files_of n) }
 {

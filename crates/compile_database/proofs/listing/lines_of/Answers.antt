@@ -1,6 +1,6 @@
 use Rattle.std.proofs.Common.{◌++◌, ◌∷◌, [], ap, sym, subst, ◌∙◌}
 use Rattle.std.specs.Prelude.{All}
-use Rattle.job_list.specs.Bytes.{line_feed}
+use Rattle.farm_types.specs.Bytes.{line_feed}
 use Rattle.job_list.specs.Prints.{AreJobWords}
 use Rattle.compile_database.proofs.LineLemmas.{next_text, whole_text}
 use Rattle.compile_database.proofs.listing.lines_of.Goals as goal

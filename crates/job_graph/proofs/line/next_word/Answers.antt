@@ -1,5 +1,5 @@
 use Rattle.std.proofs.Common.{◌≡◌, ◌≤◌, false, length, get_or, sym, ◌∙◌, arith}
-use Rattle.job_list.specs.Parts.{is_blank}
+use Rattle.farm_types.specs.Bytes.{is_blank}
 use Rattle.job_graph.proofs.Words.{words_cut}
 use Rattle.job_graph.proofs.line.next_word.Goals as goal
 

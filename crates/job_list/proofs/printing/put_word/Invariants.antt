@@ -1,6 +1,6 @@
 use Rattle.std.proofs.Common.{◌≡◌, ◌∷◌, ◌++◌, take}
 use Rattle.std.specs.List.{flat_map}
-use Rattle.job_list.specs.Bytes.{double_quote}
+use Rattle.farm_types.specs.Bytes.{double_quote}
 use Rattle.job_list.specs.Prints.{byte_text}
 use Rattle.job_list.proofs.printing.put_word.Given as goal
 

@@ -1,0 +1,44 @@
+-- Decimal numbers in texts.
+use Rattle.std.specs.Prelude.{ℕ, ◌≡◌, ◌≤◌, ◌==◌, ◌&&◌, nat_le, nat_lt, Bool, true, false, List, [], ◌∷◌, length, Option, Some, None, if◌then◌else◌}
+use Rattle.std.specs.Char.{digit_value}
+use Rattle.std.specs.Str.Parse.{AllDigits, digits_value}
+
+-- a number from the least to the greatest, in 1 to so many decimal digits; a zero may stand in front
+pub record IsDecimal (digits least greatest : ℕ) (text : List ℕ) (n : ℕ) : Type 0 where
+  pub some : 1 ≤ length text
+  pub few : length text ≤ digits
+  pub each : AllDigits 10 text
+  pub value : digits_value 10 text ≡ n
+  pub low : least ≤ n
+  pub high : n ≤ greatest
+
+-- a zero stands in front of other bytes
+abbrev pub leads_by_zero : List ℕ → Bool
+leads_by_zero [] = false
+leads_by_zero (first ∷ []) = false
+leads_by_zero (first ∷ second ∷ more) = first == 48
+
+-- the same, and no zero stands in front of other digits
+pub record IsPlainDecimal (digits least greatest : ℕ) (text : List ℕ) (n : ℕ) : Type 0 where
+  pub number : IsDecimal digits least greatest text n
+  pub plain : leads_by_zero text ≡ false
+
+-- ---- the same as functions
+
+-- each byte is a decimal digit
+abbrev pub all_digits : List ℕ → Bool
+all_digits [] = true
+all_digits (byte ∷ bytes) = nat_lt (digit_value byte) 10 && all_digits bytes
+
+-- 1 to so many decimal digits of a number from the least to the greatest
+abbrev pub is_decimal : ℕ → ℕ → ℕ → List ℕ → Bool
+is_decimal digits least greatest text = nat_le 1 (length text) && nat_le (length text) digits && all_digits text
+    && nat_le least (digits_value 10 text) && nat_le (digits_value 10 text) greatest
+
+-- the number that the text is
+abbrev pub decimal_of : ℕ → ℕ → ℕ → List ℕ → Option ℕ
+decimal_of digits least greatest text = if is_decimal digits least greatest text then Some (digits_value 10 text) else None
+
+-- the number that the text is without a zero in front
+abbrev pub plain_decimal_of : ℕ → ℕ → ℕ → List ℕ → Option ℕ
+plain_decimal_of digits least greatest text = if leads_by_zero text then None else decimal_of digits least greatest text
