@@ -41,7 +41,8 @@ in_body p h lt = elim h.phase [ inl t ↦ let none = t.nothing_left in absurd (o
 -- the same fields, and some bytes more
 pub placed_more : (old new : Partial) (bytes : List ℕ) → fields_of old ≡ fields_of new → bytes_of new ≡ bytes_of old ++ bytes → (text : List ℕ) → IsPlaced old text → IsPlaced new (text ++ bytes)
 placed_more old new bytes fields same text g =
-    subst (λ (x : List Field × List ℕ). Progress request_format (text ++ bytes) x.0 x.1) (ap (λ (x : List Field). (x, bytes_of old ++ bytes)) fields ∙ ap (λ (x : List ℕ). (fields_of new, x)) (sym same))
+    subst (λ (x : List Field × List ℕ). Progress request_format (text ++ bytes) x.0 x.1)
+    (ap (λ (x : List Field). (x, bytes_of old ++ bytes)) fields ∙ ap (λ (x : List ℕ). (fields_of new, x)) (sym same))
     (progress-longer request_format text (fields_of old) (bytes_of old) bytes g)
 
 -- a byte at the end of a token
@@ -49,14 +50,19 @@ pub token_more : (token body : List ℕ) (byte : ℕ) → body ≡ [] → (token
 token_more token body byte none = rw (none, append-nil token) (append-nil (token ++ byte ∷ []))
 
 -- a fault in the token that a byte more gives
-pub fault_stands : (p : Partial) (token : List ℕ) (byte at place : ℕ) (fault : RequestFault) → Holds p → p.left ≡ 0 → token ≡ p.token ++ byte ∷ [] → at ≡ bytes_before p.part (length p.words) p.together
-    → step_of request_format (due_in p) token ≡ refuses place fault → (text : List ℕ) → IsPlaced p text → Stands request_format (text ++ byte ∷ []) (at + place) fault
+pub fault_stands : (p : Partial) (token : List ℕ) (byte at place : ℕ) (fault : RequestFault) → Holds p → p.left ≡ 0
+    → token ≡ p.token ++ byte ∷ [] → at ≡ bytes_before p.part (length p.words) p.together
+    → step_of request_format (due_in p) token ≡ refuses place fault
+    → (text : List ℕ) → IsPlaced p text → Stands request_format (text ++ byte ∷ []) (at + place) fault
 fault_stands p token byte at place fault h left is here s text g =
     let t = in_token p h left in
-    let bytes : token ≡ bytes_of p ++ byte ∷ [] = is ∙ sym (append-nil (p.token ++ byte ∷ [])) ∙ ap (λ (x : List ℕ). (p.token ++ byte ∷ []) ++ x) (sym t.no_body) ∙ token_more p.token p.body byte t.no_body in
+    let bytes : token ≡ bytes_of p ++ byte ∷ [] =
+    is ∙ sym (append-nil (p.token ++ byte ∷ [])) ∙ ap (λ (x : List ℕ). (p.token ++ byte ∷ []) ++ x) (sym t.no_body)
+    ∙ token_more p.token p.body byte t.no_body in
     let where_it_is : fields_len (fields_of p) ≡ at = fields_len-before p.part p.count p.words p.together h.counts.sum ∙ sym here in
     subst (λ (i : ℕ). Stands request_format (text ++ byte ∷ []) (i + place) fault) where_it_is
-    (longer-stands request_format four_request text (fields_of p) (due_in p) (bytes_of p) (byte ∷ []) place fault g (due_is p h.counts) (ap (step_of request_format (due_in p)) (sym bytes) ∙ s))
+    (longer-stands request_format four_request text (fields_of p) (due_in p) (bytes_of p) (byte ∷ []) place fault g
+    (due_is p h.counts) (ap (step_of request_format (due_in p)) (sym bytes) ∙ s))
 
 -- the end of a field after some bytes
 pub finished : (old mid new : Partial) (piece : List ℕ) (n : ℕ) (turn : Turn) → n ≤ length piece → ((text : List ℕ) → IsPlaced old text → IsPlaced mid (text ++ take n piece)) → Finishes mid new n turn → Says old new piece turn

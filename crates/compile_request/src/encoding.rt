@@ -3,6 +3,7 @@
 ghost use Rattle.std.specs.Prelude.{◌≡◌, ◌++◌, ◌≤◌, length, All, IfOk, OnOk};
 ghost use Rattle.std.specs.List.{flat_map};
 ghost use Rattle.farm_types.specs.Fits.{RequestFits};
+ghost use Rattle.farm_types.specs.Limits.{word_max};
 ghost use Rattle.wire_tokens.specs.Request.{request_text, word_text};
 
 use farm_types::{Bytes, Request};
@@ -10,7 +11,7 @@ use std::alloc::{AllocError, Global};
 use wire_tokens::{ARGC, ARGV, DIST, DOTI, push_body, push_token};
 
 fn push_words(text: &mut Bytes, words: &[Bytes]) -> Result<(), AllocError>
-    requires { All (λ word. length word ≤ 65536) words.now }
+    requires { All (λ word. length word ≤ word_max) words.now }
     ensures { OnOk result (text.new ≡ text.old ++ flat_map word_text words.now) }
 {
     for word in words {

@@ -1,6 +1,7 @@
 //! The tokens of a request.
 
 ghost use Rattle.std.specs.Prelude.{◌≡◌, ◌≤◌, ◌+◌, ◌<◌, ◌^◌, ℕ, length};
+ghost use Rattle.farm_types.specs.Limits.{words_bytes_max};
 ghost use Rattle.wire_tokens.specs.Format;
 ghost use Rattle.compile_request.specs.Parts.{due_of};
 
@@ -39,7 +40,7 @@ pub fn body_len(part: Part, n: u32) -> usize
 
 /// What is wrong with a token's number, after words of so many bytes.
 pub fn refusal(part: Part, before: usize, n: u32) -> Option<RequestFault>
-    requires { before ≤ 1048576 }
+    requires { before ≤ words_bytes_max }
     ensures { result ≡ (due_of part before).refused n }
 {
     match part {

@@ -107,7 +107,7 @@ same_rules (word ∷ value ∷ more) a b p q =
 -- the bits of each
 bits_small : (text : List ℕ) (bits : ℕ) → bits_of text bits → bits ≤ 32
 bits_small [] bits is = omega (arith, is)
-bits_small (slash ∷ digits) bits is = is.high
+bits_small (slash ∷ digits) bits is = is.number.high
 
 abbrev IsSmall : Rule → Type 0
 IsSmall rule = rule.bits ≤ 32

@@ -1,5 +1,6 @@
 // The source of a job whose command may be sent.
 ghost use Rattle.std.specs.Prelude.{◌≡◌, ℕ, ◌+◌, ◌<◌, ◌≤◌, true, false, List, length};
+ghost use Rattle.farm_types.specs.Limits.{preprocessed_max};
 ghost use Rattle.farm_types.specs.declared.jobs.JobConfig.{JobConfig};
 ghost use Rattle.arg_scan.specs.Class.{IsRemote, plan_of};
 ghost use Rattle.arg_scan.specs.Names.{is_preprocessed};
@@ -51,7 +52,7 @@ fn fetch_source<D: Dialer, S: Station, K: Keeper, C: Clock>(
     ensures left { journal.old.left ≤ journal.new.left + 1 }
     ensures fell { journal.new.left ≤ journal.old.left }
     ensures idle { IsIdle (K.shows kit.new.keeper) }
-    ensures fetched { FetchedIs name.now 41_943_040 (K.shows kit.old.keeper) (K.shows kit.new.keeper) result }
+    ensures fetched { FetchedIs name.now preprocessed_max (K.shows kit.old.keeper) (K.shows kit.new.keeper) result }
     ensures prepared { (h : ℕ) (l : Limits h) (caller number : ℕ) (mine : List CallEntry) (j : Job) →
         may_be_sent j ≡ true → is_source_ready j ≡ true → source_name j ≡ name.now →
         PreparedIs j l caller number

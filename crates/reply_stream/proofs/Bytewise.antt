@@ -63,16 +63,21 @@ pub token_more : (token body : List ℕ) (byte : ℕ) → body ≡ [] → (token
 token_more token body byte none = rw (none, append-nil token) (append-nil (token ++ byte ∷ []))
 
 -- a fault in the token that a byte more gives
-pub fault_stands : (p : Partial) (token : List ℕ) (byte at place : ℕ) (fault : ReplyFault) → Holds p → p.left ≡ 0 → token ≡ p.token ++ byte ∷ [] → at ≡ bytes_before p.part p.err p.out
-    → step_of reply_format (due_in p) token ≡ refuses place fault → (text object : List ℕ) → IsPlaced p text object → Stands reply_format (text ++ byte ∷ []) (at + place) fault
+pub fault_stands : (p : Partial) (token : List ℕ) (byte at place : ℕ) (fault : ReplyFault) → Holds p → p.left ≡ 0
+    → token ≡ p.token ++ byte ∷ [] → at ≡ bytes_before p.part p.err p.out
+    → step_of reply_format (due_in p) token ≡ refuses place fault
+    → (text object : List ℕ) → IsPlaced p text object → Stands reply_format (text ++ byte ∷ []) (at + place) fault
 fault_stands p token byte at place fault h left is here s text object g =
     let t = in_token p h left in
     let none : object ≡ [] = nil_from_length object (g.given ∙ t.none_given) in
-    let kept : bytes_of p ++ object ≡ p.token = ap (λ (x : List ℕ). bytes_of p ++ x) none ∙ append-nil (bytes_of p) ∙ ap (λ (x : List ℕ). p.token ++ x) t.no_body ∙ append-nil p.token in
+    let kept : bytes_of p ++ object ≡ p.token =
+    ap (λ (x : List ℕ). bytes_of p ++ x) none ∙ append-nil (bytes_of p)
+    ∙ ap (λ (x : List ℕ). p.token ++ x) t.no_body ∙ append-nil p.token in
     let bytes : (bytes_of p ++ object) ++ byte ∷ [] ≡ token = ap (λ (x : List ℕ). x ++ byte ∷ []) kept ∙ sym is in
     let where_it_is : fields_len (fields_of p) ≡ at = fields_len-before p.part p.status p.err p.out ∙ sym here in
     subst (λ (i : ℕ). Stands reply_format (text ++ byte ∷ []) (i + place) fault) where_it_is
-    (longer-stands reply_format four_reply text (fields_of p) (due_in p) (bytes_of p ++ object) (byte ∷ []) place fault g.progress (due_is p h.counts) (ap (step_of reply_format (due_in p)) bytes ∙ s))
+    (longer-stands reply_format four_reply text (fields_of p) (due_in p) (bytes_of p ++ object) (byte ∷ []) place fault g.progress
+    (due_is p h.counts) (ap (step_of reply_format (due_in p)) bytes ∙ s))
 
 -- the end of a field after some bytes
 pub finished : (grown : ℕ → List ℕ → List ℕ) (old mid new : Partial) (piece : List ℕ) (n : ℕ) (turn : Turn) → n ≤ length piece → ((text object : List ℕ) → IsPlaced old text object → IsPlaced mid (text ++ take n piece) (grown n object)) → Finishes mid new n turn → Says grown old new piece turn

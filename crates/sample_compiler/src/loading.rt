@@ -18,12 +18,13 @@ use crate::stops::ExpandStop;
 use crate::task::{Task, task_of};
 use arg_scan::is_reserved;
 use edge_traits::{FetchFault, Keeper};
+use farm_types::limits::SOURCE_MAX;
 use farm_types::{Bytes, Words};
 use sample_lang::FileMap;
 use std::alloc::{AllocError, Global};
 
 /// The most bytes of a file that is fetched.
-pub const FETCH_MAX: u32 = 33_554_432;
+pub const FETCH_MAX: u32 = SOURCE_MAX as u32;
 
 /// Why the files weren't loaded.
 #[derive(Debug, Drop)]

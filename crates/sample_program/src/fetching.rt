@@ -7,11 +7,12 @@ ghost use Rattle.sample_program.specs.Fetches.{Took, TookAll, Missed, MissedOne}
 
 use arg_scan::is_reserved;
 use edge_traits::{FetchFault, Keeper};
+use farm_types::limits::OBJECT_MAX;
 use farm_types::{Bytes, Words};
 use std::alloc::{AllocError, Global};
 
 /// The most bytes of all files together.
-pub const FILES_MAX: u32 = 33_554_432;
+pub const FILES_MAX: u32 = OBJECT_MAX as u32;
 
 /// Why files weren't fetched.
 #[derive(Debug, Drop)]
