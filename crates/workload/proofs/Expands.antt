@@ -9,7 +9,8 @@ use Rattle.std.proofs.lemmas.List.Elements.{All-append, All-from_recursion, All-
 use Rattle.farm_types.specs.Bytes.{line_feed}
 use Rattle.file_map.specs.FileMaps.{Files}
 use Rattle.sample_compiler.specs.Lines.{with_byte, source_lines}
-use Rattle.sample_compiler.specs.Words.{begins, begins_name, is_name_byte, join, word_pieces, piece_text, replaced}
+use Rattle.sample_lang.specs.Bytes.{begins_name, is_name_byte}
+use Rattle.sample_compiler.specs.Words.{begins, join, word_pieces, piece_text, replaced}
 use Rattle.sample_compiler.specs.Expanding.{include, expand_lines, expanded}
 use Rattle.workload.specs.Loads.{source_text}
 use Rattle.workload.proofs.Names.{IsDigit, digits, other_byte}
