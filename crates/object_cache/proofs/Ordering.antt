@@ -1,11 +1,11 @@
 -- Pieces in an order of their own.
-use Rattle.std.proofs.Common.{◌≡◌, ℕ, ◌+◌, ◌-◌, ◌<◌, ◌≤◌, List, [], ◌∷◌, ◌++◌, length, get_or, set, take, drop, map, refl, sym, ◌∙◌, ap,
-    arith, cond, append_assoc}
+use Rattle.std.proofs.Common.{◌≡◌, ℕ, ◌+◌, ◌-◌, ◌<◌, ◌≤◌, List, [], ◌∷◌, ◌++◌, length, get_or, set, take, drop, map, refl, sym, ◌∙◌, ap}
+use Rattle.std.proofs.Common.{arith, cond, append_assoc}
 use Rattle.std.specs.Prelude.{nat_eq, slice_range}
 use Rattle.std.specs.List.{copy_within}
-use Rattle.std.proofs.lemmas.List.{length-append, length-drop, length-take, length-take-le, length-map, map-append, take-map, drop-map,
-    take-append-drop, drop_more, get_or-set_same, get_or-set_other, get_or_append_left, get_or_push, take_all, drop_all, take-append-le,
-    drop-append-le, drop-drop, drop-take, take-take, drop_at}
+use Rattle.std.proofs.lemmas.List.{length-append, length-drop, length-take, length-take-le, length-map, map-append, take-map, drop-map}
+use Rattle.std.proofs.lemmas.List.{take-append-drop, drop_more, get_or-set_same, get_or-set_other, get_or_append_left, get_or_push}
+use Rattle.std.proofs.lemmas.List.{take_all, drop_all, take-append-le, drop-append-le, drop-drop, drop-take, take-take, drop_at}
 use Rattle.std.proofs.Math.Nat.{lt_of_not-le}
 use Rattle.std.proofs.lemmas.Bool.Decides.{nat_tests}
 use Rattle.object_cache.specs.Pieces.{in_order, times, turned, IsOrder}

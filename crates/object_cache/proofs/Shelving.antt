@@ -1,20 +1,21 @@
 -- What the calls of a shelf leave of its entries.
-use Rattle.std.proofs.Common.{◌≡◌, ℕ, ◌+◌, ◌-◌, ◌<◌, ◌≤◌, List, [], ◌∷◌, ◌++◌, length, get_or, take, drop, refl, sym, ◌∙◌, ap, subst,
-    arith, zero, suc, add-one}
+use Rattle.std.proofs.Common.{◌≡◌, ℕ, ◌+◌, ◌-◌, ◌<◌, ◌≤◌, List, [], ◌∷◌, ◌++◌, length, get_or, take, drop, refl, sym, ◌∙◌, ap, subst}
+use Rattle.std.proofs.Common.{arith, zero, suc, add-one}
 use Rattle.std.specs.Prelude.{slice_range, Bool, IsTrue, ◌↔◌}
 use Rattle.edge_traits.specs.declared.faults.Bounds.{Bounds}
 use Rattle.edge_traits.specs.Stations.{IsWithin}
 use Rattle.std.specs.List.{remove, concat}
-use Rattle.std.proofs.lemmas.List.{length-append, length-drop, length-take-le, take-take, take-append-drop, take_more, drop_more,
-    take_all, drop_all, append-nil, get_or_default, same_from_push}
+use Rattle.std.proofs.lemmas.List.{length-append, length-drop, length-take-le, take-take, take-append-drop, take_more, drop_more}
+use Rattle.std.proofs.lemmas.List.{take_all, drop_all, append-nil, get_or_default, same_from_push}
 use Rattle.object_cache.specs.declared.kept.Kept.{Kept}
 use Rattle.object_cache.specs.Pieces.{turned}
 use Rattle.object_cache.specs.Entries.{Entry}
 use Rattle.object_cache.specs.Entries.{sizes, size_of}
 use Rattle.object_cache.specs.Shelves.{Stored, text_in, items_of, pieces_of, entry_in, entries_of, IsGood, AllGood, IsShelf, IsKept}
 use Rattle.object_cache.proofs.Ordering.{length-turned}
-use Rattle.object_cache.proofs.Stores.{own_item, item_is, items_lifted, items_dropped, counted_lifted, counted_dropped, own_good,
-    good_dropped, lifted_pieces, dropped_pieces, items_mid, pieces-append, good_front, good_back, length-items}
+use Rattle.object_cache.proofs.Stores.{own_item, item_is, items_lifted, items_dropped, counted_lifted, counted_dropped, own_good}
+use Rattle.object_cache.proofs.Stores.{good_dropped, lifted_pieces, dropped_pieces, items_mid, pieces-append, good_front, good_back}
+use Rattle.object_cache.proofs.Stores.{length-items}
 use Rattle.object_cache.proofs.Sizing.{sizes_last, sizes-remove}
 
 one_range : (ks : List Kept) (at : ℕ) (k : Kept) → at < length ks → k ≡ get_or ks at k → slice_range ks at (at + 1) ≡ k ∷ []

@@ -1,10 +1,10 @@
 -- Entries whose pieces stand in their order.
-use Rattle.std.proofs.Common.{◌≡◌, ℕ, ◌+◌, ◌-◌, ◌<◌, ◌≤◌, List, [], ◌∷◌, ◌++◌, length, get_or, take, drop, refl, sym, ◌∙◌, ap, subst,
-    arith, append_assoc, suc}
+use Rattle.std.proofs.Common.{◌≡◌, ℕ, ◌+◌, ◌-◌, ◌<◌, ◌≤◌, List, [], ◌∷◌, ◌++◌, length, get_or, take, drop, refl, sym, ◌∙◌, ap, subst}
+use Rattle.std.proofs.Common.{arith, append_assoc, suc}
 use Rattle.std.specs.Prelude.{slice_range}
 use Rattle.std.specs.List.{concat, remove}
-use Rattle.std.proofs.lemmas.List.{length-append, length-drop, length-take-le, take-append-drop, drop_more, take_all, drop_all,
-    append-nil, take-append-le, drop-append-le, drop-drop, take_at, drop_at, get_or_at}
+use Rattle.std.proofs.lemmas.List.{length-append, length-drop, length-take-le, take-append-drop, drop_more, take_all, drop_all}
+use Rattle.std.proofs.lemmas.List.{append-nil, take-append-le, drop-append-le, drop-drop, take_at, drop_at, get_or_at}
 use Rattle.object_cache.specs.declared.kept.Kept.{Kept}
 use Rattle.object_cache.specs.Pieces.{turned}
 use Rattle.object_cache.specs.Shelves.{Stored, text_in, items_of, pieces_of, IsGood, AllGood}

@@ -1,9 +1,9 @@
 -- A text that is written into pieces.
-use Rattle.std.proofs.Common.{◌≡◌, ℕ, ◌+◌, ◌*◌, ◌<◌, ◌≤◌, List, [], ◌∷◌, ◌++◌, length, get_or, take, drop, sym, ◌∙◌, ap, subst, arith,
-    append_assoc}
+use Rattle.std.proofs.Common.{◌≡◌, ℕ, ◌+◌, ◌*◌, ◌<◌, ◌≤◌, List, [], ◌∷◌, ◌++◌, length, get_or, take, drop, sym, ◌∙◌, ap, subst, arith}
+use Rattle.std.proofs.Common.{append_assoc}
 use Rattle.std.specs.List.{concat}
-use Rattle.std.proofs.lemmas.List.{length-append, length-take-le, length-map, take_all, drop_all, append-nil, take_at, take-append-le,
-    drop-append-le, take-take}
+use Rattle.std.proofs.lemmas.List.{length-append, length-take-le, length-map, take_all, drop_all, append-nil, take_at, take-append-le}
+use Rattle.std.proofs.lemmas.List.{drop-append-le, take-take}
 use Rattle.std.proofs.Math.Seq.{take-append-add}
 use Rattle.object_cache.specs.Pieces.{in_order, text_behind, IsOrder, ArePieces}
 use Rattle.object_cache.proofs.Reading.{concat_more}

@@ -1,6 +1,6 @@
 -- One option more.
-use Rattle.std.proofs.Common.{◌≡◌, ◌≤◌, ◌<◌, ℕ, suc, ◌+◌, ◌-◌, Bool, true, false, List, [], ◌∷◌, ◌++◌, length, map, take, drop, get_or,
-    Option, Some, None, refl, ap, sym, ◌∙◌, subst, arith, append_assoc, length-append, add-one, drop-cons}
+use Rattle.std.proofs.Common.{◌≡◌, ◌≤◌, ◌<◌, ℕ, suc, ◌+◌, ◌-◌, Bool, true, false, List, [], ◌∷◌, ◌++◌, length, map, take, drop, get_or}
+use Rattle.std.proofs.Common.{Option, Some, None, refl, ap, sym, ◌∙◌, subst, arith, append_assoc, length-append, add-one, drop-cons}
 use Rattle.std.specs.Prelude.{not, MatchBool}
 use Rattle.std.proofs.lemmas.List.{append-nil, take-map, drop-map, take_at, drop_at, take_rest, length-map}
 use Rattle.option_words.specs.Items.{Item, items_words, value_words}

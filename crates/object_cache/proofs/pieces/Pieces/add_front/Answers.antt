@@ -43,7 +43,7 @@ ready c =
                 w.put_piece.new.block.items w.put_piece.new.order.items (vec_capacity w.put_piece.new.block)
                 (vec_capacity w.put_piece.new.order)
                 w.put_piece.ensures.block_capacity w.put_piece.ensures.order_capacity w.if-self-eq-PIECE.true c.self.told lt
-                    w.put_piece.ensures.order
+                w.put_piece.ensures.order
                 w.put_piece.ensures.pieces,
             text ∙ old,
           ))

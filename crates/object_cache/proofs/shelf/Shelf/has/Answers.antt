@@ -13,12 +13,12 @@ is_of-requires-clause-good c =
     let here = subst (λ v. IsAt v place) (sym c.self.view_is) c.requires.at in
     let own = own_item inside.pieces.used place.first kept in
     let own_is = own_at inside.kept.items inside.pieces.used inside.bytes place.index place.first kept c.self.invariant here.within
-        here.first
+    here.first
     c.index.ensures in
     let own_now = subst (λ v. own ≡ get_or (stored v) place.index own) c.self.view_is own_is in
     subst (λ t. IsGood (record { kept = kept; text = t })) (sym (c.text-text.ensures own own_now))
     (good_is inside.kept.items inside.pieces.used inside.bytes place.index place.first kept c.self.invariant here.within here.first
-        c.index.ensures)
+    c.index.ensures)
 
 pub returns : goal.returns
 returns c = λ item is.
@@ -31,5 +31,5 @@ returns c = λ item is.
     ∙ ap (λ t. is_of c.args.words.now c.args.input.now (entry_in (record { kept = kept; text = t }))) (c.text-text.ensures item is)
     ∙ ap (λ x. is_of c.args.words.now c.args.input.now (entry_in x))
     (item_again inside.kept.items inside.pieces.used inside.bytes place.index place.first kept c.self.invariant here.within here.first
-        c.index.ensures
+    c.index.ensures
     item item_is)

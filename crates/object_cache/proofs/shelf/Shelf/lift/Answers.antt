@@ -12,7 +12,7 @@ overflow_add-place c =
     let inside = c.self.inside in
     let here = subst (λ v. IsAt v c.args.place) (sym c.self.view_is) c.requires in
     let within = in_pieces inside.kept.items inside.pieces.used inside.bytes c.args.place.index c.args.place.first c.index.result.now
-        c.self.invariant
+    c.self.invariant
     here.within here.first c.index.ensures in
     omega (arith, within, c.self.invariant.few)
 
@@ -36,7 +36,7 @@ invariant_of-self c =
     subst (λ ks. IsShelf ks c.turn.new.self.used inside.bytes) (sym items)
     (subst (λ ps. IsShelf (turned 0 index (index + 1) inside.kept.items) ps inside.bytes) (sym c.turn.ensures.used)
     (lifted_shelf inside.kept.items inside.pieces.used inside.bytes index first kept c.self.invariant here.within here.first
-        c.index.ensures))
+    c.index.ensures))
 
 pub returns-clause-stored : goal.returns-clause-stored
 returns-clause-stored c = λ item is.
@@ -51,6 +51,6 @@ returns-clause-stored c = λ item is.
     let items = with_items_is inside.kept c.turn-2.new.items (omega (arith, ap length turned_to, len, inside.kept.ok.0)) ∙ turned_to in
     ap (λ ks. items_of ks c.turn.new.self.used) items ∙ ap (items_of (turned 0 index (index + 1) inside.kept.items)) c.turn.ensures.used
     ∙ lifted_items inside.kept.items inside.pieces.used inside.bytes index first kept c.self.invariant here.within here.first
-        c.index.ensures
+    c.index.ensures
     item item_is
     ∙ ap (λ v. item ∷ remove (stored v) index) c.self.view_is

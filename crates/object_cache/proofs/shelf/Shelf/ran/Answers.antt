@@ -21,6 +21,6 @@ returns c =
     ran_is ∙ ap (λ t. (entry_in (record { kept = kept; text = t })).ran) (c.text-text.ensures item is)
     ∙ ap (λ x. (entry_in x).ran)
     (item_again inside.kept.items inside.pieces.used inside.bytes place.index place.first kept c.self.invariant here.within here.first
-        c.index.ensures
+    c.index.ensures
     item item_is))
     c.ran_of.ensures
