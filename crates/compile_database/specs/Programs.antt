@@ -4,6 +4,7 @@ use Rattle.std.specs.Fmt.{decimal}
 use Rattle.farm_types.specs.Exits.{bad_words_status, fault_status, bad_text_status}
 use Rattle.edge_traits.specs.Causes.{Still}
 use Rattle.edge_traits.specs.Sources.{SourceView}
+use Rattle.stream_print.specs.Notices.{no_memory_notice}
 use Rattle.stream_print.specs.Reads.{AllRead, ReadTo, BrokeOff, HasReadSome}
 use Rattle.stream_print.specs.declared.pieces.SinkKind.TheVariants.{Out}
 use Rattle.stream_print.specs.declared.pieces.Piece.{Piece}
@@ -20,7 +21,7 @@ use Rattle.compile_database.specs.Words.{BadWordsAt, Chooses}
 -- ---- the texts
 
 abbrev pub no_memory_text : List ℕ
-no_memory_text = codes "farm_jobs: no memory\n"
+no_memory_text = no_memory_notice (codes "farm_jobs")
 
 abbrev pub unreadable_text : List ℕ
 unreadable_text = codes "farm_jobs: cannot read the database\n"

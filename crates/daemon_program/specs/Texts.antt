@@ -2,6 +2,7 @@
 use Rattle.std.specs.Prelude.{ℕ, suc, List, [], ◌∷◌, ◌++◌, codes, Option, Some, None}
 use Rattle.std.specs.Fmt.{decimal}
 use Rattle.std.specs.List.{flat_map}
+use Rattle.stream_print.specs.Notices.{no_memory_notice}
 use Rattle.wire_tokens.specs.Token.{lower_digits}
 use Rattle.daemon_service.specs.declared.served.Served.{Served}
 use Rattle.daemon_service.specs.declared.served.Served.TheVariants as served
@@ -53,4 +54,4 @@ abbrev pub bad_words_text : ℕ → List ℕ
 bad_words_text place = codes "farmd: bad words at word " ++ decimal place ++ codes "\n"
 
 abbrev pub no_memory_text : List ℕ
-no_memory_text = codes "farmd: no memory\n"
+no_memory_text = no_memory_notice (codes "farmd")

@@ -8,6 +8,7 @@ use Rattle.job_list.specs.declared.fault.JobFault.{JobFault}
 use Rattle.job_list.specs.Faults.{job_fault_number}
 use Rattle.job_graph.specs.declared.fault.GraphFault.{GraphFault}
 use Rattle.job_graph.specs.Faults.{graph_fault_number}
+use Rattle.stream_print.specs.Notices.{no_memory_notice}
 use Rattle.stream_print.specs.declared.pieces.SinkKind.TheVariants.{Out}
 use Rattle.stream_print.specs.declared.pieces.Piece.{Piece}
 use Rattle.farm_words.specs.Help.{version}
@@ -17,7 +18,7 @@ abbrev pub output : List ℕ → Piece
 output text = record { sink = Out; bytes = text }
 
 abbrev pub no_memory_text : List ℕ
-no_memory_text = codes "farm: no memory\n"
+no_memory_text = no_memory_notice (codes "farm")
 
 abbrev pub bad_period_text : List ℕ
 bad_period_text = codes "farm: bad DISTCC_BACKOFF_PERIOD\n"

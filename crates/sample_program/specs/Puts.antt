@@ -9,6 +9,7 @@ use Rattle.file_map.specs.FileMaps.{Files}
 use Rattle.edge_traits.specs.Keepers.{KeeperView, IsIdle}
 use Rattle.stream_print.specs.declared.pieces.SinkKind.TheVariants.{Out}
 use Rattle.stream_print.specs.declared.pieces.Piece.{Piece}
+use Rattle.stream_print.specs.Notices.{no_memory_notice}
 use Rattle.stream_print.specs.Printing.{complaint}
 use Rattle.sample_compiler.specs.declared.task.Product.{Product}
 use Rattle.sample_compiler.specs.declared.task.Product.TheVariants.{Text, Object}
@@ -19,7 +20,7 @@ use Rattle.sample_program.specs.declared.running.RunStop.TheVariants.{File, Memo
 -- ---- the texts
 
 abbrev pub no_memory_text : List ℕ
-no_memory_text = codes "scc: no memory\n"
+no_memory_text = no_memory_notice (codes "scc")
 
 abbrev pub file_fault_text : List ℕ
 file_fault_text = codes "scc: file fault\n"

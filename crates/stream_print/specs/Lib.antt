@@ -1,3 +1,4 @@
 pub mod Prints
+pub mod Notices
 pub mod Printing
 pub mod Reads
