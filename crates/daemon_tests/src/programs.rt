@@ -1,5 +1,8 @@
 //! Rows of the program `farmd`.
 
+ghost use Rattle.std.specs.Prelude.{◌≡◌, false};
+ghost use Rattle.edge_memory.specs.Sinks.{sink_state, sink_shows};
+
 use crate::devices::{numbers, sink};
 use crate::scripts::{REPLY, REQUEST, door};
 use daemon_program::farmd;

@@ -1,5 +1,6 @@
 //! Jobs by rows: what the devices do, and what becomes of the job.
 ghost use Rattle.std.specs.Prelude.{◌≡◌, ◌+◌, ◌*◌, ◌<◌, ◌≤◌, [], length};
+ghost use Rattle.farm_types.specs.Limits.{hosts_max};
 ghost use Rattle.edge_traits.specs.Keepers.{IsIdle};
 ghost use Rattle.slot_table.specs.History.{outstanding};
 ghost use Rattle.slot_table.specs.Grants.{cost};
