@@ -133,8 +133,22 @@ fn alone<'a, R: Wait>(rt: &'a R, alloc: Global) -> Result<GateStation<'a, R>, Al
     Ok(first)
 }
 
+fn two_kits<'a, R>(
+    alloc: Global,
+    held: (HeldStation<'a, R>, WaitingClock<'a, R>),
+    idle: (HeldStation<'a, R>, WaitingClock<'a, R>),
+) -> Result<Vec<HeldKit<'a, R>>, AllocError>
+    ensures two { IfOk result (λ kits. length kits.items ≡ 2) }
+    ensures idle { IfOk result (λ kits. All (λ kit. IsIdle (keeper_shows (keeper_state kit.keeper))) kits.items) }
+{
+    let mut kits = Vec::new(alloc);
+    kits.push(kit(alloc, held.0, held.1))?;
+    kits.push(kit(alloc, idle.0, idle.1))?;
+    Ok(kits)
+}
+
 // The kit of a worker whose second run waits for `gate`, and a kit whose clock waits for that run.
-fn two_kits<'a, R: Wait>(
+fn held_kits<'a, R: Wait>(
     rt: &'a R,
     alloc: Global,
     gate: GateStation<'a, R>,
@@ -153,10 +167,8 @@ fn two_kits<'a, R: Wait>(
         gate: alone(rt, alloc)?,
         runs: 0,
     };
-    let mut kits = Vec::new(alloc);
-    kits.push(kit(alloc, held, clock(alloc, alone(rt, alloc)?, 0)))?;
-    kits.push(kit(alloc, idle, clock(alloc, awaits, WAITS)))?;
-    Ok(kits)
+    let unused = clock(alloc, alone(rt, alloc)?, 0);
+    two_kits(alloc, (held, unused), (idle, clock(alloc, awaits, WAITS)))
 }
 
 const TWO_JOBS: &[u8] = b"scc -E a.c\nscc -E b.c\n";
@@ -165,7 +177,7 @@ const TWO_JOBS: &[u8] = b"scc -E a.c\nscc -E b.c\n";
 fn a_line_tells_of_a_job_while_the_next_one_is_done(rt: HostRuntime) -> Result<(), Fail> {
     let alloc = rt.alloc();
     let (held, asked) = GateStation::pair(&rt, alloc)?;
-    let mut kits = two_kits(&rt, alloc, held)?;
+    let mut kits = held_kits(&rt, alloc, held)?;
     let mut out = Page::new(alloc);
     let mut err = AskingSink {
         page: Page::new(alloc),
