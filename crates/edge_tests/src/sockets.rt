@@ -170,17 +170,16 @@ fn a_client_that_was_sent_nothing_is_left_at_once(rt: HostRuntime) -> Result<(),
     Ok(())
 }
 
+type Tcp = TcpDialer<HostRuntime>;
+
 /// A link over which these bytes were sent.
-fn dial_with<D: Dialer>(
+fn dial_with(
     alloc: Global,
-    dialer: &mut D,
+    dialer: &mut Tcp,
     host: &HostName,
     port: u16,
     bytes: &[u8],
-) -> Result<D::Link, EdgeFault>
-where
-    D::Link: Drop,
-{
+) -> Result<<Tcp as Dialer>::Link, EdgeFault> {
     let mut link = dialer.dial(alloc, host, port)?;
     if !bytes.is_empty() {
         link.send(bytes)?;
@@ -200,15 +199,14 @@ where
 }
 
 /// Three clients, of which one is silent and one has begun, and what the door saw of each in the order of its serving.
-fn serve_three<D: Dialer, A: Door>(
+fn serve_three<A: Door>(
     alloc: Global,
-    dialer: &mut D,
+    dialer: &mut Tcp,
     door: &mut A,
     host: &HostName,
     port: u16,
 ) -> Result<[Option<usize>; 3], EdgeFault>
 where
-    D::Link: Drop,
     A::Link: Drop,
 {
     let silent = dial_with(alloc, dialer, host, port, b"")?;
