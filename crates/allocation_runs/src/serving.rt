@@ -49,10 +49,13 @@ fn is_wanting(status: u8, out: &[u8]) -> bool {
     }
 }
 
-// How a run ended that answered this, printed so, and sent so much to its peer.
+// How a run ended that answered this, printed so, and sent so much to its peer. A reply is cut where the link itself wanted memory.
 fn judge(status: u8, out: &[u8], sent: &[u8]) -> Verdict {
-    if !sent.is_empty() && sent != REPLY {
+    if !REPLY.starts_with(sent) {
         return Verdict::Wrong("the reply is none of this run");
+    }
+    if !sent.is_empty() && sent != REPLY && out != WANTED {
+        return Verdict::Wrong("the reply was cut, and no memory wanting");
     }
     if status == 0 && out == ANSWERED {
         return if sent == REPLY {
@@ -61,8 +64,8 @@ fn judge(status: u8, out: &[u8], sent: &[u8]) -> Verdict {
             Verdict::Wrong("the reply wasn't sent")
         };
     }
-    if out == WANTED && !sent.is_empty() {
-        return Verdict::Wrong("a reply was sent, and memory wanting");
+    if out == WANTED && sent == REPLY {
+        return Verdict::Wrong("the reply was sent, and memory wanting");
     }
     if is_wanting(status, out) {
         return Verdict::Wanting;
