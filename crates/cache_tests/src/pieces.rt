@@ -1,5 +1,6 @@
 //! Entries that are kept in several pieces.
 
+use crate::filled::pattern;
 use crate::scripts::{COMPILE, words_of};
 use edge_memory::{MemStation, RanList};
 use edge_traits::{Bounds, CallNumbers, Station};
@@ -29,15 +30,6 @@ const BOUNDS: Bounds = Bounds {
     err: 10_000,
     object: 100_000,
 };
-
-// So many bytes, each other than the one before.
-fn pattern(alloc: Global, len: usize, first: usize) -> Result<Bytes, AllocError> {
-    let mut bytes = Bytes::new(alloc);
-    for at in 0..len {
-        bytes.try_push(((at % 251 + first % 251) % 251) as u8)?;
-    }
-    Ok(bytes)
-}
 
 fn left(alloc: Global, lengths: (usize, usize, usize), first: u8) -> Result<Ran, AllocError> {
     let first = usize::from(first);
