@@ -17,7 +17,7 @@ use Rattle.arg_scan.specs.declared.verdict.Verdict.TheVariants as verdict
 use Rattle.arg_scan.specs.declared.seen.Input.{Input}
 use Rattle.arg_scan.specs.declared.seen.Seen.{Seen}
 use Rattle.arg_scan.specs.Roles.{owed, part_of, owner_at, part_at, word_at}
-use Rattle.arg_scan.specs.Forces.{first_below, any_below, when, source_of, is_source, is_output, compiles, assembles, part_reasons, end_reasons}
+use Rattle.arg_scan.specs.Forces.{first_below, any_below, when, source_of, is_source, is_output_option, compiles, assembles, part_reasons, end_reasons}
 use Rattle.arg_scan.specs.Class.{reason_at, first_forced, output_place, by_place, by_end, plan_of, verdict_of}
 use Rattle.arg_scan.specs.Seen.{noted, seen_below, final_verdict}
 
@@ -67,8 +67,8 @@ seen-next words n =
     same_seen _ _ (any-next (compiles words) n) (any-next (assembles words) n)
     (input_or (λ at. source_of (part_at words at)) n (first_below (is_source words) n)
     ∙ ap (λ m. option_map (input_at (λ at. source_of (part_at words at))) (first_below (is_source words) m)) (sym (one n)))
-    (output_or (λ at. output_place (part_at words at) at) n (is_output words n) (first_below (is_output words) n)
-    ∙ ap (λ m. option_map (λ at. output_place (part_at words at) at) (first_below (is_output words) m)) (sym (one n)))
+    (output_or (λ at. output_place (part_at words at) at) n (is_output_option words n) (first_below (is_output_option words) n)
+    ∙ ap (λ m. option_map (λ at. output_place (part_at words at) at) (first_below (is_output_option words) m)) (sym (one n)))
 
 some_map : {A B : Type 0} (f : A → B) (o : Option A) → is_some (option_map f o) ≡ is_some o
 some_map f None = refl
@@ -77,8 +77,8 @@ some_map f (Some x) = refl
 pub source_seen : (words : List (List ℕ)) (n : ℕ) → is_some (seen_below words n).source ≡ any_below (is_source words) n
 source_seen words n = some_map _ (first_below (is_source words) n)
 
-pub output_seen : (words : List (List ℕ)) (n : ℕ) → is_some (seen_below words n).output ≡ any_below (is_output words) n
-output_seen words n = some_map _ (first_below (is_output words) n)
+pub output_seen : (words : List (List ℕ)) (n : ℕ) → is_some (seen_below words n).output ≡ any_below (is_output_option words) n
+output_seen words n = some_map _ (first_below (is_output_option words) n)
 
 -- a place without a reason leaves what was found before it
 pub forced-none : (words : List (List ℕ)) (n : ℕ) → first_forced words n ≡ None → reason_at words n ≡ None → first_forced words (n + 1) ≡ None

@@ -18,7 +18,7 @@ use Rattle.arg_scan.specs.declared.class.Scan.{Scan}
 use Rattle.arg_scan.specs.declared.class.Scan.TheVariants as scan
 use Rattle.arg_scan.specs.Names.{derived_output, ext_of, is_preprocessed}
 use Rattle.arg_scan.specs.Roles.{word_at, part_at}
-use Rattle.arg_scan.specs.Forces.{Forces, NothingForces, first_below, any_below, source_of, is_source, is_output, assembles, reasons_at, end_reasons}
+use Rattle.arg_scan.specs.Forces.{Forces, NothingForces, first_below, any_below, source_of, is_source, is_output_option, assembles, reasons_at, end_reasons}
 
 -- the first reason of the word at a place
 abbrev pub reason_at : List (List ℕ) → ℕ → Option Why
@@ -49,7 +49,7 @@ plan_of words = record {
   action = if any_below (assembles words) (length words) then Assemble else Compile;
   input = input_place words;
   ending = unwrap_or (source_of (part_at words (input_place words))) C;
-  output = option_map (λ at. output_place (part_at words at) at) (first_below (is_output words) (length words));
+  output = option_map (λ at. output_place (part_at words at) at) (first_below (is_output_option words) (length words));
 }
 
 abbrev pub by_place : Option (Why × ℕ) → Verdict → Verdict

@@ -4,6 +4,7 @@ use Rattle.std.specs.Option.{option_or, option_to_list}
 use Rattle.option_table.specs.declared.row.Effect.{Effect}
 use Rattle.option_table.specs.declared.row.Effect.TheVariants as effect
 use Rattle.option_table.specs.Listing.{is_listing}
+use Rattle.option_table.specs.Reasons as reason
 use Rattle.arg_scan.specs.declared.why.Why.{Why}
 use Rattle.arg_scan.specs.declared.why.Why.TheVariants as why
 use Rattle.arg_scan.specs.declared.names.Ending.{Ending}
@@ -29,29 +30,54 @@ any_below test n = is_some (first_below test n)
 -- the reasons by their numbers
 abbrev pub why_of : ℕ → Option Why
 why_of number =
-    if number == 1 then Some why.NoAction
-    else (if number == 2 then Some why.BothActions
-    else (if number == 3 then Some why.Preprocess
-    else (if number == 4 then Some why.Depend
-    else (if number == 5 then Some why.NoInput
-    else (if number == 6 then Some why.ManyInputs
-    else (if number == 7 then Some why.Native
-    else (if number == 8 then Some why.Profile
-    else (if number == 9 then Some why.Repo
-    else (if number == 10 then Some why.Specs
-    else (if number == 11 then Some why.Language
-    else (if number == 12 then Some why.SaveTemps
-    else (if number == 13 then Some why.Dump
-    else (if number == 14 then Some why.AsmListing
-    else (if number == 15 then Some why.ResponseFile
-    else (if number == 16 then Some why.Conftest
-    else (if number == 17 then Some why.StandardStream
-    else (if number == 18 then Some why.MissingOperand
-    else (if number == 19 then Some why.ManyOutputs
-    else (if number == 20 then Some why.OtherWord
-    else (if number == 21 then Some why.SideFile
-    else (if number == 22 then Some why.ReservedName
+    if number == reason.no_action then Some why.NoAction
+    else (if number == reason.both_actions then Some why.BothActions
+    else (if number == reason.preprocess then Some why.Preprocess
+    else (if number == reason.depend then Some why.Depend
+    else (if number == reason.no_input then Some why.NoInput
+    else (if number == reason.many_inputs then Some why.ManyInputs
+    else (if number == reason.native then Some why.Native
+    else (if number == reason.profile then Some why.Profile
+    else (if number == reason.repo then Some why.Repo
+    else (if number == reason.specs then Some why.Specs
+    else (if number == reason.language then Some why.Language
+    else (if number == reason.save_temps then Some why.SaveTemps
+    else (if number == reason.dump then Some why.Dump
+    else (if number == reason.asm_listing then Some why.AsmListing
+    else (if number == reason.response_file then Some why.ResponseFile
+    else (if number == reason.conftest then Some why.Conftest
+    else (if number == reason.standard_stream then Some why.StandardStream
+    else (if number == reason.missing_operand then Some why.MissingOperand
+    else (if number == reason.many_outputs then Some why.ManyOutputs
+    else (if number == reason.other_word then Some why.OtherWord
+    else (if number == reason.side_file then Some why.SideFile
+    else (if number == reason.reserved_name then Some why.ReservedName
     else None)))))))))))))))))))))
+
+-- the number of a reason
+abbrev pub number_of : Why → ℕ
+number_of why.NoAction = reason.no_action
+number_of why.BothActions = reason.both_actions
+number_of why.Preprocess = reason.preprocess
+number_of why.Depend = reason.depend
+number_of why.NoInput = reason.no_input
+number_of why.ManyInputs = reason.many_inputs
+number_of why.Native = reason.native
+number_of why.Profile = reason.profile
+number_of why.Repo = reason.repo
+number_of why.Specs = reason.specs
+number_of why.Language = reason.language
+number_of why.SaveTemps = reason.save_temps
+number_of why.Dump = reason.dump
+number_of why.AsmListing = reason.asm_listing
+number_of why.ResponseFile = reason.response_file
+number_of why.Conftest = reason.conftest
+number_of why.StandardStream = reason.standard_stream
+number_of why.MissingOperand = reason.missing_operand
+number_of why.ManyOutputs = reason.many_outputs
+number_of why.OtherWord = reason.other_word
+number_of why.SideFile = reason.side_file
+number_of why.ReservedName = reason.reserved_name
 
 -- the words that are sources, output options, and options that ask for each action
 abbrev pub source_of : Part → Option Ending
@@ -65,8 +91,8 @@ abbrev pub names_output : Part → Bool
 names_output (part.Word (role.Flag effect.Output operand)) = true
 names_output _ = false
 
-abbrev pub is_output : List (List ℕ) → ℕ → Bool
-is_output words at = names_output (part_at words at)
+abbrev pub is_output_option : List (List ℕ) → ℕ → Bool
+is_output_option words at = names_output (part_at words at)
 
 abbrev pub action_of : Part → List ℕ → Option Action
 action_of (part.Word (role.Flag effect.Action operand)) word =
@@ -132,7 +158,7 @@ part_reasons (part.Word role.Other) word last source output = why.OtherWord ∷ 
 abbrev pub reasons_at : List (List ℕ) → ℕ → List Why
 reasons_at words at =
     part_reasons (part_at words at) (word_at words at) (at + 1 == length words)
-    (any_below (is_source words) at) (any_below (is_output words) at)
+    (any_below (is_source words) at) (any_below (is_output_option words) at)
 
 -- the word at a place gives this reason
 abbrev pub Forces : List (List ℕ) → ℕ → Why → Type 0

@@ -14,7 +14,7 @@ use Rattle.arg_scan.specs.declared.verdict.Verdict.TheVariants as verdict
 use Rattle.arg_scan.specs.declared.seen.Input.{Input}
 use Rattle.arg_scan.specs.declared.seen.Seen.{Seen}
 use Rattle.arg_scan.specs.Roles.{part_at}
-use Rattle.arg_scan.specs.Forces.{first_below, any_below, when, source_of, is_source, names_output, is_output, action_of, asks_compile, asks_assemble, compiles, assembles}
+use Rattle.arg_scan.specs.Forces.{first_below, any_below, when, source_of, is_source, names_output, is_output_option, action_of, asks_compile, asks_assemble, compiles, assembles}
 use Rattle.arg_scan.specs.Class.{output_place, by_end}
 
 abbrev pub input_of : Part → ℕ → Option Input
@@ -38,7 +38,7 @@ seen_below words n = record {
   compile = any_below (compiles words) n;
   assemble = any_below (assembles words) n;
   source = option_map (λ at. record { at = at; ending = unwrap_or (source_of (part_at words at)) C }) (first_below (is_source words) n);
-  output = option_map (λ at. output_place (part_at words at) at) (first_below (is_output words) n);
+  output = option_map (λ at. output_place (part_at words at) at) (first_below (is_output_option words) n);
 }
 
 abbrev pub seen_reasons : Seen → List Why

@@ -1,9 +1,11 @@
 //! Why a command stays on this machine.
 
 ghost use Rattle.std.specs.Prelude.{◌≡◌};
-ghost use Rattle.arg_scan.specs.Forces.{why_of};
+ghost use Rattle.arg_scan.specs.Forces.{number_of, why_of};
 
-/// Why a command stays on this machine. The reasons are numbered from 1 in this order.
+use option_table::reasons;
+
+/// Why a command stays on this machine. The reasons are numbered from 1 in this order, in `option_table::reasons`.
 #[derive(Clone, Copy, Debug, PartialEq, Eq)]
 pub enum Why {
     /// Neither `-c` nor `-S` is asked for.
@@ -58,29 +60,60 @@ impl Why {
         ensures { result ≡ why_of number }
     {
         match number {
-            1 => Some(Why::NoAction),
-            2 => Some(Why::BothActions),
-            3 => Some(Why::Preprocess),
-            4 => Some(Why::Depend),
-            5 => Some(Why::NoInput),
-            6 => Some(Why::ManyInputs),
-            7 => Some(Why::Native),
-            8 => Some(Why::Profile),
-            9 => Some(Why::Repo),
-            10 => Some(Why::Specs),
-            11 => Some(Why::Language),
-            12 => Some(Why::SaveTemps),
-            13 => Some(Why::Dump),
-            14 => Some(Why::AsmListing),
-            15 => Some(Why::ResponseFile),
-            16 => Some(Why::Conftest),
-            17 => Some(Why::StandardStream),
-            18 => Some(Why::MissingOperand),
-            19 => Some(Why::ManyOutputs),
-            20 => Some(Why::OtherWord),
-            21 => Some(Why::SideFile),
-            22 => Some(Why::ReservedName),
+            reasons::NO_ACTION => Some(Why::NoAction),
+            reasons::BOTH_ACTIONS => Some(Why::BothActions),
+            reasons::PREPROCESS => Some(Why::Preprocess),
+            reasons::DEPEND => Some(Why::Depend),
+            reasons::NO_INPUT => Some(Why::NoInput),
+            reasons::MANY_INPUTS => Some(Why::ManyInputs),
+            reasons::NATIVE => Some(Why::Native),
+            reasons::PROFILE => Some(Why::Profile),
+            reasons::REPO => Some(Why::Repo),
+            reasons::SPECS => Some(Why::Specs),
+            reasons::LANGUAGE => Some(Why::Language),
+            reasons::SAVE_TEMPS => Some(Why::SaveTemps),
+            reasons::DUMP => Some(Why::Dump),
+            reasons::ASM_LISTING => Some(Why::AsmListing),
+            reasons::RESPONSE_FILE => Some(Why::ResponseFile),
+            reasons::CONFTEST => Some(Why::Conftest),
+            reasons::STANDARD_STREAM => Some(Why::StandardStream),
+            reasons::MISSING_OPERAND => Some(Why::MissingOperand),
+            reasons::MANY_OUTPUTS => Some(Why::ManyOutputs),
+            reasons::OTHER_WORD => Some(Why::OtherWord),
+            reasons::SIDE_FILE => Some(Why::SideFile),
+            reasons::RESERVED_NAME => Some(Why::ReservedName),
             _ => None,
+        }
+    }
+
+    /// The number of this reason, as `scan` prints it.
+    pub fn number(self) -> u8
+        ensures number { result ≡ number_of self }
+        ensures back { why_of result ≡ Some self }
+    {
+        match self {
+            Why::NoAction => reasons::NO_ACTION,
+            Why::BothActions => reasons::BOTH_ACTIONS,
+            Why::Preprocess => reasons::PREPROCESS,
+            Why::Depend => reasons::DEPEND,
+            Why::NoInput => reasons::NO_INPUT,
+            Why::ManyInputs => reasons::MANY_INPUTS,
+            Why::Native => reasons::NATIVE,
+            Why::Profile => reasons::PROFILE,
+            Why::Repo => reasons::REPO,
+            Why::Specs => reasons::SPECS,
+            Why::Language => reasons::LANGUAGE,
+            Why::SaveTemps => reasons::SAVE_TEMPS,
+            Why::Dump => reasons::DUMP,
+            Why::AsmListing => reasons::ASM_LISTING,
+            Why::ResponseFile => reasons::RESPONSE_FILE,
+            Why::Conftest => reasons::CONFTEST,
+            Why::StandardStream => reasons::STANDARD_STREAM,
+            Why::MissingOperand => reasons::MISSING_OPERAND,
+            Why::ManyOutputs => reasons::MANY_OUTPUTS,
+            Why::OtherWord => reasons::OTHER_WORD,
+            Why::SideFile => reasons::SIDE_FILE,
+            Why::ReservedName => reasons::RESERVED_NAME,
         }
     }
 }

@@ -20,7 +20,7 @@ use Rattle.arg_scan.specs.declared.verdict.Plan.{Plan}
 use Rattle.arg_scan.specs.declared.verdict.Verdict.TheVariants as verdict
 use Rattle.arg_scan.specs.Names.{derived_output, ending_text, ext_of, is_preprocessed, last_name}
 use Rattle.arg_scan.specs.Roles.{part_at, word_at}
-use Rattle.arg_scan.specs.Forces.{action_of, any_below, asks_assemble, asks_compile, assembles, compiles, end_reasons, first_below, is_output, is_source, output_reasons, source_of, when}
+use Rattle.arg_scan.specs.Forces.{action_of, any_below, asks_assemble, asks_compile, assembles, compiles, end_reasons, first_below, is_output_option, is_source, output_reasons, source_of, when}
 use Rattle.arg_scan.specs.Class.{IsRemote, class_of, scan_of, by_end, by_place, first_forced, input_place, is_remote_verdict, output_place, output_text, plan_of, verdict_of}
 use Rattle.arg_strip.specs.Words.{gather, is_sent, output_of, AsksTheSame, SameRemote, placed_text, placed_word, placed_words, sent_word, stripped}
 use Rattle.arg_strip.proofs.Labels.{Label, or_false, any_label, any_labels, at_place, gathered_labels, is_source_part, labels, label_at, output_label, picks, source_label, IsFree}
@@ -70,7 +70,7 @@ output_by words plan (Some at) = refl
 
 output_is : (words : List (List ℕ)) → output_of words ≡ unwrap_or (output_label (labels words)) (derived_output (plan_of words).action (word_at words (plan_of words).input) (plan_of words).ending)
 output_is words =
-    output_by words (plan_of words) (first_below (is_output words) (length words))
+    output_by words (plan_of words) (first_below (is_output_option words) (length words))
     ∙ ap (λ o. unwrap_or o (derived_output (plan_of words).action (word_at words (plan_of words).input) (plan_of words).ending)) (output_labels words)
 
 output_calm_by : (words : List (List ℕ)) (o : Option (List ℕ)) (action : Action) (source : List ℕ) (ending : Ending) → IsFree false false (labels words) → output_label (labels words) ≡ o → slice_get (output_reasons (unwrap_or o (derived_output action source ending))) 0 ≡ None

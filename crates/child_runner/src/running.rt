@@ -1,6 +1,6 @@
 ghost use Rattle.std.specs.Prelude.{◌≡◌, ◌<◌, ◌≤◌, [], length, IfOk, IfErr, OnOk};
 ghost use Rattle.edge_traits.specs.Told.{Grew, SameRelation3};
-ghost use Rattle.edge_traits.specs.Stations.{IsWithin, run_entries, NoneRose, RunFault};
+ghost use Rattle.edge_traits.specs.Stations.{IsWithin, run_entries, StationStill, RunFault};
 ghost use Rattle.arg_scan.specs.Class.{IsRemote, class_of};
 ghost use Rattle.arg_strip.specs.Words.{preprocessing_words, placed_words};
 ghost use Rattle.child_runner.specs.Runs;
@@ -26,7 +26,7 @@ pub fn preprocess<S: Station>(
     ensures runs { Grew (S.shows station.old).runs (S.shows station.new).runs (run_entries (Runs.texts (preprocessing_words words.now)) [] result) }
     ensures ran { IfOk result (S.ran station.new (Runs.texts (preprocessing_words words.now)) []) }
     ensures within { IfOk result (IsWithin Runs.preprocessor_bounds) }
-    ensures done { OnOk result (NoneRose (S.shows station.old) (S.shows station.new)) }
+    ensures done { OnOk result (StationStill (S.shows station.old) (S.shows station.new)) }
     ensures cause { IfErr result (RunFault Runs.preprocessor_bounds (S.shows station.old) (S.shows station.new)) }
 
     // What it may answer is the same, and its counts don't fall.
@@ -54,7 +54,7 @@ pub fn compile<S: Station>(
     ensures runs { Grew (S.shows station.old).runs (S.shows station.new).runs (run_entries (placed_words words.now) source.now result) }
     ensures ran { IfOk result (S.ran station.new (placed_words words.now) source.now) }
     ensures within { IfOk result (IsWithin Runs.compile_bounds) }
-    ensures done { OnOk result (NoneRose (S.shows station.old) (S.shows station.new)) }
+    ensures done { OnOk result (StationStill (S.shows station.old) (S.shows station.new)) }
     ensures cause { IfErr result (RunFault Runs.compile_bounds (S.shows station.old) (S.shows station.new)) }
 
     // What it may answer is the same, and its counts don't fall.
@@ -79,7 +79,7 @@ pub fn in_place<S: Station>(
     ensures runs { Grew (S.shows station.old).runs (S.shows station.new).runs (run_entries (Runs.texts words.now) [] result) }
     ensures ran { IfOk result (S.ran station.new (Runs.texts words.now) []) }
     ensures within { IfOk result (IsWithin Runs.in_place_bounds) }
-    ensures done { OnOk result (NoneRose (S.shows station.old) (S.shows station.new)) }
+    ensures done { OnOk result (StationStill (S.shows station.old) (S.shows station.new)) }
     ensures cause { IfErr result (RunFault Runs.in_place_bounds (S.shows station.old) (S.shows station.new)) }
 
     // What it may answer is the same, and its counts don't fall.

@@ -6,7 +6,7 @@ use Rattle.farm_types.specs.declared.request.Request.{Request}
 use Rattle.farm_types.specs.declared.ran.Ran.{Ran}
 use Rattle.edge_traits.specs.Causes.{Still}
 use Rattle.edge_traits.specs.Links.{LinkView}
-use Rattle.edge_traits.specs.Stations.{StationView, NoneRose}
+use Rattle.edge_traits.specs.Stations.{StationView, StationStill}
 use Rattle.daemon_service.specs.declared.compilers.Compiler.{Compiler}
 use Rattle.daemon_service.specs.declared.served.Served.{Served}
 use Rattle.daemon_service.specs.declared.served.Served.TheVariants.{Answered, Refused, Cut, LinkFault, Stopped, StationFault, Memory}
@@ -17,7 +17,7 @@ use Rattle.daemon_service.specs.Parts.{RequestIs, Made, Replied}
 pub link_then : (served : Served) (old mid new : ℕ) → Still old mid → LinkCause served mid new → LinkCause served old new
 link_then served old mid new still cause = subst (λ n. LinkCause served n new) still cause
 
-still_station : (station : StationView) → NoneRose station station
+still_station : (station : StationView) → StationStill station station
 still_station station = record { faults = refl; overruns = refl }
 
 -- where no whole request was read, the station is as before
@@ -41,7 +41,7 @@ unmade_link StationFault table ran before after q count made = refl
 unmade_link Memory table ran before after q count made = refl
 
 -- while a reply is sent, the station is as before
-pub replied_station : (served : Served) (text : List ℕ) (status : ℕ) (old new : LinkView) (before after : StationView) → Replied text status old new served → NoneRose before after → StationCause served before after
+pub replied_station : (served : Served) (text : List ℕ) (status : ℕ) (old new : LinkView) (before after : StationView) → Replied text status old new served → StationStill before after → StationCause served before after
 replied_station (Answered said) text status old new before after done none = none
 replied_station (Refused at fault) text status old new before after done none = none
 replied_station (Cut have) text status old new before after done none = none

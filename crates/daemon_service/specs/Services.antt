@@ -14,7 +14,7 @@ use Rattle.edge_traits.specs.declared.entries.Visit.{Visit}
 use Rattle.edge_traits.specs.Told.{Grew}
 use Rattle.edge_traits.specs.Causes.{Rose, Still}
 use Rattle.edge_traits.specs.Links.{LinkView}
-use Rattle.edge_traits.specs.Stations.{StationView, NoneRose}
+use Rattle.edge_traits.specs.Stations.{StationView, StationStill}
 use Rattle.daemon_service.specs.declared.compilers.Compiler.{Compiler}
 use Rattle.daemon_service.specs.declared.served.Served.{Served}
 use Rattle.daemon_service.specs.declared.served.Served.TheVariants.{Answered, Refused, Cut, LinkFault, Stopped, StationFault, Memory}
@@ -118,7 +118,7 @@ LinkCause other before now = Still before now
 -- A fault of the station goes with a rise of its faults or its overruns. With any other answer, want of memory too, both stand still.
 abbrev pub StationCause : Served → StationView → StationView → Type 0
 StationCause StationFault before now = Rose before.faults now.faults ⊎ Rose before.overruns now.overruns
-StationCause other before now = NoneRose before now
+StationCause other before now = StationStill before now
 
 -- the number of a fault of a request
 abbrev pub request_fault_number : RequestFault → ℕ

@@ -3,7 +3,7 @@
 ghost use Rattle.std.specs.Prelude.{◌≡◌, ◌≤◌, ◌<◌, ◌^◌, [], length, take, IfOk, IfErr, OnOk};
 ghost use Rattle.farm_types.specs.Fits.{OutcomeFits};
 ghost use Rattle.edge_traits.specs.Told.{Grew, SameRelation3};
-ghost use Rattle.edge_traits.specs.Stations.{IsWithin, NoneRose, run_entries, RunFault};
+ghost use Rattle.edge_traits.specs.Stations.{IsWithin, StationStill, run_entries, RunFault};
 ghost use Rattle.arg_scan.specs.Class.{IsRemote};
 ghost use Rattle.arg_strip.specs.Words.{placed_words};
 ghost use Rattle.daemon_service.specs.Replies as replies;
@@ -115,7 +115,7 @@ fn compile<S: Station>(
         (run_entries (with_program program.now (placed_words request.now.words)) request.now.source result) }
     ensures ran { IfOk result (S.ran station.new (with_program program.now (placed_words request.now.words)) request.now.source) }
     ensures within { IfOk result (IsWithin compile_bounds) }
-    ensures done { OnOk result (NoneRose (S.shows station.old) (S.shows station.new)) }
+    ensures done { OnOk result (StationStill (S.shows station.old) (S.shows station.new)) }
     ensures cause { IfErr result (RunFault compile_bounds (S.shows station.old) (S.shows station.new)) }
     ensures same { SameRelation3 (S.ran station.old) (S.ran station.new) }
     ensures faults { (S.shows station.old).faults ≤ (S.shows station.new).faults }
@@ -135,7 +135,7 @@ pub(crate) fn make_outcome<S: Station>(
     request: &Request,
 ) -> Result<Outcome, Served>
     ensures made { Made table.now.rows (S.ran station.new) (S.shows station.old) (S.shows station.new) request.now result }
-    ensures done { OnOk result (NoneRose (S.shows station.old) (S.shows station.new)) }
+    ensures done { OnOk result (StationStill (S.shows station.old) (S.shows station.new)) }
     ensures cause { IfErr result (λ served. StationCause served (S.shows station.old) (S.shows station.new)) }
     ensures same { SameRelation3 (S.ran station.old) (S.ran station.new) }
     ensures faults { (S.shows station.old).faults ≤ (S.shows station.new).faults }

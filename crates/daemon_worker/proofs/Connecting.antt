@@ -7,7 +7,7 @@ use Rattle.edge_traits.specs.Told.{Told, Grew}
 use Rattle.edge_traits.specs.Causes.{Rose, Still}
 use Rattle.edge_traits.specs.Links.{LinkView, IsNew}
 use Rattle.edge_traits.specs.Doors.{DoorView, visited, IsVisitTold}
-use Rattle.edge_traits.specs.Stations.{StationView, NoneRose}
+use Rattle.edge_traits.specs.Stations.{StationView, StationStill}
 use Rattle.edge_traits.proofs.ToldLemmas.{Grew-join, Grew-still, Grew-refl}
 use Rattle.access_list.specs.declared.rule.Rule.{Rule}
 use Rattle.access_list.specs.declared.decision.Decision.TheVariants.{Admitted, Denied}
@@ -18,7 +18,7 @@ use Rattle.daemon_service.specs.Services.{Service, LinkCause, StationCause, visi
 use Rattle.daemon_worker.specs.declared.log.Met.TheVariants as met
 use Rattle.daemon_worker.specs.Meetings.{Meets}
 
-still_station : (station : StationView) → NoneRose station station
+still_station : (station : StationView) → StationStill station station
 still_station station = record { faults = refl; overruns = refl }
 
 -- all that a list tells that had nothing in it

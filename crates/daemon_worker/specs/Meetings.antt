@@ -5,7 +5,7 @@ use Rattle.farm_types.specs.declared.ran.Ran.{Ran}
 use Rattle.edge_traits.specs.Told.{Grew}
 use Rattle.edge_traits.specs.Causes.{Rose, Still}
 use Rattle.edge_traits.specs.Doors.{DoorView}
-use Rattle.edge_traits.specs.Stations.{StationView, NoneRose}
+use Rattle.edge_traits.specs.Stations.{StationView, StationStill}
 use Rattle.access_list.specs.declared.rule.Rule.{Rule}
 use Rattle.daemon_service.specs.declared.compilers.Compiler.{Compiler}
 use Rattle.daemon_service.specs.Services.{StationCause}
@@ -16,9 +16,9 @@ use Rattle.daemon_worker.specs.Connections.{Connection, IsConnection}
 -- A fault of the door, or of the station, goes with a rise of its counts. With any other answer these stand still.
 abbrev pub MetCause : Met → DoorView → DoorView → StationView → StationView → Type 0
 MetCause (met.Served served) old new before after = Still old.faults new.faults × StationCause served before after
-MetCause (met.Denied addr rule) old new before after = Still old.faults new.faults × NoneRose before after
-MetCause met.DoorFault old new before after = Rose old.faults new.faults × NoneRose before after
-MetCause met.DoorMemory old new before after = Still old.faults new.faults × NoneRose before after
+MetCause (met.Denied addr rule) old new before after = Still old.faults new.faults × StationStill before after
+MetCause met.DoorFault old new before after = Rose old.faults new.faults × StationStill before after
+MetCause met.DoorMemory old new before after = Still old.faults new.faults × StationStill before after
 
 -- There was one connection, which the answer describes; where the door and the station tell their lists, it is all that they grew by.
 pub record Meets (table : List Compiler) (rules : List Rule) (ran : List Word → List ℕ → Ran → Type 0) (old new : DoorView) (before after : StationView) (what : Met) : Type 0 where

@@ -45,7 +45,7 @@ impl Keeper for MemKeeper {
     ghost use Rattle.std.specs.Prelude.{◌≡◌, ◌≤◌, ◌<◌, ◌↔◌, length, IsTrue, IsErrOf, IfErr, OnOk};
     ghost use Rattle.edge_traits.specs.Causes.{HasCause};
     ghost use Rattle.edge_traits.specs.FileMaps.{IsStaged};
-    ghost use Rattle.edge_traits.specs.Keepers.{IsIdle, IsPending, NoneRose, FetchCause};
+    ghost use Rattle.edge_traits.specs.Keepers.{IsIdle, IsPending, KeeperStill, FetchCause};
     ghost use Rattle.edge_traits.specs.declared.faults.EdgeFault.TheVariants.{Failed};
     ghost use Rattle.edge_traits.specs.Calls.{names_next};
     ghost use Rattle.edge_memory.specs.Keepers.{keeper_state, keeper_shows, after_begin, after_add, after_commit, after_abandon, IsFetchAnswer, after_fetch};
@@ -129,7 +129,7 @@ impl Keeper for MemKeeper {
         ensures answer { IsFetchAnswer (keeper_state self.old) path.now bound result }
         ensures state { keeper_state self.new ≡ after_fetch (keeper_state self.old) path.now result }
         ensures faults { (keeper_shows (keeper_state self.old)).faults ≤ (keeper_shows (keeper_state self.new)).faults }
-        ensures done { OnOk result (NoneRose (keeper_shows (keeper_state self.old)) (keeper_shows (keeper_state self.new))) }
+        ensures done { OnOk result (KeeperStill (keeper_shows (keeper_state self.old)) (keeper_shows (keeper_state self.new))) }
         ensures cause { IfErr result (FetchCause path.now bound (keeper_shows (keeper_state self.old)) (keeper_shows (keeper_state self.new))) }
     {
         if self.calls.fails_next() {

@@ -105,7 +105,7 @@ fn first_ran_over(
 
 impl Station for MemStation {
     ghost use Rattle.std.specs.Prelude.{◌≡◌, ◌≤◌, ⊤, [], false, IfOk, IfErr, OnOk};
-    ghost use Rattle.edge_traits.specs.Stations.{IsWithin, NoneRose, RunFault, has_output};
+    ghost use Rattle.edge_traits.specs.Stations.{IsWithin, StationStill, RunFault, has_output};
     ghost use Rattle.edge_memory.specs.Stations.{station_state, station_shows, IsRunAnswer, after_run};
 
     ghost shows = { λ s. station_shows (station_state s) };
@@ -125,7 +125,7 @@ impl Station for MemStation {
         ensures within { IfOk result (IsWithin bounds.now) }
         ensures no_object { IfOk result (λ ran. has_output words.now ≡ false → ran.object ≡ []) }
         ensures faults { (station_shows (station_state self.old)).faults ≤ (station_shows (station_state self.new)).faults }
-        ensures done { OnOk result (NoneRose (station_shows (station_state self.old)) (station_shows (station_state self.new))) }
+        ensures done { OnOk result (StationStill (station_shows (station_state self.old)) (station_shows (station_state self.new))) }
         ensures cause { IfErr result (RunFault bounds.now (station_shows (station_state self.old)) (station_shows (station_state self.new))) }
     {
         if self.calls.fails_next() {

@@ -70,7 +70,7 @@ pub record IsTooLong (path : List ℕ) (bound : ℕ) (old now : KeeperView) (byt
   pub long : IsTrue now.files.known → HasLength now.files.value path bytes
 
 -- neither the faults nor the overruns rose
-pub record NoneRose (old new : KeeperView) : Type 0 where
+pub record KeeperStill (old new : KeeperView) : Type 0 where
   pub faults : Still old.faults new.faults
   pub overruns : Still old.overruns new.overruns
 
@@ -79,7 +79,7 @@ abbrev pub FetchCause : List ℕ → ℕ → KeeperView → KeeperView → Fetch
 FetchCause path bound old now Failed = Rose old.faults now.faults
 FetchCause path bound old now Absent = IsAbsent path old now
 FetchCause path bound old now (TooMuch bytes) = IsTooLong path bound old now bytes
-FetchCause path bound old now Memory = NoneRose old now
+FetchCause path bound old now Memory = KeeperStill old now
 
 -- the entries that a fetch adds: one at `Ok`
 abbrev pub fetch_entries : {E : Type 0} → List ℕ → Result (List ℕ) E → List Fetch

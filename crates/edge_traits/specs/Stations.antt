@@ -45,7 +45,7 @@ bound_of bounds ErrStream = bounds.err
 bound_of bounds Object = bounds.object
 
 -- neither the faults nor the overruns rose
-pub record NoneRose (old new : StationView) : Type 0 where
+pub record StationStill (old new : StationView) : Type 0 where
   pub faults : Still old.faults new.faults
   pub overruns : Still old.overruns new.overruns
 
@@ -59,4 +59,4 @@ pub record IsTooMuch (bounds : Bounds) (stream : Stream) (bytes : ℕ) (old new 
 abbrev pub RunFault : Bounds → StationView → StationView → StationFault → Type 0
 RunFault bounds old new Failed = Rose old.faults new.faults
 RunFault bounds old new (TooMuch stream bytes) = IsTooMuch bounds stream bytes old new
-RunFault bounds old new Memory = NoneRose old new
+RunFault bounds old new Memory = StationStill old new

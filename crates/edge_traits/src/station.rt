@@ -4,7 +4,7 @@ ghost use Rattle.farm_types.specs.declared.placed.Word.{Word};
 ghost use Rattle.edge_traits.specs.declared.faults.Bounds.{Bounds as RunBounds};
 ghost use Rattle.edge_traits.specs.declared.faults.StationFault.{StationFault as RunStop};
 ghost use Rattle.edge_traits.specs.Told.{Grew, SameRelation3};
-ghost use Rattle.edge_traits.specs.Stations.{StationView, IsWithin, has_output, run_entries, NoneRose, RunFault};
+ghost use Rattle.edge_traits.specs.Stations.{StationView, IsWithin, has_output, run_entries, StationStill, RunFault};
 
 use crate::{Bounds, StationFault};
 use farm_types::{Ran, Word};
@@ -37,7 +37,7 @@ pub trait Station {
         ensures runs { Grew (shows self.old).runs (shows self.new).runs (run_entries words.now input.now result) }
         ensures faults { (shows self.old).faults ≤ (shows self.new).faults }
         ensures overruns { (shows self.old).overruns ≤ (shows self.new).overruns }
-        ensures done { OnOk result (NoneRose (shows self.old) (shows self.new)) }
+        ensures done { OnOk result (StationStill (shows self.old) (shows self.new)) }
         ensures cause { IfErr result (RunFault bounds.now (shows self.old) (shows self.new)) }
         ensures goes { goes self.old words.now input.now bounds.now result self.new };
 }

@@ -3,14 +3,12 @@
 
 mod hosts;
 mod needs;
-mod number;
 mod refuse;
 mod scan;
 mod tell;
 
 pub use hosts::answer_hosts;
 pub use needs::{refuse_cycle, refuse_needs};
-pub use number::reason_number;
 pub use refuse::{
     NO_MEMORY_TEXT, refuse_host_list, refuse_job_list, refuse_period, refuse_unread, refuse_words,
     want_memory,

@@ -3,7 +3,7 @@ use Rattle.std.specs.Prelude.{◌≤◌, ◌⊎◌}
 use Rattle.edge_traits.specs.declared.cause.Cause.TheVariants.{Dial}
 use Rattle.edge_traits.specs.Causes.{Rose}
 use Rattle.edge_traits.specs.Kits.{KitView}
-use Rattle.edge_traits.specs.Stations.{StationView, NoneRose}
+use Rattle.edge_traits.specs.Stations.{StationView, StationStill}
 use Rattle.farm_machine.specs.declared.reports.Why5.TheVariants.{Station, Put as NotPut, Broke, Fetch}
 use Rattle.farm_machine.specs.declared.reports.End.{End}
 use Rattle.farm_machine.specs.declared.reports.End.TheVariants.{Failed}
@@ -19,7 +19,7 @@ HasEndCause other old new = Unit {0}
 -- Where a job ends otherwise than by a failed run, no count of its station rose: a run that fails, or gives too much, always fails the job so.
 abbrev pub StationStands : End → StationView → StationView → Type 0
 StationStands (Failed Station) old new = Unit {0}
-StationStands end old new = NoneRose old new
+StationStands end old new = StationStill old new
 
 -- the counts have not fallen
 pub record KitLater (old new : KitView) : Type 0 where

@@ -76,3 +76,35 @@ period_default = 60
 -- the most connections that one worker of `farmd` serves
 abbrev pub connections_max : ℕ
 connections_max = 100000
+
+-- the most bytes of a host's name
+abbrev pub host_name_max : ℕ
+host_name_max = 255
+
+-- the greatest port
+abbrev pub port_max : ℕ
+port_max = 65535
+
+-- the port of a host and of `farmd` where none is given
+abbrev pub port_default : ℕ
+port_default = 3632
+
+-- the most access rules of `farmd`
+abbrev pub rules_max : ℕ
+rules_max = 64
+
+-- the most compilers in the table of `farmd`
+abbrev pub compilers_max : ℕ
+compilers_max = 64
+
+-- the most MiB of the cache of one door
+abbrev pub cache_max : ℕ
+cache_max = 128
+
+-- the most lines that tell of a build while it goes on
+abbrev pub lines_max : ℕ
+lines_max = 100
+
+-- the room for the bytes that one receive or one read of a file brings
+abbrev pub piece_max : ℕ
+piece_max = 65536

@@ -38,3 +38,19 @@ pub const PERIOD_MAX: u32 = 1_000_000;
 pub const PERIOD_DEFAULT: u32 = 60;
 /// The most connections that one worker of `farmd` serves.
 pub const CONNECTIONS_MAX: u32 = 100_000;
+/// The most bytes of a host's name.
+pub const HOST_NAME_MAX: usize = 255;
+/// The greatest port.
+pub const PORT_MAX: u32 = 65_535;
+/// The port of a host and of `farmd` where none is given.
+pub const PORT_DEFAULT: u16 = 3_632;
+/// The most access rules of `farmd`.
+pub const RULES_MAX: usize = 64;
+/// The most compilers in the table of `farmd`.
+pub const COMPILERS_MAX: usize = 64;
+/// The most MiB of the cache of one door.
+pub const CACHE_MAX: u32 = 128;
+/// The most lines that tell of a build while it goes on.
+pub const LINES_MAX: u32 = 100;
+/// The room for the bytes that one receive or one read of a file brings.
+pub const PIECE_MAX: usize = 65_536;

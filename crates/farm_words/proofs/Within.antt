@@ -4,13 +4,13 @@ use Rattle.std.specs.Prelude.{unwrap_or, ◌==◌, if◌then◌else◌, MatchBoo
 use Rattle.std.specs.Option.{option_and_then}
 use Rattle.farm_types.proofs.DecimalLemmas.{decimal-within}
 use Rattle.farm_types.specs.Decimals.{decimal_of}
-use Rattle.farm_types.specs.Limits.{workers_max, jobs_max}
+use Rattle.farm_types.specs.Limits.{workers_max, jobs_max, lines_max}
 use Rattle.farm_words.specs.declared.name.CommandName.{CommandName}
 use Rattle.farm_words.specs.declared.name.CommandName.TheVariants as name
 use Rattle.farm_words.specs.declared.name.FirstWord.{FirstWord}
 use Rattle.farm_words.specs.declared.name.FirstWord.TheVariants as first
 use Rattle.farm_words.specs.declared.name.OptionName.TheVariants as option
-use Rattle.farm_words.specs.Limits.{count_digits, tries_digits, tries_max, lines_max}
+use Rattle.farm_words.specs.Limits.{count_digits, tries_digits, tries_max}
 use Rattle.farm_words.specs.Numbers.{jobs_number}
 use Rattle.farm_words.specs.Commands.{Meaning, Cc, Scan, Rehearse, Help, Version, IsCommand, ByFirstWord, NamedCommand, asks_help, at_most, counted, rehearse_words}
 use Rattle.farm_words.specs.Options.{given_by}

@@ -18,10 +18,6 @@ tries_max = hosts_max
 abbrev pub tries_default : ℕ
 tries_default = 1
 
--- the most lines that tell of a build while it goes on
-abbrev pub lines_max : ℕ
-lines_max = 100
-
 -- these lines where no number is given
 abbrev pub lines_default : ℕ
 lines_default = 10

@@ -1,8 +1,8 @@
 -- The numbers that words spell.
 use Rattle.std.specs.Prelude.{ℕ, List, Option}
 use Rattle.farm_types.specs.Decimals.{IsDecimal, decimal_of}
-use Rattle.farm_types.specs.Limits.{workers_max, jobs_max, period_max}
-use Rattle.farm_words.specs.Limits.{count_digits, tries_digits, tries_max, lines_max, period_digits}
+use Rattle.farm_types.specs.Limits.{workers_max, jobs_max, lines_max, period_max}
+use Rattle.farm_words.specs.Limits.{count_digits, tries_digits, tries_max, period_digits}
 
 -- the number of `--workers`
 abbrev pub workers_number : List ℕ → Option ℕ

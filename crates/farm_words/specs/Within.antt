@@ -1,8 +1,8 @@
 -- What the words of a command say is within its limits.
 use Rattle.std.specs.Prelude.{ℕ, ◌<◌, ◌≤◌, length}
-use Rattle.farm_types.specs.Limits.{jobs_max}
+use Rattle.farm_types.specs.Limits.{jobs_max, lines_max}
 use Rattle.farm_words.specs.Commands.{Meaning, Build, Watch, Graph, Cc, Rehearse}
-use Rattle.farm_words.specs.Limits.{tries_max, lines_max}
+use Rattle.farm_words.specs.Limits.{tries_max}
 use Rattle.farm_words.specs.Options.{Given, worker_count, try_count, line_count}
 
 -- at least one worker, 1 to 16 tries, and 1 to 100 lines

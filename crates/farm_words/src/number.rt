@@ -4,7 +4,7 @@ ghost use Rattle.std.specs.Prelude.{◌≡◌, ◌≤◌, ℕ, MatchOption};
 ghost use Rattle.farm_types.specs.Decimals.{IsDecimal};
 ghost use Rattle.farm_words.specs.Numbers.{IsPeriod, jobs_number, lines_number, tries_number, workers_number};
 
-use farm_types::limits::{JOBS_MAX, PERIOD_MAX, WORKERS_MAX};
+use farm_types::limits::{HOSTS_MAX, JOBS_MAX, LINES_MAX, PERIOD_MAX, WORKERS_MAX};
 use farm_types::read_decimal;
 
 /// The most decimal digits of a number of workers, of jobs or of lines.
@@ -14,10 +14,7 @@ const COUNT_DIGITS: usize = 3;
 const TRIES_DIGITS: usize = 2;
 
 /// The most exchanges that a job may make.
-const TRIES_MAX: u32 = 16;
-
-/// The most lines that tell of a build while it goes on.
-const LINES_MAX: u32 = 100;
+const TRIES_MAX: u32 = HOSTS_MAX as u32;
 
 /// The most decimal digits of a back-off period.
 const PERIOD_DIGITS: usize = 7;
@@ -27,10 +24,7 @@ fn parse_number(word: &str, digits: usize, least: u32, greatest: u32) -> Option<
     requires { digits ≤ 9 }
     ensures { MatchOption result ((n : ℕ) → ¬ (IsDecimal digits least greatest word.now n)) (IsDecimal digits least greatest word.now) }
 {
-    match read_decimal(word.as_bytes(), digits, least, greatest) {
-        Some(number) => Some(number),
-        None => None,
-    }
+    read_decimal(word.as_bytes(), digits, least, greatest)
 }
 
 // The number of workers that a word spells.

@@ -5,7 +5,7 @@ use Rattle.std.proofs.lemmas.Bool.{true≢false}
 use Rattle.std.proofs.lemmas.List.{append-nil}
 use Rattle.std.proofs.lemmas.List.Elements.{All-head, All-tail}
 use Rattle.edge_traits.specs.Causes.{Still}
-use Rattle.edge_traits.specs.Stations.{StationView, NoneRose}
+use Rattle.edge_traits.specs.Stations.{StationView, StationStill}
 use Rattle.edge_traits.specs.declared.entries.Run.{Run}
 use Rattle.edge_traits.specs.declared.entries.Fetch.{Fetch}
 use Rattle.edge_traits.specs.declared.entries.Exchange.{Exchange}
@@ -161,7 +161,7 @@ counts-read jobs w read (job ∷ done) at (r ∷ rs) old new all told (mid, firs
 
 -- ---- counts that stand still
 
-station-still : (end : End) (old new : StationView) → is_station_failure end ≡ false → StationStands end old new → NoneRose old new
+station-still : (end : End) (old new : StationView) → is_station_failure end ≡ false → StationStands end old new → StationStill old new
 station-still (Failed Station) old new calm stands = absurd (true≢false calm)
 station-still (Failed NotPut) old new calm stands = stands
 station-still (Failed NotFetched) old new calm stands = stands
@@ -182,7 +182,7 @@ fetches-still (Done status note err out by) acts old new calm k = k.overruns
 
 -- where none of these jobs failed by the station, it counted nothing
 pub stands-by : (jobs : ℕ → Job) (read : Reports) (rs : List Report) (old new : KitView)
-    → All (λ r. is_station_failure r.end ≡ false) rs → CountsOf jobs read rs old new → NoneRose old.station new.station
+    → All (λ r. is_station_failure r.end ≡ false) rs → CountsOf jobs read rs old new → StationStill old.station new.station
 stands-by jobs read [] old new calm same =
     record { faults = ap (λ (v : KitView). v.station.faults) same; overruns = ap (λ (v : KitView). v.station.overruns) same }
 stands-by jobs read (r ∷ rs) old new calm (mid, tell, rest) =

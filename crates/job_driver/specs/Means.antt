@@ -7,7 +7,7 @@ use Rattle.edge_traits.specs.declared.entries.Put.{Put}
 use Rattle.edge_traits.specs.Deeds.{put}
 use Rattle.edge_traits.specs.Causes.{Still}
 use Rattle.edge_traits.specs.Kits.{KitView}
-use Rattle.edge_traits.specs.Stations.{NoneRose}
+use Rattle.edge_traits.specs.Stations.{StationStill}
 use Rattle.farm_machine.specs.declared.reports.Report.{Report}
 use Rattle.farm_machine.specs.Acts.{Act, Did}
 use Rattle.farm_machine.specs.Course.{Course}
@@ -55,7 +55,7 @@ pub record RunMeans {K : Type 0} (d : Devices K) (l : Limits 16) (jobs : ℕ →
       → IsCalm (d.shows (slice_index_or old (read.worker j) other)) (d.shows (slice_index_or new (read.worker j) other)) → is_done_or_wanted (read.ends j) ≡ true
   -- where none of a worker's jobs failed by its station, the station counted nothing, and where none failed by a fetch, no file was missing or too long
   pub stands : (worker : ℕ) (other : K) → worker < workers → ends_so is_station_failure (reports_by worker reports) ≡ 0
-      → NoneRose (d.shows (slice_index_or old worker other)).station (d.shows (slice_index_or new worker other)).station
+      → StationStill (d.shows (slice_index_or old worker other)).station (d.shows (slice_index_or new worker other)).station
   pub found : (worker : ℕ) (other : K) → worker < workers → ends_so is_fetch_failure (reports_by worker reports) ≡ 0
       → Still (d.shows (slice_index_or old worker other)).keeper.overruns (d.shows (slice_index_or new worker other)).keeper.overruns
 

@@ -7,7 +7,7 @@ use Rattle.edge_traits.specs.Kits.{KitView}
 use Rattle.edge_traits.specs.Causes.{Rose}
 use Rattle.edge_traits.specs.Dialers.{DialerView}
 use Rattle.remote_transfer.specs.Landings.{KeeperStays}
-use Rattle.edge_traits.specs.Stations.{StationView, NoneRose}
+use Rattle.edge_traits.specs.Stations.{StationView, StationStill}
 use Rattle.edge_traits.specs.declared.faults.FetchFault.{FetchFault}
 use Rattle.edge_traits.specs.declared.faults.FetchFault.TheVariants as fetch
 use Rattle.edge_traits.specs.Keepers.{KeeperView, FetchCause}
@@ -137,18 +137,18 @@ cause-later a b c (Failed NoHost) cause later = tt
 cause-later a b c (Failed Memory) cause later = tt
 
 -- a station that was not asked
-pub none-rose : (s : StationView) → NoneRose s s
+pub none-rose : (s : StationView) → StationStill s s
 none-rose s = record { faults = refl; overruns = refl }
 
-none-rose-then : (a b c : StationView) → NoneRose a b → NoneRose b c → NoneRose a c
+none-rose-then : (a b c : StationView) → StationStill a b → StationStill b c → StationStill a c
 none-rose-then a b c first second = record { faults = second.faults ∙ first.faults; overruns = second.overruns ∙ first.overruns }
 
 pub went-on : {h : ℕ} {j : Job} {l : Limits h} {caller number : ℕ} {a b : Seen} {at to : At} → (went : Went j l caller number a b at to)
-    → NoneRose a.kit.station b.kit.station → KeepsStill went.acts a.kit.keeper b.kit.keeper → WentOn j l caller number a b at to
+    → StationStill a.kit.station b.kit.station → KeepsStill went.acts a.kit.keeper b.kit.keeper → WentOn j l caller number a b at to
 went-on went none keeper = record { went = went; station = none; keeper = keeper }
 
 -- where no count of the station rose, it stands at any end
-pub stands-by : (end : End) (old new : StationView) → NoneRose old new → StationStands end old new
+pub stands-by : (end : End) (old new : StationView) → StationStill old new → StationStands end old new
 stands-by (Done status note err out by) old new none = none
 stands-by (Failed Station) old new none = tt
 stands-by (Failed Put) old new none = none
@@ -157,7 +157,7 @@ stands-by (Failed (Broke host cause)) old new none = none
 stands-by (Failed NoHost) old new none = none
 stands-by (Failed Memory) old new none = none
 
-stands-before : (a b c : StationView) (end : End) → NoneRose a b → StationStands end b c → StationStands end a c
+stands-before : (a b c : StationView) (end : End) → StationStill a b → StationStands end b c → StationStands end a c
 stands-before a b c (Done status note err out by) first last = none-rose-then a b c first last
 stands-before a b c (Failed Station) first last = tt
 stands-before a b c (Failed Put) first last = none-rose-then a b c first last

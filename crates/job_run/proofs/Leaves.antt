@@ -13,7 +13,7 @@ use Rattle.edge_traits.specs.declared.entries.Exchange.{Exchange}
 use Rattle.edge_traits.specs.Kits.{KitView}
 use Rattle.edge_traits.specs.Keepers.{KeeperView}
 use Rattle.edge_traits.specs.Dialers.{DialerView}
-use Rattle.edge_traits.specs.Stations.{StationView, NoneRose}
+use Rattle.edge_traits.specs.Stations.{StationView, StationStill}
 use Rattle.edge_traits.specs.Told.{Grew, Became, SameRelation, SameRelation3}
 use Rattle.edge_traits.specs.Deeds.{Deed, ran, fetched, exchanged, put, timed, exchanges_in, moments_in, DidIn, MayAll}
 use Rattle.edge_traits.proofs.ToldLemmas.{Grew-refl}
@@ -262,7 +262,7 @@ pub exchanged-given : {h : ℕ} {l : Limits h} {j : Job} {caller number : ℕ} (
     → Noted a.events a.places (Did (exchanged x) ∷ Met (Gives host) ∷ []) b.events b.places
     → b.mine ≡ a.mine ++ entry caller (Give host number) Given ∷ []
     → Next j at (Did (exchanged x)) c → Next j c (Met (Gives host)) to → IsStrict (Met (Gives host)) c to
-    → (j.config.period ≡ 0) ⊎ IsUnhurt x → NoneRose a.kit.station b.kit.station → Still a.kit.keeper.overruns b.kit.keeper.overruns
+    → (j.config.period ≡ 0) ⊎ IsUnhurt x → StationStill a.kit.station b.kit.station → Still a.kit.keeper.overruns b.kit.keeper.overruns
     → WentOn j l caller number a b at to
 unfolding part-went
 exchanged-given {caller = caller} {number = number} host c {to = to} x did later may same_peers same_programs noted mine first second
@@ -291,7 +291,7 @@ pub exchanged-alone : {h : ℕ} {l : Limits h} {j : Job} {caller number : ℕ} (
     []) b.events b.places
     → b.mine ≡ a.mine ++ entry caller (GiveBad host number (bad_until moment j.config.period)) Given ∷ []
     → Next j at (Did (exchanged x)) c → Next j c (Met (GivesBad host (bad_until moment j.config.period))) to
-    → NoneRose a.kit.station b.kit.station → Still a.kit.keeper.overruns b.kit.keeper.overruns → WentOn j l caller number a b at to
+    → StationStill a.kit.station b.kit.station → Still a.kit.keeper.overruns b.kit.keeper.overruns → WentOn j l caller number a b at to
 unfolding part-went
 exchanged-alone {j = j} {caller = caller} {number = number} host moment c {to = to} x within did later may same_peers same_programs noted
     mine first second still overruns = record {

@@ -12,7 +12,7 @@ use Rattle.edge_traits.specs.declared.entries.Put.{Put}
 use Rattle.edge_traits.specs.Kits.{KitView}
 use Rattle.edge_traits.specs.Keepers.{KeeperView}
 use Rattle.edge_traits.specs.Dialers.{DialerView}
-use Rattle.edge_traits.specs.Stations.{StationView, NoneRose}
+use Rattle.edge_traits.specs.Stations.{StationView, StationStill}
 use Rattle.edge_traits.specs.Told.{Grew, Became, SameRelation, SameRelation3}
 use Rattle.edge_traits.specs.Deeds.{timed, runs_in, fetches_in, exchanges_in, puts_in, moments_in, files_put, DidIn, MayAll}
 use Rattle.edge_traits.proofs.ToldLemmas.{Grew-refl, Grew-by}
@@ -111,7 +111,7 @@ later-looks a b dialer station keeper = record {
   dialer = let e = ap (λ (d : DialerView). d.faults) dialer in omega (arith, e);
 }
 
-none-looked : (a b : KitView) → b.station ≡ a.station → NoneRose a.station b.station
+none-looked : (a b : KitView) → b.station ≡ a.station → StationStill a.station b.station
 none-looked a b station =
     record { faults = ap (λ (s : StationView). s.faults) station; overruns = ap (λ (s : StationView). s.overruns) station }
 

@@ -3,7 +3,7 @@ use Rattle.std.specs.Prelude.{◌≡◌, ℕ, ◌+◌, ◌≤◌, Bool, true, fa
 use Rattle.slot_table.specs.declared.limits.Limits.{Limits}
 use Rattle.slot_table.specs.declared.calls.CallEntry.{CallEntry}
 use Rattle.edge_traits.specs.Kits.{KitView}
-use Rattle.edge_traits.specs.Stations.{NoneRose}
+use Rattle.edge_traits.specs.Stations.{StationStill}
 use Rattle.edge_traits.specs.Told.{SameRelation, SameRelation3}
 use Rattle.edge_traits.specs.Deeds.{exchanges_in, moments_in, DidIn, MayAll}
 use Rattle.farm_machine.specs.declared.reports.Event.{Event}
@@ -65,7 +65,7 @@ pub record Went {h : ℕ} (j : Job) (l : Limits h) (caller number : ℕ) (old ne
 -- none of its faults.
 pub record WentOn {h : ℕ} (j : Job) (l : Limits h) (caller number : ℕ) (old new : Seen) (at to : At) : Type 0 where
   pub went : Went j l caller number old new at to
-  pub station : NoneRose old.kit.station new.kit.station
+  pub station : StationStill old.kit.station new.kit.station
   pub keeper : KeepsStill went.acts old.kit.keeper new.kit.keeper
 
 -- the job came from a place to a last one, where it may end so

@@ -49,7 +49,7 @@ pub struct LoopLink<S> {
 
 impl<S: Station> LoopLink<S> {
     ghost use Rattle.std.specs.Prelude.{◌≡◌, true, take, OnOk, OnErr, IsErrOf};
-    ghost use Rattle.edge_traits.specs.Stations.{NoneRose};
+    ghost use Rattle.edge_traits.specs.Stations.{StationStill};
     ghost use Rattle.edge_traits.specs.Told.{SameRelation3};
     ghost use Rattle.edge_traits.specs.declared.faults.EdgeFault.TheVariants.{Failed, Memory};
     ghost use Rattle.loop_link.specs.Links.{loop_state, IsServed, LinkHolds};
@@ -60,7 +60,7 @@ impl<S: Station> LoopLink<S> {
         ensures holds { LinkHolds S.shows S.ran self.old → LinkHolds S.shows S.ran self.new }
         ensures same { SameRelation3 (S.ran self.old.held.station) (S.ran self.new.held.station) }
         ensures failed { IsErrOf result Failed → ⊥ }
-        ensures memory { OnErr result (NoneRose (S.shows self.old.held.station) (S.shows self.new.held.station)) }
+        ensures memory { OnErr result (StationStill (S.shows self.old.held.station) (S.shows self.new.held.station)) }
         ensures ran { OnOk result (self.new.served ≡ true) }
         ensures wants { OnErr result (self.new.wanted ≡ true) }
         ensures spent { self.old.wanted ≡ true → IsErrOf result Memory × (self.new ≡ self.old) }
@@ -104,7 +104,7 @@ impl<S: Station> LoopLink<S> {
 
 impl<S: Station> Link for LoopLink<S> {
     ghost use Rattle.std.specs.Prelude.{◌≡◌, ◌<◌, ◌+◌, ◌-◌, ◌||◌, [], min, true, length, IfOk, OnOk, OnErr, IsErrOf, refl};
-    ghost use Rattle.edge_traits.specs.Stations.{NoneRose};
+    ghost use Rattle.edge_traits.specs.Stations.{StationStill};
     ghost use Rattle.std.proofs.Common.{◌∙◌};
     ghost use Rattle.edge_traits.specs.declared.faults.EdgeFault.TheVariants.{Failed, Memory};
     ghost use Rattle.loop_link.specs.Replies.{Gives};
@@ -159,7 +159,7 @@ impl<S: Station> Link for LoopLink<S> {
         ensures spent { (loop_state self.old).wanted ≡ true → IsErrOf result Memory × (self.new ≡ self.old) }
 
         // Want of memory hides no fault of the station.
-        ensures memory { OnErr result (NoneRose (S.shows self.old.held.station) (S.shows self.new.held.station)) }
+        ensures memory { OnErr result (StationStill (S.shows self.old.held.station) (S.shows self.new.held.station)) }
         ensures served { OnOk result (IsServed self.old.held.table.rows (S.ran self.new.held.station) (S.shows self.old.held.station) (S.shows self.new.held.station) (loop_state self.old) (loop_state self.new)) }
         ensures answer { IfOk result (λ n. n ≡ min (length room.old) (length (loop_state self.new).reply - (loop_state self.old).at)) }
         ensures moved { IfOk result (λ n. (loop_state self.new).at ≡ (loop_state self.old).at + n) }

@@ -30,7 +30,7 @@ impl<S: Station> Model for CachedStation<S> {
 impl<S: Station> Station for CachedStation<S> {
     ghost use Rattle.std.specs.Prelude.{◌≡◌, ◌≤◌, [], false, IfOk, IfErr, OnOk};
     ghost use Rattle.edge_traits.specs.Told.{Grew, SameRelation3};
-    ghost use Rattle.edge_traits.specs.Stations.{IsWithin, has_output, run_entries, NoneRose, RunFault};
+    ghost use Rattle.edge_traits.specs.Stations.{IsWithin, has_output, run_entries, StationStill, RunFault};
     ghost use Rattle.object_cache.specs.Stations.{cached_shows, CacheRun};
 
     ghost shows = { λ c. cached_shows (S.shows c.station) };
@@ -56,7 +56,7 @@ impl<S: Station> Station for CachedStation<S> {
         ensures runs { Grew (cached_shows (S.shows self.old.station)).runs (cached_shows (S.shows self.new.station)).runs (run_entries words.now input.now result) }
         ensures faults { (S.shows self.old.station).faults ≤ (S.shows self.new.station).faults }
         ensures overruns { (S.shows self.old.station).overruns ≤ (S.shows self.new.station).overruns }
-        ensures done { OnOk result (NoneRose (cached_shows (S.shows self.old.station)) (cached_shows (S.shows self.new.station))) }
+        ensures done { OnOk result (StationStill (cached_shows (S.shows self.old.station)) (cached_shows (S.shows self.new.station))) }
         ensures cause { IfErr result (RunFault bounds.now (cached_shows (S.shows self.old.station)) (cached_shows (S.shows self.new.station))) }
     {
         run_beside(

@@ -8,7 +8,7 @@ use Rattle.edge_traits.specs.declared.faults.FetchFault.{FetchFault}
 use Rattle.edge_traits.specs.declared.faults.FetchFault.TheVariants.{Failed as FetchFailed, Absent, TooMuch, Memory as FetchMemory}
 use Rattle.edge_traits.specs.Told.{Became}
 use Rattle.edge_traits.specs.FileMaps.{IsStaged, files_after}
-use Rattle.edge_traits.specs.Keepers.{IsIdle, IsPending, HasPending, Fetched, FetchCause, NoneRose}
+use Rattle.edge_traits.specs.Keepers.{IsIdle, IsPending, HasPending, Fetched, FetchCause, KeeperStill}
 use Rattle.object_delivery.specs.declared.keeper.Staged.{Staged}
 use Rattle.object_delivery.specs.FileViews.{FilesView, as_keeper, content_of, appended}
 use Rattle.object_delivery.specs.Staging.{path_of, IsStaging, IsSound, staged, finished, pending_put, keeper_view, begun, still, delivered, ChangesOnly, RemovedOrLeft, DroppedPut, AbandonedPut, FailedPut}
@@ -213,6 +213,6 @@ fetch-cause path bound old now before after (Err (TooMuch bytes)) other cause = 
 }
 fetch-cause path bound old now before after (Err FetchMemory) other cause = record { faults = cause.faults; overruns = cause.overruns }
 
-pub fetch-done : (old now : FilesView) (before after : Option (List ℕ)) (result : Result (List ℕ) FetchFault) → OnOk result (NoneRose (as_keeper old) (as_keeper now)) → OnOk result (NoneRose (keeper_view old before) (keeper_view now after))
+pub fetch-done : (old now : FilesView) (before after : Option (List ℕ)) (result : Result (List ℕ) FetchFault) → OnOk result (KeeperStill (as_keeper old) (as_keeper now)) → OnOk result (KeeperStill (keeper_view old before) (keeper_view now after))
 fetch-done old now before after (Ok bytes) done = record { faults = done.faults; overruns = done.overruns }
 fetch-done old now before after (Err fault) done = tt

@@ -2,7 +2,7 @@ ghost use Rattle.std.specs.Prelude.{◌≡◌, ◌≢◌, Err, ◌≤◌, [], le
 ghost use Rattle.edge_traits.specs.Told.{Became};
 ghost use Rattle.edge_traits.specs.Causes.{HasCause, IsRemoval};
 ghost use Rattle.edge_traits.specs.FileMaps.{files_after};
-ghost use Rattle.edge_traits.specs.Keepers.{Fetched, FetchCause, NoneRose};
+ghost use Rattle.edge_traits.specs.Keepers.{Fetched, FetchCause, KeeperStill};
 ghost use Rattle.object_delivery.specs.FileViews.{FilesView, as_keeper, Appends, HasAppendCause, files_renamed, files_without};
 
 use edge_traits::{EdgeFault, FetchFault};
@@ -49,6 +49,6 @@ pub trait Files {
         ensures files { Became (shows self.old).files (shows self.new).files (shows self.old).files.value }
         ensures faults { (shows self.old).faults ≤ (shows self.new).faults }
         ensures overruns { (shows self.old).overruns ≤ (shows self.new).overruns }
-        ensures done { OnOk result (NoneRose (as_keeper (shows self.old)) (as_keeper (shows self.new))) }
+        ensures done { OnOk result (KeeperStill (as_keeper (shows self.old)) (as_keeper (shows self.new))) }
         ensures cause { IfErr result (FetchCause name.now bound (as_keeper (shows self.old)) (as_keeper (shows self.new))) };
 }

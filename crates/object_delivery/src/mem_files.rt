@@ -50,7 +50,7 @@ impl Files for MemFiles {
     ghost use Rattle.std.specs.Prelude.{◌≡◌, ◌≢◌, Err, ◌≤◌, ◌↔◌, length, min, IsTrue, IsErrOf, IfOk, IfErr, OnOk};
     ghost use Rattle.edge_traits.specs.Calls.{names_next};
     ghost use Rattle.edge_traits.specs.Causes.{HasCause, IsRemoval};
-    ghost use Rattle.edge_traits.specs.Keepers.{FetchCause, NoneRose};
+    ghost use Rattle.edge_traits.specs.Keepers.{FetchCause, KeeperStill};
     ghost use Rattle.edge_traits.specs.declared.faults.EdgeFault.TheVariants.{Failed};
     ghost use Rattle.object_delivery.specs.FileViews.{as_keeper, HasAppendCause};
     ghost use Rattle.object_delivery.specs.ScriptedFiles.{files_state, files_shows, after_create, after_append, after_rename, after_remove, IsLoadAnswer, after_load};
@@ -120,7 +120,7 @@ impl Files for MemFiles {
         ensures answer { IsLoadAnswer (files_state self.old) name.now bound result }
         ensures state { files_state self.new ≡ after_load (files_state self.old) result }
         ensures faults { (files_shows (files_state self.old)).faults ≤ (files_shows (files_state self.new)).faults }
-        ensures done { OnOk result (NoneRose (as_keeper (files_shows (files_state self.old))) (as_keeper (files_shows (files_state self.new)))) }
+        ensures done { OnOk result (KeeperStill (as_keeper (files_shows (files_state self.old))) (as_keeper (files_shows (files_state self.new)))) }
         ensures cause { IfErr result (FetchCause name.now bound (as_keeper (files_shows (files_state self.old))) (as_keeper (files_shows (files_state self.new)))) }
     {
         if self.calls.fails_next() {

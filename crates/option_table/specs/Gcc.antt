@@ -3,6 +3,7 @@ use Rattle.std.specs.Prelude.{List, [], ◌∷◌, codes}
 use Rattle.option_table.specs.declared.row.Form.TheVariants as form
 use Rattle.option_table.specs.declared.row.Effect.TheVariants as effect
 use Rattle.option_table.specs.declared.row.OptionRow.{OptionRow}
+use Rattle.option_table.specs.Reasons as reason
 use Rattle.option_table.specs.Rows.{row}
 
 -- the 64 rows. A word that begins with `-`, has more bytes and fits no row is kept, without an operand
@@ -11,9 +12,9 @@ gcc_rows =
     row (codes "-c") form.None effect.Action ∷
     row (codes "-S") form.None effect.Action ∷
     row (codes "-o") form.Either effect.Output ∷
-    row (codes "-E") form.None (effect.Local 3) ∷
-    row (codes "-M") form.None (effect.Local 4) ∷
-    row (codes "-MM") form.None (effect.Local 4) ∷
+    row (codes "-E") form.None (effect.Local reason.preprocess) ∷
+    row (codes "-M") form.None (effect.Local reason.depend) ∷
+    row (codes "-MM") form.None (effect.Local reason.depend) ∷
     row (codes "-MD") form.None effect.Strip ∷
     row (codes "-MMD") form.None effect.Strip ∷
     row (codes "-MP") form.None effect.Strip ∷
@@ -50,25 +51,25 @@ gcc_rows =
     row (codes "--param") form.Next effect.Keep ∷
     row (codes "-target") form.Next effect.Keep ∷
     row (codes "-mllvm") form.Next effect.Keep ∷
-    row (codes "-march=native") form.None (effect.Local 7) ∷
-    row (codes "-mtune=native") form.None (effect.Local 7) ∷
-    row (codes "-mcpu=native") form.None (effect.Local 7) ∷
-    row (codes "-fprofile") form.Joined (effect.Local 8) ∷
-    row (codes "-ftest-coverage") form.None (effect.Local 8) ∷
-    row (codes "--coverage") form.None (effect.Local 8) ∷
-    row (codes "-frepo") form.None (effect.Local 9) ∷
-    row (codes "-specs=") form.Joined (effect.Local 10) ∷
-    row (codes "-x") form.Either (effect.Local 11) ∷
-    row (codes "-save-temps") form.Joined (effect.Local 12) ∷
-    row (codes "-d") form.Joined (effect.Local 13) ∷
-    row (codes "-fdump-") form.Joined (effect.Local 13) ∷
+    row (codes "-march=native") form.None (effect.Local reason.native) ∷
+    row (codes "-mtune=native") form.None (effect.Local reason.native) ∷
+    row (codes "-mcpu=native") form.None (effect.Local reason.native) ∷
+    row (codes "-fprofile") form.Joined (effect.Local reason.profile) ∷
+    row (codes "-ftest-coverage") form.None (effect.Local reason.profile) ∷
+    row (codes "--coverage") form.None (effect.Local reason.profile) ∷
+    row (codes "-frepo") form.None (effect.Local reason.repo) ∷
+    row (codes "-specs=") form.Joined (effect.Local reason.specs) ∷
+    row (codes "-x") form.Either (effect.Local reason.language) ∷
+    row (codes "-save-temps") form.Joined (effect.Local reason.save_temps) ∷
+    row (codes "-d") form.Joined (effect.Local reason.dump) ∷
+    row (codes "-fdump-") form.Joined (effect.Local reason.dump) ∷
     row (codes "-Wa,") form.Joined effect.Listing ∷
-    row (codes "-Xassembler") form.Next (effect.Local 14) ∷
-    row (codes "-gsplit-dwarf") form.None (effect.Local 21) ∷
-    row (codes "-fplugin") form.Joined (effect.Local 21) ∷
-    row (codes "-fsyntax-only") form.None (effect.Local 21) ∷
-    row (codes "-fmodules") form.Joined (effect.Local 21) ∷
-    row (codes "-wrapper") form.Next (effect.Local 21) ∷
-    row (codes "-aux-info") form.Next (effect.Local 21) ∷
-    row (codes "-Xclang") form.Next (effect.Local 21) ∷
-    row (codes "-arch") form.Next (effect.Local 21) ∷ []
+    row (codes "-Xassembler") form.Next (effect.Local reason.asm_listing) ∷
+    row (codes "-gsplit-dwarf") form.None (effect.Local reason.side_file) ∷
+    row (codes "-fplugin") form.Joined (effect.Local reason.side_file) ∷
+    row (codes "-fsyntax-only") form.None (effect.Local reason.side_file) ∷
+    row (codes "-fmodules") form.Joined (effect.Local reason.side_file) ∷
+    row (codes "-wrapper") form.Next (effect.Local reason.side_file) ∷
+    row (codes "-aux-info") form.Next (effect.Local reason.side_file) ∷
+    row (codes "-Xclang") form.Next (effect.Local reason.side_file) ∷
+    row (codes "-arch") form.Next (effect.Local reason.side_file) ∷ []

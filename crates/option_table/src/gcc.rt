@@ -3,6 +3,7 @@
 ghost use Rattle.std.specs.Prelude.{◌≡◌};
 ghost use Rattle.option_table.specs.Gcc.{gcc_rows};
 
+use crate::reasons;
 use crate::row::{Effect, Form, OptionRow, rows};
 use crate::table::OptionTable;
 
@@ -20,9 +21,9 @@ fn listed_rows() -> [OptionRow; 64]
         "-c" None Action;
         "-S" None Action;
         "-o" Either Output;
-        "-E" None Local(3);
-        "-M" None Local(4);
-        "-MM" None Local(4);
+        "-E" None Local(reasons::PREPROCESS);
+        "-M" None Local(reasons::DEPEND);
+        "-MM" None Local(reasons::DEPEND);
         "-MD" None Strip;
         "-MMD" None Strip;
         "-MP" None Strip;
@@ -59,27 +60,27 @@ fn listed_rows() -> [OptionRow; 64]
         "--param" Next Keep;
         "-target" Next Keep;
         "-mllvm" Next Keep;
-        "-march=native" None Local(7);
-        "-mtune=native" None Local(7);
-        "-mcpu=native" None Local(7);
-        "-fprofile" Joined Local(8);
-        "-ftest-coverage" None Local(8);
-        "--coverage" None Local(8);
-        "-frepo" None Local(9);
-        "-specs=" Joined Local(10);
-        "-x" Either Local(11);
-        "-save-temps" Joined Local(12);
-        "-d" Joined Local(13);
-        "-fdump-" Joined Local(13);
+        "-march=native" None Local(reasons::NATIVE);
+        "-mtune=native" None Local(reasons::NATIVE);
+        "-mcpu=native" None Local(reasons::NATIVE);
+        "-fprofile" Joined Local(reasons::PROFILE);
+        "-ftest-coverage" None Local(reasons::PROFILE);
+        "--coverage" None Local(reasons::PROFILE);
+        "-frepo" None Local(reasons::REPO);
+        "-specs=" Joined Local(reasons::SPECS);
+        "-x" Either Local(reasons::LANGUAGE);
+        "-save-temps" Joined Local(reasons::SAVE_TEMPS);
+        "-d" Joined Local(reasons::DUMP);
+        "-fdump-" Joined Local(reasons::DUMP);
         "-Wa," Joined Listing;
-        "-Xassembler" Next Local(14);
-        "-gsplit-dwarf" None Local(21);
-        "-fplugin" Joined Local(21);
-        "-fsyntax-only" None Local(21);
-        "-fmodules" Joined Local(21);
-        "-wrapper" Next Local(21);
-        "-aux-info" Next Local(21);
-        "-Xclang" Next Local(21);
-        "-arch" Next Local(21);
+        "-Xassembler" Next Local(reasons::ASM_LISTING);
+        "-gsplit-dwarf" None Local(reasons::SIDE_FILE);
+        "-fplugin" Joined Local(reasons::SIDE_FILE);
+        "-fsyntax-only" None Local(reasons::SIDE_FILE);
+        "-fmodules" Joined Local(reasons::SIDE_FILE);
+        "-wrapper" Next Local(reasons::SIDE_FILE);
+        "-aux-info" Next Local(reasons::SIDE_FILE);
+        "-Xclang" Next Local(reasons::SIDE_FILE);
+        "-arch" Next Local(reasons::SIDE_FILE);
     }
 }

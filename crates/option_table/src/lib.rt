@@ -5,6 +5,7 @@ mod fault;
 mod gcc;
 mod index;
 mod listing;
+pub mod reasons;
 mod row;
 mod scc;
 mod search;

@@ -29,7 +29,7 @@ pub enum Effect {
     Action,
     /// The operand names the output.
     Output,
-    /// The command stays on this machine, for the reason with this number.
+    /// The command stays on this machine, for the reason with this number of `reasons`.
     Local(u8),
     /// The command stays on this machine where the word asks for a listing or for dependencies;
     /// otherwise the word is kept.
@@ -73,7 +73,7 @@ impl OptionRow {
 
 // The rows of a table, one a line: its spelling, its form, and its effect.
 macro_rules! rows {
-    ($($spelling:literal $form:ident $effect:ident $(($why:literal))?;)*) => {
+    ($($spelling:literal $form:ident $effect:ident $(($why:path))?;)*) => {
         [$(OptionRow::new($spelling, Form::$form, Effect::$effect $(($why))?)),*]
     };
 }

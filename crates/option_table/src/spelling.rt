@@ -7,7 +7,7 @@ use std::marker::Model;
 /// The most bytes of a spelling.
 pub const SPELLING_MAX: usize = 23;
 
-/// The spelling of an option: 0 to 23 bytes, held without memory.
+/// The spelling of an option: 0 to `SPELLING_MAX` bytes, held without memory.
 #[derive(Debug, Drop)]
 pub struct Spelling {
     bytes: [u8; SPELLING_MAX],
@@ -16,12 +16,13 @@ pub struct Spelling {
 
 impl Model for Spelling {
     ghost use Rattle.std.specs.Prelude.{ℕ, ◌≡◌, ◌≤◌, List, length, take};
+    ghost use Rattle.option_table.specs.declared.spelling.TheConstants.{SPELLING_MAX};
 
     ghost Value = { List ℕ };
 
     ghost view = { λ s. take s.len s.bytes };
 
-    ghost invariant = { λ s. s.len ≤ 23 };
+    ghost invariant = { λ s. s.len ≤ SPELLING_MAX };
 }
 
 impl Spelling {

@@ -144,7 +144,7 @@ impl SampleStation {
 impl Station for SampleStation {
     ghost use Rattle.std.specs.Prelude.{◌≡◌, ◌≤◌, false, [], IfOk, IfErr, OnOk};
     ghost use Rattle.edge_traits.specs.Told.{Grew, SameRelation3};
-    ghost use Rattle.edge_traits.specs.Stations.{IsWithin, NoneRose, RunFault, has_output, run_entries};
+    ghost use Rattle.edge_traits.specs.Stations.{IsWithin, StationStill, RunFault, has_output, run_entries};
     ghost use Rattle.sample_compiler.specs.Stations.{StationRan, RunStops, overruns_after, station_files, station_shows};
 
     ghost shows = { station_shows };
@@ -166,7 +166,7 @@ impl Station for SampleStation {
         ensures runs { Grew (station_shows self.old).runs (station_shows self.new).runs (run_entries words.now input.now result) }
         ensures faults { (station_shows self.old).faults ≤ (station_shows self.new).faults }
         ensures overruns { (station_shows self.old).overruns ≤ (station_shows self.new).overruns }
-        ensures done { OnOk result (NoneRose (station_shows self.old) (station_shows self.new)) }
+        ensures done { OnOk result (StationStill (station_shows self.old) (station_shows self.new)) }
         ensures cause { IfErr result (RunFault bounds.now (station_shows self.old) (station_shows self.new)) }
 
         // A run that gives too much is one that the compiler leaves, with a stream of just so many bytes.

@@ -8,7 +8,7 @@ use Rattle.std.proofs.lemmas.List.Concat.{flat_map-cons}
 use Rattle.std.proofs.lemmas.Grind.{flat_map-append}
 use Rattle.edge_traits.specs.Told.{Told, Grew}
 use Rattle.edge_traits.specs.Causes.{Rose}
-use Rattle.edge_traits.specs.Keepers.{KeeperView, NoneRose}
+use Rattle.edge_traits.specs.Keepers.{KeeperView, KeeperStill}
 use Rattle.file_map.specs.FileMaps.{Files}
 use Rattle.sample_compiler.specs.Loads.{OnlyFetched}
 use Rattle.sample_program.specs.declared.fetching.FetchStop.{FetchStop}
@@ -27,7 +27,7 @@ pub record FetchesTo (names : List (List ℕ)) (i left : ℕ) (contents : List (
   pub count : length contents ≡ i
   pub room : left + total contents ≡ files_max
   pub fetched : Grew old.fetches now.fetches (entries_with names contents)
-  pub calm : NoneRose old now
+  pub calm : KeeperStill old now
 
 pub grew_both : {T : Type 0} (a b c : Told (List T)) (more rest : List T) → Grew a b more → Grew b c rest → Grew a c (more ++ rest)
 grew_both a b c more rest one two = record {
@@ -139,7 +139,7 @@ stops_then outcome more Memory h = tt
 rose_from : (a b c : ℕ) → b ≡ a → Rose b c → Rose a c
 rose_from a b c e h = subst (λ n. Rose n c) e h
 
-cause_from : (old mid new : KeeperView) (stop : FetchStop) → NoneRose old mid → FetchCause mid new stop → FetchCause old new stop
+cause_from : (old mid new : KeeperView) (stop : FetchStop) → KeeperStill old mid → FetchCause mid new stop → FetchCause old new stop
 cause_from old mid new (Missing name) calm h = (
   h.0 ∙ calm.faults,
   ⊎_elim (λ rose. inl (rose_from old.overruns mid.overruns new.overruns calm.overruns rose))

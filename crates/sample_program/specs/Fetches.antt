@@ -7,7 +7,7 @@ use Rattle.farm_types.specs.Limits.{object_max}
 use Rattle.edge_traits.specs.declared.entries.Fetch.{Fetch}
 use Rattle.edge_traits.specs.Told.{Grew}
 use Rattle.edge_traits.specs.Causes.{Rose, Still}
-use Rattle.edge_traits.specs.Keepers.{KeeperView, NoneRose}
+use Rattle.edge_traits.specs.Keepers.{KeeperView, KeeperStill}
 use Rattle.file_map.specs.FileMaps.{Files}
 use Rattle.arg_scan.specs.Names.{is_reserved}
 use Rattle.sample_program.specs.declared.fetching.FetchStop.{FetchStop}
@@ -53,7 +53,7 @@ pub record Took (name : List ℕ) (left : ℕ) (old new : KeeperView) (content :
   pub told : IsTrue new.files.known → outcome_of old.files.value left name ≡ Ok content
   pub within : length content ≤ left
   pub fetched : Grew old.fetches new.fetches (record { path = name; bytes = content } ∷ [])
-  pub calm : NoneRose old new
+  pub calm : KeeperStill old new
 
 -- all files were fetched, each once and in order
 pub record TookAll (names : List (List ℕ)) (old new : KeeperView) (contents : List (List ℕ)) : Type 0 where
@@ -61,7 +61,7 @@ pub record TookAll (names : List (List ℕ)) (old new : KeeperView) (contents : 
   pub count : length contents ≡ length names
   pub within : length (flat_map (λ content. content) contents) ≤ files_max
   pub fetched : Grew old.fetches new.fetches (entries_with names contents)
-  pub calm : NoneRose old new
+  pub calm : KeeperStill old new
 
 -- The first file that is missing has this name, which ends in `.farm~` or is no file; or the files go beyond the bound. Neither
 -- comes of a fault. The keeper's faults rose; or memory was wanting, and they stand.

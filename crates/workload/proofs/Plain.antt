@@ -12,7 +12,7 @@ use Rattle.arg_scan.specs.declared.part.Role.TheVariants as role
 use Rattle.arg_scan.specs.declared.verdict.OutputPlace.{OutputPlace}
 use Rattle.arg_scan.specs.Names.{is_conftest, is_preprocessed}
 use Rattle.arg_scan.specs.Roles.{role_of, part_at, word_at}
-use Rattle.arg_scan.specs.Forces.{output_reasons, first_below, is_output}
+use Rattle.arg_scan.specs.Forces.{output_reasons, first_below, is_output_option}
 use Rattle.arg_scan.specs.Class.{IsRemote, output_place, output_text, plan_of}
 use Rattle.arg_strip.specs.Words.{gather, sent_word, output_of, stripped, placed_words, preprocessing_words}
 
@@ -42,7 +42,7 @@ raw_source s o is = rw (action_role, is.source, action_role, is.source) refl
 pub preprocessing : (s o : List ℕ) → ArePlain s o → preprocessing_words (plain s o) ≡ codes "scc" ∷ codes "-E" ∷ s ∷ []
 preprocessing s o is = rw (action_role, is.source, output_role) refl
 
-first_output : (s o : List ℕ) → ArePlain s o → first_below (is_output (plain s o)) (length (plain s o)) ≡ Some 3
+first_output : (s o : List ℕ) → ArePlain s o → first_below (is_output_option (plain s o)) (length (plain s o)) ≡ Some 3
 first_output s o is = rw (action_role, is.source, output_role) refl
 
 place_of_output : (s o : List ℕ) → ArePlain s o → output_place (part_at (plain s o) 3) 3 ≡ record { at = 4; from = 0 }

@@ -111,7 +111,7 @@ impl<'a, R: Wait> Part<'a, R> {
 impl<'a, R: Wait> Station for GateStation<'a, R> {
     ghost use Rattle.std.specs.Prelude.{◌≡◌, ◌≢◌, ◌+◌, ◌≤◌, ◌++◌, [], ◌∷◌, false, IfOk, IfErr, OnOk, OnErr};
     ghost use Rattle.edge_traits.specs.declared.faults.StationFault.TheVariants.{Failed};
-    ghost use Rattle.edge_traits.specs.Stations.{IsWithin, NoneRose, RunFault, has_output, run_entries};
+    ghost use Rattle.edge_traits.specs.Stations.{IsWithin, StationStill, RunFault, has_output, run_entries};
     ghost use Rattle.edge_traits.specs.Told.{Grew, SameRelation3};
     ghost use Rattle.edge_memory.specs.declared.gates.asked.Asked.TheVariants.{Nobody};
     ghost use Rattle.edge_memory.specs.declared.gates.asked.Place.TheVariants.{NotYet};
@@ -148,7 +148,7 @@ impl<'a, R: Wait> Station for GateStation<'a, R> {
         ensures runs { Grew (gate_station_view self.old).runs (gate_station_view self.new).runs (run_entries words.now input.now result) }
         ensures faults { (gate_station_view self.old).faults ≤ (gate_station_view self.new).faults }
         ensures overruns { (gate_station_view self.old).overruns ≤ (gate_station_view self.new).overruns }
-        ensures done { OnOk result (NoneRose (gate_station_view self.old) (gate_station_view self.new)) }
+        ensures done { OnOk result (StationStill (gate_station_view self.old) (gate_station_view self.new)) }
         ensures fault { IfErr result (λ fault. fault ≡ Failed) }
         ensures cause { IfErr result (RunFault bounds.now (gate_station_view self.old) (gate_station_view self.new)) }
     {

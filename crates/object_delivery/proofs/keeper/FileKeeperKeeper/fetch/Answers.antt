@@ -1,6 +1,6 @@
 use Rattle.std.proofs.Common.{subst}
 use Rattle.std.specs.Prelude.{IfErr, OnOk}
-use Rattle.edge_traits.specs.Keepers.{FetchCause, NoneRose}
+use Rattle.edge_traits.specs.Keepers.{FetchCause, KeeperStill}
 use Rattle.object_delivery.specs.Staging.{path_of, keeper_view}
 use Rattle.object_delivery.proofs.Delivering.{fetched, fetch-cause, fetch-done}
 use Rattle.object_delivery.proofs.keeper.FileKeeperKeeper.fetch.Goals as goal
@@ -15,5 +15,5 @@ returns-clause-cause g c =
 
 pub returns-clause-done : goal.returns-clause-done
 returns-clause-done g c =
-    subst (λ self. OnOk c.load.result (NoneRose (keeper_view (g.F.Files.shows self.files) self.pending) (keeper_view (g.F.Files.shows c.load.new.self) (path_of c.self.inside.pending)))) c.self.view_is
+    subst (λ self. OnOk c.load.result (KeeperStill (keeper_view (g.F.Files.shows self.files) self.pending) (keeper_view (g.F.Files.shows c.load.new.self) (path_of c.self.inside.pending)))) c.self.view_is
     (fetch-done (g.F.Files.shows c.self.inside.files) (g.F.Files.shows c.load.new.self) (path_of c.self.inside.pending) (path_of c.self.inside.pending) c.load.result c.load.ensures.done)
