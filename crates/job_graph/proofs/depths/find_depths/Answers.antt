@@ -1,7 +1,8 @@
 use Rattle.std.proofs.Common.{ℕ, List, map, ap, sym, ◌∙◌, subst, arith}
 use Rattle.job_graph.specs.Depths.{DepthsOf}
 use Rattle.job_graph.specs.Steps.{IsRingOf, known_depth}
-use Rattle.job_graph.proofs.Walking.{fresh_walk, depths_from}
+use Rattle.job_graph.proofs.Walking.{depths_from}
+use Rattle.job_graph.proofs.WalkSteps.{fresh_walk}
 use Rattle.job_graph.proofs.depths.find_depths.Goals as goal
 
 pub loop-job-init : goal.loop-job-init

@@ -2,7 +2,8 @@ use Rattle.std.proofs.Common.{◌≡◌, List, [], ◌∷◌, ◌++◌, set, ap,
 use Rattle.job_graph.specs.declared.walk.Mark.TheVariants.{Fresh, Open}
 use Rattle.job_graph.specs.declared.walk.Step.{Step}
 use Rattle.job_graph.specs.Steps.{Walk, mark_at}
-use Rattle.job_graph.proofs.Walking.{fresh_is, walk_begun, root_begun, known_end, nil_is}
+use Rattle.job_graph.proofs.Walking.{known_end}
+use Rattle.job_graph.proofs.WalkSteps.{fresh_is, walk_begun, root_begun, nil_is}
 use Rattle.job_graph.proofs.walk.settle.Goals as goal
 
 pub loop-step-init : goal.loop-step-init

@@ -4,7 +4,8 @@ use Rattle.job_graph.specs.declared.walk.Mark.TheVariants.{Open}
 use Rattle.job_graph.specs.declared.walk.Step.{Step}
 use Rattle.job_graph.specs.declared.walk.Stop.{Stop}
 use Rattle.job_graph.specs.Steps.{Ends, StepsOn, EndsInRing}
-use Rattle.job_graph.proofs.Walking.{needs_marked, path_within, path_seen, step_settled, step_pushed, step_ring}
+use Rattle.job_graph.proofs.Walking.{path_within, path_seen}
+use Rattle.job_graph.proofs.WalkSteps.{needs_marked, step_settled, step_pushed, step_ring}
 use Rattle.job_graph.proofs.walk.step_on.Goals as goal
 
 pub bounds-needs-step : goal.bounds-needs-step
