@@ -11,9 +11,9 @@ use crate::reading::read_options;
 /// What `farmd` is to do.
 #[derive(Clone, Copy, Debug, PartialEq, Eq)]
 pub enum Command {
-    /// `--help`, alone.
+    /// `--help`, alone or behind `--trust-options`.
     Help,
-    /// `--version`, alone.
+    /// `--version`, alone or behind `--trust-options`.
     Version,
     /// To serve, as these options say.
     Serve(Options),

@@ -11,7 +11,7 @@ use edge_real::{
     Notices, PAUSE_MILLIS, StdSink, StdSource, command_words, own_folder, variable, watch_kits,
 };
 use farm_program::farm;
-use farm_types::exits::NO_MEMORY;
+use farm_types::exits::{BAD_HOSTS, BAD_TEXT, BAD_WORDS, NO_MEMORY};
 use host_turns::{spread, turned};
 use kept_input::KeptSource;
 use reasons::{Given, tell_carriage_return, tell_refusal};
@@ -83,6 +83,11 @@ fn last_pause(words: &[String]) -> u64 {
     }
 }
 
+// Whether a status tells that words, a host list or a job list were refused.
+fn is_refusal(status: u8) -> bool {
+    matches!(status, BAD_WORDS | BAD_HOSTS | BAD_TEXT)
+}
+
 // Runs `farm` on these words, the environment and the standard streams, tells in plain words what was refused, and answers the exit
 // status. It may wait for a slot.
 fn run<W: Threads + Wait + Sync>(
@@ -122,7 +127,7 @@ fn run<W: Threads + Wait + Sync>(
         variables: variables.as_slice(),
         list: input.kept().unwrap_or(&[]),
     };
-    if ended.built.is_empty() && ended.status != 0 {
+    if ended.built.is_empty() && is_refusal(ended.status) {
         tell_refusal(rt, alloc, &given);
     }
     tell_carriage_return(rt, given.list);

@@ -13,7 +13,7 @@ use std::alloc::{AllocError, Global};
 use std::sync::Wait;
 use std::thread::Threads;
 
-/// What each run of jobs left, in order: one entry for a command whose jobs ran, and else none.
+/// What each run of jobs left, in order: one entry for a list whose jobs ran, one for each level of a graph that did, and else none.
 pub type BuiltList = Items<Built>;
 
 /// How `farm` ended: its exit status, and what was built.
