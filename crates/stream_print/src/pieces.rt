@@ -61,10 +61,7 @@ pub fn print_all<O: Sink, E: Sink>(
         (sinks_view O.shows E.shows out.new err.new) }
 {
     for piece in pieces {
-        match print_piece(piece, out, err) {
-            Ok(()) => {}
-            Err(stop) => return Err(stop),
-        }
+        print_piece(piece, out, err)?;
     }
     Ok(())
 }
