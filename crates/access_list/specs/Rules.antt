@@ -1,6 +1,7 @@
 -- What a rule's text says, and what the rules decide.
 use Rattle.std.specs.Prelude.{◌≡◌, ◌≢◌, ℕ, suc, ◌-◌, ◌/◌, ◌^◌, ◌==◌, ◌≤◌, Bool, true, false, List, [], ◌∷◌, ◌++◌, length, take, drop, All, Option, Some, None, unwrap_or, if◌then◌else◌}
 use Rattle.std.specs.List.{position_or_len}
+use Rattle.farm_types.specs.Limits.{rules_max}
 use Rattle.farm_types.specs.Decimals.{IsPlainDecimal}
 use Rattle.farm_types.specs.Bytes.{slash}
 use Rattle.access_list.specs.declared.rule.Rule.{Rule}
@@ -38,7 +39,7 @@ WrongRule text BadBits = ((addr : ℕ) × IsAddress (address_part text) addr) ×
 
 -- at most 64 rules, each with at most 32 bits
 pub record AreRight (rules : List Rule) : Type 0 where
-  pub few : length rules ≤ 64
+  pub few : length rules ≤ rules_max
   pub bits : All (λ rule. rule.bits ≤ 32) rules
 
 -- the first `bits` bits of the address are the rule's

@@ -4,6 +4,7 @@ use Rattle.std.specs.Prelude.{nat_le, sum_by, ◌⊎◌, ◌≢◌}
 use Rattle.std.proofs.lemmas.Bool.{leb-true, eqb-true}
 use Rattle.std.proofs.lemmas.List.{append-nil, nil_from_length, length-append}
 use Rattle.std.proofs.lemmas.List.Sums.{sum_by_push}
+use Rattle.farm_types.specs.Limits.{word_max, words_bytes_max, words_max}
 use Rattle.farm_types.specs.declared.request.Request.{Request}
 use Rattle.wire_tokens.specs.declared.faults.RequestFault.{RequestFault}
 use Rattle.wire_tokens.specs.Format.{Field, Due, Progress}
@@ -94,9 +95,9 @@ pub after_argc : (old new : Partial) (n : ℕ) → old.part ≡ Argc → IsReady
 after_argc old new n is r part count together words left body token =
     let q = at_part old n Argc is r in
     let none : old.words ≡ [] = q.counts.at_part in
-    let rule = count_is (nat_le 1 n) (nat_le n 1024) _ q.token.right in
+    let rule = count_is (nat_le 1 n) (nat_le n words_max) _ q.token.right in
     let low : 1 ≤ n = leb-true 1 n rule.0 in
-    let high : n ≤ 1024 = leb-true n 1024 rule.1 in
+    let high : n ≤ words_max = leb-true n words_max rule.1 in
     let bare : old.body ≡ [] = nil_from_length old.body (sym q.no_more) in
     let empty : length new.words ≡ 0 = ap length (words ∙ none) in
     let here : IsAtPart Argv new.count new.words = (omega arith, omega arith) in
@@ -119,11 +120,11 @@ after_argv old new n is r count together words left body token part =
     let q = at_part old n Argv is r in
     let at : IsAtPart Argv old.count old.words = q.counts.at_part in
     let is_n : n ≡ length old.body = q.no_more in
-    let rule = allowed_twice (nat_le n 65536) (nat_le (old.together + n) 1048576) _ _ q.token.right in
-    let small : old.together + n ≤ 1048576 = leb-true (old.together + n) 1048576 rule.1 in
+    let rule = allowed_twice (nat_le n word_max) (nat_le (old.together + n) words_bytes_max) _ _ q.token.right in
+    let small : old.together + n ≤ words_bytes_max = leb-true (old.together + n) words_bytes_max rule.1 in
     let len : length new.words ≡ length old.words + 1 = ap length words ∙ length-append old.words (old.body ∷ []) in
     let sum : new.together ≡ sum_by length new.words = together ∙ ap (λ (k : ℕ). k + length old.body) r.counts.sum ∙ sym (ap (sum_by length) words ∙ sum_by_push length old.words old.body) in
-    let fits : new.together ≤ 1048576 = omega arith in
+    let fits : new.together ≤ words_bytes_max = omega arith in
     let fields : dist_field ∷ argc_field old.count ∷ (word_fields old.words ++ done_field n old.body ∷ []) ≡ dist_field ∷ argc_field new.count ∷ word_fields new.words =
     ap (λ (k : ℕ). dist_field ∷ argc_field old.count ∷ (word_fields old.words ++ done_field k old.body ∷ [])) is_n
     ∙ ap (λ (x : List Field). dist_field ∷ argc_field old.count ∷ x) (sym (word_fields-push old.words old.body))

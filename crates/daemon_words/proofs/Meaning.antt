@@ -5,6 +5,7 @@ use Rattle.std.specs.Option.{option_to_list}
 use Rattle.std.proofs.lemmas.List.Elements.{All-nil, All-cons, All-append}
 use Rattle.std.proofs.Math.Seq.{take-length}
 use Rattle.std.proofs.lemmas.List.{append-nil}
+use Rattle.farm_types.specs.Limits.{cache_max, compilers_max, connections_max, port_max, rules_max, workers_max}
 use Rattle.farm_types.proofs.DecimalLemmas.{one_plain}
 use Rattle.farm_types.specs.Decimals.{IsPlainDecimal}
 use Rattle.access_list.specs.declared.rule.Rule.{Rule}
@@ -163,7 +164,13 @@ counted kind before [] stand = refl
 counted kind before (item ∷ items) stand =
     count_valued kind before item.name item.value (items_words items) (count_items kind items) stand.0.follows_on stand.0.value (counted kind (before ++ item ∷ []) items stand.1)
 
-room_by : (kind : Kind) (option : Option OptionName) (before : List (List ℕ)) (value : List ℕ) → is_of kind option ≡ true → ValueFits option before value → count_in kind before < 64
+-- how many of a kind there may be
+abbrev pub most_of : Kind → ℕ
+most_of kind.Compiler = compilers_max
+most_of kind.Rule = rules_max
+
+room_by : (kind : Kind) (option : Option OptionName) (before : List (List ℕ)) (value : List ℕ) → is_of kind option ≡ true
+    → ValueFits option before value → count_in kind before < most_of kind
 room_by kind None before value holds fits = absurd fits
 room_by kind.Compiler (Some option.Compiler) before value holds fits = fits.room
 room_by kind.Rule (Some option.Compiler) before value holds fits = absurd (cc holds)
@@ -183,28 +190,31 @@ room_by kind.Compiler (Some option.Cache) before value holds fits = absurd (cc h
 room_by kind.Rule (Some option.Cache) before value holds fits = absurd (cc holds)
 
 room : (kind : Kind) (before : List Item) (name : List ℕ) (value : Option (List ℕ)) → follows options before name ≡ true → HasValue options before name value → is_of kind (option_named name) ≡ true
-    → count_in kind (items_words before) < 64
+    → count_in kind (items_words before) < most_of kind
 room kind before name None follows plain holds = absurd (never_plain (option_named name) (stands_in name before) follows plain)
 room kind before name (Some value) follows has holds = room_by kind (option_named name) (items_words before) value holds has.1
 
-one_by : (b : Bool) (m n : ℕ) → (b ≡ true → m < 64) → m ≡ n → n ≤ 64 → n + (if b then 1 else 0) ≤ 64
-one_by true m n room same few = omega (arith, room refl, same)
-one_by false m n room same few = omega (arith, few)
+one_by : (b : Bool) (m n most : ℕ) → (b ≡ true → m < most) → m ≡ n → n ≤ most → n + (if b then 1 else 0) ≤ most
+one_by true m n most room same few = omega (arith, room refl, same)
+one_by false m n most room same few = omega (arith, few)
 
-few_items : (kind : Kind) (before items : List Item) → StandBehind options [] before → StandBehind options before items → count_items kind before ≤ 64 → count_items kind (before ++ items) ≤ 64
+few_items : (kind : Kind) (before items : List Item) → StandBehind options [] before → StandBehind options before items
+    → count_items kind before ≤ most_of kind → count_items kind (before ++ items) ≤ most_of kind
 unfolding count_items one
 few_items kind before [] behind stand few = omega (arith, ap (count_items kind) (append-nil before), few)
 few_items kind before (item ∷ items) behind stand few =
-    let one_few = one_by (is_of kind (option_named item.name)) (count_in kind (items_words before)) (count_items kind before)
+    let one_few = one_by (is_of kind (option_named item.name)) (count_in kind (items_words before)) (count_items kind before) (most_of kind)
     (room kind before item.name item.value stand.0.follows_on stand.0.value) (counted kind [] before behind) few in
-    let more : count_items kind (before ++ item ∷ []) ≤ 64 = omega (arith, count_append kind before (item ∷ []), one_few) in
-    subst (λ l. count_items kind l ≤ 64) (append_assoc before (item ∷ []) items) (few_items kind (before ++ item ∷ []) items (stand_more options [] before item behind stand.0) stand.1 more)
+    let more : count_items kind (before ++ item ∷ []) ≤ most_of kind = omega (arith, count_append kind before (item ∷ []), one_few) in
+    subst (λ l. count_items kind l ≤ most_of kind) (append_assoc before (item ∷ []) items)
+    (few_items kind (before ++ item ∷ []) items (stand_more options [] before item behind stand.0) stand.1 more)
 
--- no more than 64 of a kind
-pub few_counted : (kind : Kind) (words : List (List ℕ)) (items : List Item) → AreOptions options words items → count_in kind words ≤ 64
+-- no more of a kind than there may be
+pub few_counted : (kind : Kind) (words : List (List ℕ)) (items : List Item) → AreOptions options words items
+    → count_in kind words ≤ most_of kind
 unfolding count_items
 few_counted kind words items are =
-    let few : count_items kind items ≤ 64 = few_items kind [] items tt are.right (omega arith) in
+    let few : count_items kind items ≤ most_of kind = few_items kind [] items tt are.right (omega arith) in
     omega (arith, ap (count_in kind) are.are, counted kind [] items are.right, few)
 
 found_few : (value : List ℕ) (found : Option Rule) (name : Option OptionName) → RuleIn value found name → length (option_to_list found) ≤ (if is_of kind.Rule name then 1 else 0)
@@ -281,10 +291,11 @@ within_by low high name each (Some value) (Some n) is = each value n is
 
 says_within : (words : List (List ℕ)) (items : List Item) (given : Options) → Says words items given → AreWithin given
 says_within words items given says = record {
-  port = within_by 1 65535 option.Port (positive_within 5 65535) (value_in (codes "--port") items) given.port says.port;
-  jobs = within_by 1 16 option.Jobs (positive_within 2 16) (value_in (codes "--jobs") items) given.jobs says.jobs;
-  serve = within_by 1 100000 option.Serve (positive_within 6 100000) (value_in (codes "--serve") items) given.serve says.serve;
-  cache = within_by 1 128 option.Cache (positive_within 3 128) (value_in (codes "--cache") items) given.cache says.cache;
+  port = within_by 1 port_max option.Port (positive_within 5 port_max) (value_in (codes "--port") items) given.port says.port;
+  jobs = within_by 1 workers_max option.Jobs (positive_within 2 workers_max) (value_in (codes "--jobs") items) given.jobs says.jobs;
+  serve = within_by 1 connections_max option.Serve (positive_within 6 connections_max)
+      (value_in (codes "--serve") items) given.serve says.serve;
+  cache = within_by 1 cache_max option.Cache (positive_within 3 cache_max) (value_in (codes "--cache") items) given.cache says.cache;
 }
 
 served_within : (words : List (List ℕ)) (given : Options) (read : Result Options ℕ) → Reads words read → Ok (Serve given) ≡ served read → AreWithin given

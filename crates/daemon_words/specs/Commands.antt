@@ -1,5 +1,6 @@
 -- What the words of `farmd` ask for.
 use Rattle.std.specs.Prelude.{◌≡◌, ℕ, ◌+◌, ◌==◌, Bool, false, List, [], ◌∷◌, length, codes, bytes_eq, Option, Some, None, unwrap_or, Result, Ok, Err, if◌then◌else◌}
+use Rattle.farm_types.specs.Limits.{port_default, workers_default}
 use Rattle.daemon_words.specs.declared.options.Options.{Options}
 use Rattle.daemon_words.specs.declared.command.Command.{Command}
 use Rattle.daemon_words.specs.declared.command.Command.TheVariants.{Help, Version, Serve}
@@ -50,5 +51,9 @@ BadAt words place = ReadWords words (Err place)
 
 -- where the doors are; where `farmd` isn't to serve, there are none
 abbrev pub place_of : Command → DoorPlace
-place_of (Serve options) = record { addr = unwrap_or options.listen 0; port = unwrap_or options.port 3632; doors = unwrap_or options.jobs 4 }
-place_of _ = record { addr = 0; port = 3632; doors = 0 }
+place_of (Serve options) = record {
+  addr = unwrap_or options.listen 0;
+  port = unwrap_or options.port port_default;
+  doors = unwrap_or options.jobs workers_default;
+}
+place_of _ = record { addr = 0; port = port_default; doors = 0 }

@@ -2,7 +2,7 @@
 use Rattle.std.specs.Prelude.{◌≡◌, ℕ, ◌+◌, ◌*◌, ◌<◌, ◌≤◌, ◌==◌, ◌||◌, ◌&&◌, Bool, true, false, List, [], ◌∷◌, length, take, drop, codes, bytes_eq, Option, Some, None, Result, Ok, Err, if◌then◌else◌}
 use Rattle.std.specs.List.{position_or_len}
 use Rattle.farm_types.specs.Decimals.{IsPlainDecimal}
-use Rattle.farm_types.specs.Limits.{workers_max, connections_max}
+use Rattle.farm_types.specs.Limits.{workers_max, connections_max, cache_max, compilers_max, port_max, rules_max}
 use Rattle.option_words.specs.declared.table.Row.{Row}
 use Rattle.option_words.specs.Items.{Item, value_in}
 use Rattle.option_words.specs.Tables.{Table}
@@ -71,21 +71,21 @@ named_in (word ∷ value ∷ more) name = (bytes_eq word (codes "--compiler") &&
 pub record AddsRule (allow : Bool) (before : List (List ℕ)) (value : List ℕ) : Type 0 where
   pub rule : Rule
   pub says : RuleOf allow value rule
-  pub room : count_in kind.Rule before < 64
+  pub room : count_in kind.Rule before < rules_max
 
 -- one compiler more, of another name than those before
 pub record AddsCompiler (before : List (List ℕ)) (value : List ℕ) : Type 0 where
   pub compiler : IsCompiler value
   pub other : named_in before (name_in value) ≡ false
-  pub room : count_in kind.Compiler before < 64
+  pub room : count_in kind.Compiler before < compilers_max
 
 -- the number that the value of an option spells
 abbrev pub IsSpelled : OptionName → List ℕ → ℕ → Type 0
-IsSpelled option.Port value n = IsPlainDecimal 5 1 65535 value n
+IsSpelled option.Port value n = IsPlainDecimal 5 1 port_max value n
 IsSpelled option.Listen value n = IsAddress value n
 IsSpelled option.Jobs value n = IsPlainDecimal 2 1 workers_max value n
 IsSpelled option.Serve value n = IsPlainDecimal 6 1 connections_max value n
-IsSpelled option.Cache value n = IsPlainDecimal 3 1 128 value n
+IsSpelled option.Cache value n = IsPlainDecimal 3 1 cache_max value n
 IsSpelled _ value n = ⊥
 
 -- a word may be the value of this option, behind these words
@@ -132,10 +132,10 @@ IsWithin low high (Some n) = (low ≤ n) × (n ≤ high)
 
 -- the numbers that are given are within their limits
 pub record AreWithin (options : Options) : Type 0 where
-  pub port : IsWithin 1 65535 options.port
+  pub port : IsWithin 1 port_max options.port
   pub jobs : IsWithin 1 workers_max options.jobs
   pub serve : IsWithin 1 connections_max options.serve
-  pub cache : IsWithin 1 128 options.cache
+  pub cache : IsWithin 1 cache_max options.cache
 
 -- the bytes of a number of MiB
 abbrev pub mebibytes : Option ℕ → Option ℕ

@@ -7,6 +7,7 @@ ghost use Rattle.daemon_words.specs.Commands.{BadAt, IsCommand, ReadWords};
 
 use crate::options::Options;
 use crate::reading::read_options;
+use farm_types::limits::PORT_DEFAULT;
 
 /// What `farmd` is to do.
 #[derive(Clone, Copy, Debug, PartialEq, Eq)]
@@ -111,7 +112,7 @@ impl Command {
         match self {
             Command::Help | Command::Version => DoorPlace {
                 addr: 0,
-                port: 3632,
+                port: PORT_DEFAULT,
                 doors: 0,
             },
             Command::Serve(options) => DoorPlace {

@@ -1,15 +1,11 @@
 //! What the options say.
 
 ghost use Rattle.std.specs.Prelude.{◌≡◌, unwrap_or};
-ghost use Rattle.farm_types.specs.Limits.{connections_max};
+ghost use Rattle.farm_types.specs.Limits.{connections_max, port_default, workers_default};
 ghost use Rattle.daemon_words.specs.Options.{book_bound};
 
-use farm_types::limits::CONNECTIONS_MAX;
+use farm_types::limits::{CONNECTIONS_MAX, PORT_DEFAULT, WORKERS_DEFAULT};
 
-/// The port where none is given.
-const PORT: u16 = 3632;
-/// The number of doors where none is given.
-const JOBS: u8 = 4;
 /// The bytes of one MiB.
 const MEBIBYTE: u64 = 1_048_576;
 
@@ -33,9 +29,9 @@ pub struct Options {
 impl Options {
     /// The port: 3632 where none is given.
     pub fn port(&self) -> u16
-        ensures { result ≡ unwrap_or self.now.port 3632 }
+        ensures { result ≡ unwrap_or self.now.port port_default }
     {
-        self.port.unwrap_or(PORT)
+        self.port.unwrap_or(PORT_DEFAULT)
     }
 
     /// The address: 0.0.0.0 where none is given.
@@ -47,9 +43,9 @@ impl Options {
 
     /// The number of doors: 4 where none is given.
     pub fn jobs(&self) -> u8
-        ensures { result ≡ unwrap_or self.now.jobs 4 }
+        ensures { result ≡ unwrap_or self.now.jobs workers_default }
     {
-        self.jobs.unwrap_or(JOBS)
+        self.jobs.unwrap_or(WORKERS_DEFAULT as u8)
     }
 
     /// The number of connections of each door: 100,000 where none is given.

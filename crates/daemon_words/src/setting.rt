@@ -8,11 +8,10 @@ ghost use Rattle.daemon_words.specs.Options.{AddsCompiler, AddsRule, IsCompiler,
 
 use crate::name::{Kind, OptionName, parse_option};
 use access_list::{parse_rule, place_of, read_address};
-use farm_types::limits::{CONNECTIONS_MAX, WORKERS_MAX};
+use farm_types::limits::{
+    CACHE_MAX, COMPILERS_MAX, CONNECTIONS_MAX, PORT_MAX, RULES_MAX, WORKERS_MAX,
+};
 use farm_types::read_plain_decimal;
-
-/// The most compilers, and the most rules.
-const MOST: usize = 64;
 
 /// The name of a compiler: what stands before the first `=`.
 pub(crate) fn name_in(value: &[u8]) -> &[u8]
@@ -72,7 +71,7 @@ fn adds_compiler(before: &[String], value: &[u8]) -> bool
     ensures yes { result ≡ true → AddsCompiler (map string_bytes before.now) value.now }
     ensures no { result ≡ false → AddsCompiler (map string_bytes before.now) value.now → ⊥ }
 {
-    if MOST <= count_in(Kind::Compiler, before) || !is_compiler(value) {
+    if COMPILERS_MAX <= count_in(Kind::Compiler, before) || !is_compiler(value) {
         return false;
     }
     !is_named(before, name_in(value))
@@ -83,7 +82,7 @@ fn adds_rule(before: &[String], allow: bool, value: &[u8]) -> bool
     ensures yes { result ≡ true → AddsRule allow (map string_bytes before.now) value.now }
     ensures no { result ≡ false → AddsRule allow (map string_bytes before.now) value.now → ⊥ }
 {
-    if MOST <= count_in(Kind::Rule, before) {
+    if RULES_MAX <= count_in(Kind::Rule, before) {
         return false;
     }
     parse_rule(allow, value).is_ok()
@@ -94,7 +93,7 @@ pub(crate) fn read_port(value: &[u8]) -> Option<u16>
     ensures found { IfSome result (IsSpelled names.Port value.now) }
     ensures none { IfNone result ((n : ℕ) → IsSpelled names.Port value.now n → ⊥) }
 {
-    match read_plain_decimal(value, 5, 1, 65_535) {
+    match read_plain_decimal(value, 5, 1, PORT_MAX) {
         Some(port) => Some(port as u16),
         None => None,
     }
@@ -140,7 +139,7 @@ pub(crate) fn read_cache(value: &[u8]) -> Option<u8>
     ensures found { IfSome result (IsSpelled names.Cache value.now) }
     ensures none { IfNone result ((n : ℕ) → IsSpelled names.Cache value.now n → ⊥) }
 {
-    match read_plain_decimal(value, 3, 1, 128) {
+    match read_plain_decimal(value, 3, 1, CACHE_MAX) {
         Some(mebibytes) => Some(mebibytes as u8),
         None => None,
     }

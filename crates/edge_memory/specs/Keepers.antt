@@ -9,7 +9,7 @@ use Rattle.edge_traits.specs.declared.faults.FetchFault.TheVariants.{Failed, Abs
 use Rattle.edge_traits.specs.Told.{told}
 use Rattle.file_map.specs.FileMaps.{Files}
 use Rattle.edge_traits.specs.FileMaps.{files_after}
-use Rattle.edge_traits.specs.Keepers.{PendingPut, KeeperView, HasLength, put_entries, fetch_entries}
+use Rattle.edge_traits.specs.Keepers.{PendingPut, KeeperView, HasLength, put_entries, fetch_entries, overruns_after}
 use Rattle.edge_memory.specs.declared.keeper.MemKeeper.{MemKeeper}
 use Rattle.edge_traits.specs.Calls.{names_next, one_more, failed_calls}
 
@@ -90,14 +90,6 @@ IsFetchAnswer keeper path bound (Err Failed) = names_next keeper.fails keeper.ma
 IsFetchAnswer keeper path bound (Err Absent) = (names_next keeper.fails keeper.made ≡ false) × (get keeper.files path ≡ None)
 IsFetchAnswer keeper path bound (Err (TooMuch bytes)) = (names_next keeper.fails keeper.made ≡ false) × HasLength keeper.files path bytes × (bound < bytes)
 IsFetchAnswer keeper path bound (Err Memory) = (names_next keeper.fails keeper.made ≡ false) × (bytes : List ℕ) × IsHeld keeper path bound bytes
-
--- the overruns after a fetch: one more for a file that isn't there or is above the bound
-abbrev pub overruns_after : ℕ → Result (List ℕ) FetchFault → ℕ
-overruns_after overruns (Ok bytes) = overruns
-overruns_after overruns (Err Failed) = overruns
-overruns_after overruns (Err Absent) = one_more overruns
-overruns_after overruns (Err (TooMuch bytes)) = one_more overruns
-overruns_after overruns (Err Memory) = overruns
 
 abbrev pub after_fetch : KeeperState → List ℕ → Result (List ℕ) FetchFault → KeeperState
 after_fetch keeper path result = record keeper {

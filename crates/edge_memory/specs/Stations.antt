@@ -10,7 +10,7 @@ use Rattle.edge_traits.specs.declared.faults.Stream.TheVariants.{Out, Err as Err
 use Rattle.edge_traits.specs.declared.faults.StationFault.{StationFault}
 use Rattle.edge_traits.specs.declared.faults.StationFault.TheVariants.{Failed, TooMuch, Memory}
 use Rattle.edge_traits.specs.Told.{told}
-use Rattle.edge_traits.specs.Stations.{StationView, has_output, run_entries}
+use Rattle.edge_traits.specs.Stations.{StationView, has_output, run_entries, overruns_after}
 use Rattle.edge_memory.specs.declared.station.MemStation.{MemStation}
 use Rattle.edge_traits.specs.Calls.{names_next, one_more, failed_calls}
 use Rattle.edge_memory.specs.Scripts.{first_or}
@@ -59,13 +59,6 @@ rans_after rans (Ok ran) = drop 1 rans
 rans_after rans (Err Failed) = rans
 rans_after rans (Err (TooMuch stream bytes)) = drop 1 rans
 rans_after rans (Err Memory) = rans
-
--- the overruns after a run: one more for a run above its bound
-abbrev pub overruns_after : ℕ → Result Ran StationFault → ℕ
-overruns_after overruns (Ok ran) = overruns
-overruns_after overruns (Err Failed) = overruns
-overruns_after overruns (Err (TooMuch stream bytes)) = one_more overruns
-overruns_after overruns (Err Memory) = overruns
 
 abbrev pub after_run : StationState → List Word → List ℕ → Result Ran StationFault → StationState
 after_run station words input result = record station {

@@ -5,6 +5,7 @@ use Rattle.edge_traits.specs.declared.entries.Put.{Put}
 use Rattle.edge_traits.specs.declared.entries.Fetch.{Fetch}
 use Rattle.edge_traits.specs.declared.faults.FetchFault.{FetchFault}
 use Rattle.edge_traits.specs.declared.faults.FetchFault.TheVariants.{Failed, Absent, TooMuch, Memory}
+use Rattle.edge_traits.specs.Calls.{one_more}
 use Rattle.edge_traits.specs.Told.{Told}
 use Rattle.edge_traits.specs.Causes.{Rose, Still}
 use Rattle.file_map.specs.FileMaps.{Files}
@@ -85,3 +86,11 @@ FetchCause path bound old now Memory = KeeperStill old now
 abbrev pub fetch_entries : {E : Type 0} → List ℕ → Result (List ℕ) E → List Fetch
 fetch_entries path (Ok bytes) = record { path = path; bytes = bytes } ∷ []
 fetch_entries path (Err fault) = []
+
+-- the overruns after a fetch or a load: one more for a file that isn't there or is above the bound, counted up to the greatest u64
+abbrev pub overruns_after : ℕ → Result (List ℕ) FetchFault → ℕ
+overruns_after overruns (Ok bytes) = overruns
+overruns_after overruns (Err Failed) = overruns
+overruns_after overruns (Err Absent) = one_more overruns
+overruns_after overruns (Err (TooMuch bytes)) = one_more overruns
+overruns_after overruns (Err Memory) = overruns

@@ -1,6 +1,7 @@
 -- What a station tells, and what a run does to it.
 use Rattle.std.specs.Prelude.{ℕ, ◌<◌, ◌≤◌, Bool, true, false, List, [], ◌∷◌, length, Result, Ok, Err}
 use Rattle.std.specs.List.{list_any}
+use Rattle.farm_types.specs.Limits.{object_max, child_err_max, compile_out_max}
 use Rattle.farm_types.specs.declared.ran.Ran.{Ran}
 use Rattle.farm_types.specs.declared.placed.Word.{Word}
 use Rattle.farm_types.specs.declared.placed.Word.TheVariants.{Text, Input, Output}
@@ -10,6 +11,7 @@ use Rattle.edge_traits.specs.declared.faults.Stream.TheVariants.{Out, Err as Err
 use Rattle.edge_traits.specs.declared.faults.StationFault.{StationFault}
 use Rattle.edge_traits.specs.declared.faults.StationFault.TheVariants.{Failed, TooMuch, Memory}
 use Rattle.edge_traits.specs.declared.entries.Run.{Run}
+use Rattle.edge_traits.specs.Calls.{one_more}
 use Rattle.edge_traits.specs.Told.{Told}
 use Rattle.edge_traits.specs.Causes.{Rose, Still}
 
@@ -44,6 +46,10 @@ bound_of bounds Out = bounds.out
 bound_of bounds ErrStream = bounds.err
 bound_of bounds Object = bounds.object
 
+-- the most bytes of what a compile gives
+abbrev pub compile_bounds : Bounds
+compile_bounds = record { out = compile_out_max; err = child_err_max; object = object_max }
+
 -- neither the faults nor the overruns rose
 pub record StationStill (old new : StationView) : Type 0 where
   pub faults : Still old.faults new.faults
@@ -60,3 +66,10 @@ abbrev pub RunFault : Bounds → StationView → StationView → StationFault �
 RunFault bounds old new Failed = Rose old.faults new.faults
 RunFault bounds old new (TooMuch stream bytes) = IsTooMuch bounds stream bytes old new
 RunFault bounds old new Memory = StationStill old new
+
+-- the overruns after a run: one more for a run that gave too much, counted up to the greatest u64
+abbrev pub overruns_after : ℕ → Result Ran StationFault → ℕ
+overruns_after overruns (Ok ran) = overruns
+overruns_after overruns (Err Failed) = overruns
+overruns_after overruns (Err (TooMuch stream bytes)) = one_more overruns
+overruns_after overruns (Err Memory) = overruns

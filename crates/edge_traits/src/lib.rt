@@ -24,7 +24,7 @@ pub use clock::Clock;
 pub use dialer::Dialer;
 pub use door::Door;
 pub use entries::{Exchange, Fetch, Put, Run, Visit};
-pub use faults::{Bounds, EdgeFault, FetchFault, StationFault, Stream};
+pub use faults::{Bounds, COMPILE_BOUNDS, EdgeFault, FetchFault, StationFault, Stream};
 pub use file_map::FileMap as FileList;
 pub use keeper::Keeper;
 pub use kit::Kit;

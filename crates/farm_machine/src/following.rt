@@ -1,6 +1,7 @@
 // Whether a call follows others in the reports.
 ghost use Rattle.std.specs.Prelude.{◌≡◌, ◌↔◌, ◌+◌, ◌^◌, ◌<◌, ◌≤◌, ◌||◌, List, ◌∷◌, Some, IsTrue, IsFalse, slice_get};
 ghost use Rattle.std.specs.Option.{option_map};
+ghost use Rattle.slot_table.specs.Mask.{mask_bits};
 ghost use Rattle.farm_machine.specs.declared.reports.Event.{Event as EventData};
 ghost use Rattle.farm_machine.specs.Acts.{SlotEvent, Act, took, next_met};
 ghost use Rattle.farm_machine.specs.Checking.{event_of, behind, is_awaited};
@@ -67,7 +68,7 @@ fn took(before: &[CallEntry], job: u32, host: u32) -> bool
 
 /// Whether the mask is the one that a take of the job has after these calls: of all entries but those that the job took before.
 fn is_wanted(limits: &Limits<16>, before: &[CallEntry], job: u32, mask: Mask) -> bool
-    requires { limits.now.count ≤ 64 }
+    requires { limits.now.count ≤ mask_bits }
     ensures { (r : Reports) → wanted limits.now ((last_progress (no_progress r) before.now).past job) mask ≡ result }
 {
     for host in 0..limits.count {
@@ -87,7 +88,7 @@ fn may_ask(
     job: u32,
     mask: Option<Mask>,
 ) -> bool
-    requires { limits.now.count ≤ 64 }
+    requires { limits.now.count ≤ mask_bits }
     ensures { (r : Reports) → IsTrue result ↔ ((last_progress (no_progress r) before.now).current caller ≡ Some job) × MaskIs mask (wanted limits.now ((last_progress (no_progress r) before.now).past job)) }
 {
     current_job(before, caller) == Some(job)
@@ -199,7 +200,7 @@ pub(crate) fn follows(
     before: &[CallEntry],
     entry: &CallEntry,
 ) -> bool
-    requires { limits.now.count ≤ 64 }
+    requires { limits.now.count ≤ mask_bits }
     ensures { IsTrue result ↔ Follows (unread reports.now) (wanted limits.now) (last_progress (no_progress (unread reports.now)) before.now) entry.now.caller (job_call_of entry.now) }
 {
     match kind_of(entry) {

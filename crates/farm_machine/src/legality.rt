@@ -5,6 +5,7 @@ ghost use Rattle.slot_table.specs.History.{Holding, holding, has, change, outsta
 ghost use Rattle.farm_machine.specs.Farm.{times};
 ghost use Rattle.farm_machine.specs.Checking.{is_taken, is_given, IsStepped};
 
+use farm_types::limits::HOSTS_MAX;
 use slot_table::{CallEntry, Limits, SlotCall, SlotReply, Slots};
 
 /// Whether the call takes such a slot for the job: of the host's entry, or a local one where there is no host.
@@ -73,7 +74,7 @@ fn is_out(before: &[CallEntry], caller: u32, job: u32, host: Option<u32>) -> boo
 fn is_local(limits: &Limits<16>, host: u32) -> bool
     ensures { result ≡ is_local limits.now host }
 {
-    host < 16 && limits.local[host as usize]
+    host < HOSTS_MAX as u32 && limits.local[host as usize]
 }
 
 /// Whether the caller may make the call after these: what it gives back is out to it, and no local entry is left alone.

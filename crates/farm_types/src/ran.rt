@@ -19,8 +19,8 @@ pub struct Outcome {
 }
 
 impl Outcome {
-    /// Whether the outcome is within the limits: at most 1,048,576 bytes on each stream and an object of
-    /// at most 33,554,432 bytes, which is empty beside a nonzero status. It takes no memory.
+    /// Whether the outcome is within the limits: at most `MESSAGES_MAX` bytes on each stream and an
+    /// object of at most `OBJECT_MAX`, which is empty beside a nonzero status. It takes no memory.
     pub fn fits(&self) -> bool
         ensures { IsTrue result ↔ OutcomeFits self.now.status self.now.err self.now.out self.now.object }
     {

@@ -18,8 +18,8 @@ pub struct Request {
 }
 
 impl Request {
-    /// Whether the request is within the limits: 1 to 1,024 words of at most 65,536 bytes each and
-    /// 1,048,576 bytes together, and a source of at most 33,554,432 bytes. It takes no memory.
+    /// Whether the request is within the limits: 1 to `WORDS_MAX` words of at most `WORD_MAX` bytes
+    /// each and `WORDS_BYTES_MAX` together, and a source of at most `SOURCE_MAX`. It takes no memory.
     pub fn fits(&self) -> bool
         ensures { IsTrue result ↔ RequestFits self.now.words self.now.source }
     {

@@ -4,13 +4,13 @@ use Rattle.std.specs.Prelude.{unwrap_or, ◌==◌, if◌then◌else◌, MatchBoo
 use Rattle.std.specs.Option.{option_and_then}
 use Rattle.farm_types.proofs.DecimalLemmas.{decimal-within}
 use Rattle.farm_types.specs.Decimals.{decimal_of}
-use Rattle.farm_types.specs.Limits.{workers_max, jobs_max, lines_max}
+use Rattle.farm_types.specs.Limits.{workers_max, workers_default, jobs_max, lines_max}
 use Rattle.farm_words.specs.declared.name.CommandName.{CommandName}
 use Rattle.farm_words.specs.declared.name.CommandName.TheVariants as name
 use Rattle.farm_words.specs.declared.name.FirstWord.{FirstWord}
 use Rattle.farm_words.specs.declared.name.FirstWord.TheVariants as first
 use Rattle.farm_words.specs.declared.name.OptionName.TheVariants as option
-use Rattle.farm_words.specs.Limits.{count_digits, tries_digits, tries_max}
+use Rattle.farm_words.specs.Limits.{count_digits, tries_digits, tries_max, tries_default, lines_default}
 use Rattle.farm_words.specs.Numbers.{jobs_number}
 use Rattle.farm_words.specs.Commands.{Meaning, Cc, Scan, Rehearse, Help, Version, IsCommand, ByFirstWord, NamedCommand, asks_help, at_most, counted, rehearse_words}
 use Rattle.farm_words.specs.Options.{given_by}
@@ -29,11 +29,12 @@ within-or digits greatest default (Some word) known = go (decimal_of digits 1 gr
 
 items-within : (items : List Item) → AreWithin (given_by items)
 items-within items = record {
-  some_workers = (within-or count_digits workers_max 4 (value_in (option_text option.Workers) items) (omega arith, omega arith)).0;
-  some_tries = (within-or tries_digits tries_max 1 (value_in (option_text option.Tries) items) (omega arith, omega arith)).0;
-  most_tries = (within-or tries_digits tries_max 1 (value_in (option_text option.Tries) items) (omega arith, omega arith)).1;
-  some_lines = (within-or count_digits lines_max 10 (value_in (option_text option.Lines) items) (omega arith, omega arith)).0;
-  most_lines = (within-or count_digits lines_max 10 (value_in (option_text option.Lines) items) (omega arith, omega arith)).1;
+  some_workers =
+      (within-or count_digits workers_max workers_default (value_in (option_text option.Workers) items) (omega arith, omega arith)).0;
+  some_tries = (within-or tries_digits tries_max tries_default (value_in (option_text option.Tries) items) (omega arith, omega arith)).0;
+  most_tries = (within-or tries_digits tries_max tries_default (value_in (option_text option.Tries) items) (omega arith, omega arith)).1;
+  some_lines = (within-or count_digits lines_max lines_default (value_in (option_text option.Lines) items) (omega arith, omega arith)).0;
+  most_lines = (within-or count_digits lines_max lines_default (value_in (option_text option.Lines) items) (omega arith, omega arith)).1;
 }
 
 abbrev ResultWithin : Result Meaning ℕ → Type 0

@@ -2,6 +2,7 @@
 use Rattle.std.proofs.Common.{◌≡◌, ℕ, ◌+◌, ◌≤◌, List, [], ◌∷◌, ◌++◌, length, refl, ap, subst, inl, inr, ⊎_elim, arith}
 use Rattle.std.specs.Prelude.{◌⊎◌}
 use Rattle.std.proofs.lemmas.Bool.{cases_lt}
+use Rattle.farm_types.specs.Limits.{hosts_max}
 use Rattle.farm_types.specs.declared.hosts.Hosts.{Hosts}
 use Rattle.host_list.specs.declared.meaning.Meaning.{Meaning}
 use Rattle.host_list.specs.declared.meaning.Meaning.TheVariants.{Entry, LocalSlots, LocalCpp, Randomize}
@@ -17,7 +18,7 @@ use Rattle.host_list.proofs.EveryWord.{every_word}
 record AllRight (count : ℕ) (words : List TextWord) : Type 0 where
   meanings : List Meaning
   each : HostWords words meanings
-  few : count + length (hosts_in meanings) ≤ 16
+  few : count + length (hosts_in meanings) ≤ hosts_max
 
 -- behind this many entries one of these words is the first that isn't right
 record OneWrong (count : ℕ) (words : List TextWord) : Type 0 where
@@ -29,7 +30,7 @@ record OneWrong (count : ℕ) (words : List TextWord) : Type 0 where
   fault : HostFault
   split : words ≡ before ++ word ∷ after
   right : HostWords before meanings
-  few : count + length (hosts_in meanings) ≤ 16
+  few : count + length (hosts_in meanings) ≤ hosts_max
   wrong : IsWrongWord (count + length (hosts_in meanings)) word at fault
 
 -- all are right, or one is wrong
@@ -39,7 +40,8 @@ AreRead count words = AllRight count words ⊎ OneWrong count words
 nothing_more : (count : ℕ) → count ≡ count + 0
 nothing_more count = omega arith
 
-wrong_first : (count : ℕ) (w : TextWord) (ws : List TextWord) (at : ℕ) (fault : HostFault) → count ≤ 16 → IsWrongWord count w at fault → AreRead count (w ∷ ws)
+wrong_first : (count : ℕ) (w : TextWord) (ws : List TextWord) (at : ℕ) (fault : HostFault) → count ≤ hosts_max
+    → IsWrongWord count w at fault → AreRead count (w ∷ ws)
 wrong_first count w ws at fault few wrong = inr (record {
   before = [];
   word = w;
@@ -73,16 +75,17 @@ right_first count next w ws m here same (inr one) = inr (record {
   wrong = subst (λ n. IsWrongWord n one.word one.at one.fault) (same one.meanings) one.wrong;
 })
 
-word_first : (count : ℕ) (w : TextWord) (ws : List TextWord) (m : Meaning) → count ≤ 16 → HostWord w.bytes m → ((n : ℕ) → n ≤ 16 → AreRead n ws) → AreRead count (w ∷ ws)
+word_first : (count : ℕ) (w : TextWord) (ws : List TextWord) (m : Meaning) → count ≤ hosts_max → HostWord w.bytes m
+    → ((n : ℕ) → n ≤ hosts_max → AreRead n ws) → AreRead count (w ∷ ws)
 word_first count w ws (Entry host) few here on = ⊎_elim
     (λ more. right_first count (count + 1) w ws (Entry host) here (λ ms. omega arith) (on (count + 1) (omega arith)))
     (λ full. wrong_first count w ws w.at _ few (inr (host, here, omega arith, refl, refl)))
-    (cases_lt count 16)
+    (cases_lt count hosts_max)
 word_first count w ws (LocalSlots n) few here on = right_first count count w ws (LocalSlots n) here (λ ms. refl) (on count few)
 word_first count w ws (LocalCpp n) few here on = right_first count count w ws (LocalCpp n) here (λ ms. refl) (on count few)
 word_first count w ws Randomize few here on = right_first count count w ws Randomize here (λ ms. refl) (on count few)
 
-words_read : (count : ℕ) (ws : List TextWord) → count ≤ 16 → AreRead count ws
+words_read : (count : ℕ) (ws : List TextWord) → count ≤ hosts_max → AreRead count ws
 words_read count [] few = inl (record { meanings = []; each = tt; few = omega arith })
 words_read count (w ∷ ws) few = ⊎_elim
     (λ meant. word_first count w ws meant.0 few meant.1 (λ n small. words_read n ws small))

@@ -8,6 +8,7 @@ use Rattle.std.proofs.lemmas.Bool.Decides.{Decides-eqb}
 use Rattle.std.proofs.lemmas.List.{append_assoc, append-nil, length-append, take-append-drop, drop_at, drop_more, drop_all}
 use Rattle.std.proofs.lemmas.List.Elements.{All-cons, All-nil}
 use Rattle.std.proofs.lemmas.Slice.Eq.{starts_is, bytes_eq-Decides}
+use Rattle.farm_types.specs.Limits.{port_max, slots_max}
 use Rattle.host_list.specs.declared.meaning.Meaning.{Meaning}
 use Rattle.host_list.specs.declared.meaning.Meaning.TheVariants.{Entry, LocalSlots, LocalCpp, Randomize}
 use Rattle.host_list.specs.declared.fault.HostFault.{HostFault}
@@ -90,14 +91,14 @@ module _ (fuel from : ℕ) (behind parts : List ℕ) (s : List ℕ) (number : Sp
   at_port None limit is right = ⊎_elim
       (λ good. on (parts ++ (58 ∷ number.front)) number.rest (Some good.0) limit shorter (grown 58 is) (adds_port good.0 limit parts number.front right good.1) number.ends)
       (λ bad. wrong_there from behind parts None limit c s number BadPort split right (inl (is, inr bad, refl)))
-      (decimal_or_none 5 1 65535 number.front)
+      (decimal_or_none 5 1 port_max number.front)
 
   at_limit : (port limit : Option ℕ) → c ≡ 47 → SpellsParts port limit parts → Behind from behind
   at_limit port (Some old) is right = wrong_there from behind parts port (Some old) c s number BadLimit split right (inr (is, inl refl, refl))
   at_limit port None is right = ⊎_elim
       (λ good. on (parts ++ (47 ∷ number.front)) number.rest port (Some good.0) shorter (grown 47 is) (adds_limit port good.0 parts number.front right good.1) number.ends)
       (λ bad. wrong_there from behind parts port None c s number BadLimit split right (inr (is, inr bad, refl)))
-      (decimal_or_none 3 1 255 number.front)
+      (decimal_or_none 3 1 slots_max number.front)
 
 shorter_rest : (fuel : ℕ) (s : List ℕ) (number : Span s) → suc (length s) ≤ suc fuel → length number.rest ≤ fuel
 shorter_rest fuel s number small = let whole = ap length number.split in let both = length-append number.front number.rest in omega arith
@@ -134,7 +135,7 @@ slots_read option word make means begins =
     ⊎_elim
     (λ good. inl (make good.0, means good.0 (digits, good.1, front)))
     (λ bad. inr (length option, BadLimit, (λ n is. bad n (subst (λ d. IsLimit d n) (sym (ap (drop (length option)) is.2 ∙ drop_at option is.0 (length option) refl)) is.1), refl, refl)))
-    (decimal_or_none 3 1 255 digits)
+    (decimal_or_none 3 1 slots_max digits)
 
 option_read : (word : List ℕ) → Read word (OptionFault word)
 option_read word =

@@ -5,6 +5,7 @@ use Rattle.std.specs.Str.{bytes_eq}
 use Rattle.std.proofs.lemmas.Bool.{false≢true, and_parts}
 use Rattle.std.proofs.lemmas.Slice.Eq.{bytes_eq-Decides}
 use Rattle.std.proofs.lemmas.List.Elements.{All-nil, All-cons}
+use Rattle.farm_types.specs.Limits.{hosts_max, port_default, port_max, slots_max}
 use Rattle.farm_types.specs.Decimals.{IsDecimal}
 use Rattle.farm_types.specs.declared.hosts.Host.{Host}
 use Rattle.farm_types.specs.declared.hosts.Hosts.{Hosts}
@@ -23,14 +24,16 @@ InRange most (Some n) = (1 ≤ n) × (n ≤ most)
 number_range : (digits greatest : ℕ) (text : List ℕ) (n : ℕ) → IsDecimal digits 1 greatest text n → (1 ≤ n) × (n ≤ greatest)
 number_range digits greatest text n h = (h.low, h.high)
 
-parts_range : (port limit : Option ℕ) (parts : List ℕ) → SpellsParts port limit parts → InRange 65535 port × InRange 255 limit
+parts_range : (port limit : Option ℕ) (parts : List ℕ) → SpellsParts port limit parts → InRange port_max port × InRange slots_max limit
 parts_range None None parts h = (tt, tt)
-parts_range (Some port) None parts h = (number_range 5 65535 h.0 port h.1, tt)
-parts_range None (Some limit) parts h = (tt, number_range 3 255 h.0 limit h.1)
-parts_range (Some port) (Some limit) parts (first, second, e, inl pl) = (number_range 5 65535 pl.0.0 port pl.0.1, number_range 3 255 pl.1.0 limit pl.1.1)
-parts_range (Some port) (Some limit) parts (first, second, e, inr lp) = (number_range 5 65535 lp.1.0 port lp.1.1, number_range 3 255 lp.0.0 limit lp.0.1)
+parts_range (Some port) None parts h = (number_range 5 port_max h.0 port h.1, tt)
+parts_range None (Some limit) parts h = (tt, number_range 3 slots_max h.0 limit h.1)
+parts_range (Some port) (Some limit) parts (first, second, e, inl pl) =
+    (number_range 5 port_max pl.0.0 port pl.0.1, number_range 3 slots_max pl.1.0 limit pl.1.1)
+parts_range (Some port) (Some limit) parts (first, second, e, inr lp) =
+    (number_range 5 port_max lp.1.0 port lp.1.1, number_range 3 slots_max lp.0.0 limit lp.0.1)
 
-default_limit : (b : Bool) → (1 ≤ cond b 2 4) × (cond b 2 4 ≤ 255)
+default_limit : (b : Bool) → (1 ≤ cond b 2 4) × (cond b 2 4 ≤ slots_max)
 default_limit true = (omega arith, omega arith)
 default_limit false = (omega arith, omega arith)
 
@@ -38,15 +41,17 @@ local_name : (name : List ℕ) (port : Option ℕ) → names_this_machine name p
 local_name name None h = let two = and_parts (bytes_eq name (codes "localhost")) true h in ((bytes_eq-Decides name (codes "localhost")).0 two.0, refl)
 local_name name (Some port) h = let two = and_parts (bytes_eq name (codes "localhost")) false h in absurd (false≢true two.1)
 
-port_of : (port : Option ℕ) → InRange 65535 port → (1 ≤ unwrap_or port 3632) × (unwrap_or port 3632 ≤ 65535)
+port_of : (port : Option ℕ) → InRange port_max port → (1 ≤ unwrap_or port port_default) × (unwrap_or port port_default ≤ port_max)
 port_of None h = (omega arith, omega arith)
 port_of (Some port) h = h
 
-limit_of : (name : List ℕ) (port limit : Option ℕ) → InRange 255 limit → (1 ≤ (host_of name port limit).limit) × ((host_of name port limit).limit ≤ 255)
+limit_of : (name : List ℕ) (port limit : Option ℕ) → InRange slots_max limit
+    → (1 ≤ (host_of name port limit).limit) × ((host_of name port limit).limit ≤ slots_max)
 limit_of name port None h = default_limit (names_this_machine name port)
 limit_of name port (Some limit) h = h
 
-made : (name : List ℕ) (port limit : Option ℕ) → IsHostName name → InRange 65535 port → InRange 255 limit → IsHost (host_of name port limit)
+made : (name : List ℕ) (port limit : Option ℕ) → IsHostName name → InRange port_max port → InRange slots_max limit
+    → IsHost (host_of name port limit)
 made name port limit named p l =
     let ports = port_of port p in
     let limits = limit_of name port limit l in
@@ -56,7 +61,7 @@ made name port limit named p l =
       port_high = ports.1;
       limit_low = limits.0;
       limit_high = limits.1;
-      here = λ local. let is = local_name name port local in (is.0, ap (λ o. unwrap_or o 3632) is.1);
+      here = λ local. let is = local_name name port local in (is.0, ap (λ o. unwrap_or o port_default) is.1);
     }
 
 host_within : (word : List ℕ) (host : Host) → SpellsHost word host → IsHost host
@@ -71,7 +76,8 @@ entries_within (w ∷ ws) (LocalSlots n ∷ ms) h = entries_within ws ms h.1
 entries_within (w ∷ ws) (LocalCpp n ∷ ms) h = entries_within ws ms h.1
 entries_within (w ∷ ws) (Randomize ∷ ms) h = entries_within ws ms h.1
 
-slots_within : (slots : ℕ) (ws : List TextWord) (ms : List Meaning) → 1 ≤ slots → slots ≤ 255 → HostWords ws ms → (1 ≤ last_slots slots ms) × (last_slots slots ms ≤ 255)
+slots_within : (slots : ℕ) (ws : List TextWord) (ms : List Meaning) → 1 ≤ slots → slots ≤ slots_max → HostWords ws ms
+    → (1 ≤ last_slots slots ms) × (last_slots slots ms ≤ slots_max)
 slots_within slots [] [] low high h = (low, high)
 slots_within slots [] (m ∷ ms) low high h = absurd h
 slots_within slots (w ∷ ws) [] low high h = absurd h
@@ -80,7 +86,8 @@ slots_within slots (w ∷ ws) (LocalSlots n ∷ ms) low high h = slots_within n 
 slots_within slots (w ∷ ws) (LocalCpp n ∷ ms) low high h = slots_within slots ws ms low high h.1
 slots_within slots (w ∷ ws) (Randomize ∷ ms) low high h = slots_within slots ws ms low high h.1
 
-cpp_within : (slots : ℕ) (ws : List TextWord) (ms : List Meaning) → 1 ≤ slots → slots ≤ 255 → HostWords ws ms → (1 ≤ last_cpp slots ms) × (last_cpp slots ms ≤ 255)
+cpp_within : (slots : ℕ) (ws : List TextWord) (ms : List Meaning) → 1 ≤ slots → slots ≤ slots_max → HostWords ws ms
+    → (1 ≤ last_cpp slots ms) × (last_cpp slots ms ≤ slots_max)
 cpp_within slots [] [] low high h = (low, high)
 cpp_within slots [] (m ∷ ms) low high h = absurd h
 cpp_within slots (w ∷ ws) [] low high h = absurd h
@@ -89,7 +96,7 @@ cpp_within slots (w ∷ ws) (LocalSlots n ∷ ms) low high h = cpp_within slots 
 cpp_within slots (w ∷ ws) (LocalCpp n ∷ ms) low high h = cpp_within n ws ms h.0.1.low h.0.1.high h.1
 cpp_within slots (w ∷ ws) (Randomize ∷ ms) low high h = cpp_within slots ws ms low high h.1
 
-meant_within : (ws : List TextWord) (ms : List Meaning) → HostWords ws ms → length (hosts_in ms) ≤ 16 → AreHosts (hosts_of ms)
+meant_within : (ws : List TextWord) (ms : List Meaning) → HostWords ws ms → length (hosts_in ms) ≤ hosts_max → AreHosts (hosts_of ms)
 meant_within ws ms h few =
     let slots = slots_within 4 ws ms (omega arith) (omega arith) h in
     let cpp = cpp_within 8 ws ms (omega arith) (omega arith) h in

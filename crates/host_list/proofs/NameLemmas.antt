@@ -7,6 +7,7 @@ use Rattle.std.proofs.lemmas.Bool.Decides.{nat_tests}
 use Rattle.std.proofs.lemmas.List.{get_or-take, length-take-le}
 use Rattle.std.proofs.lemmas.List.Elements.{All-from_get_or}
 use Rattle.std.proofs.lemmas.List.Sums.{prefix_len-le-length, prefix_len_passes}
+use Rattle.farm_types.specs.Limits.{host_name_max}
 use Rattle.host_list.specs.Names.{is_host_name_byte, IsHostName}
 use Rattle.host_list.specs.HostWords.{name_reach, begins_with_name}
 
@@ -16,14 +17,16 @@ some_reach word h = grind (arith, nat_tests)
 no_dash : (word : List ℕ) → 0 < name_reach word → eqb (slice_index word 0) 45 ≡ false
 no_dash word h = ⊎_elim (λ yes. absurd (let none : name_reach word ≡ 0 = rw yes refl in omega arith)) (λ no. no) (cases_Bool (eqb (slice_index word 0) 45))
 
-pub reach_is : (word : List ℕ) → 0 < name_reach word → name_reach word ≡ min 255 (prefix_len is_host_name_byte word)
+pub reach_is : (word : List ℕ) → 0 < name_reach word → name_reach word ≡ min host_name_max (prefix_len is_host_name_byte word)
 reach_is word h = let no = no_dash word h in rw no refl
 
 -- a name doesn't reach behind the word
 pub reach_within : (word : List ℕ) → name_reach word ≤ length word
 reach_within word =
     let low = prefix_len-le-length is_host_name_byte word in
-    ⊎_elim (λ dash. let none : name_reach word ≡ 0 = rw dash refl in omega arith) (λ other. let is : name_reach word ≡ min 255 (prefix_len is_host_name_byte word) = rw other refl in omega arith) (cases_Bool (eqb (slice_index word 0) 45))
+    ⊎_elim (λ dash. let none : name_reach word ≡ 0 = rw dash refl in omega arith)
+    (λ other. let is : name_reach word ≡ min host_name_max (prefix_len is_host_name_byte word) = rw other refl in omega arith)
+    (cases_Bool (eqb (slice_index word 0) 45))
 
 -- what a name reaches to is one
 pub name_front : (word : List ℕ) → begins_with_name word ≡ true → IsHostName (take (name_reach word) word)

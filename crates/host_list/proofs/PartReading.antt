@@ -8,6 +8,7 @@ use Rattle.std.proofs.lemmas.Bool.{false≢true}
 use Rattle.std.proofs.lemmas.Bool.Decides.{nat_tests}
 use Rattle.std.proofs.lemmas.List.{append_assoc, append-nil, length-append}
 use Rattle.std.proofs.lemmas.List.Elements.{All-head, All-tail, All-from_get_or}
+use Rattle.farm_types.specs.Limits.{port_max, slots_max}
 use Rattle.host_list.specs.declared.fault.HostFault.{HostFault}
 use Rattle.host_list.specs.declared.fault.HostFault.TheVariants.{BadPort, BadLimit}
 use Rattle.host_list.specs.Names.{IsPort, IsLimit}
@@ -60,8 +61,8 @@ abbrev pub check : Option ℕ → Option ℕ → ℕ → List (ℕ × List ℕ) 
 check port limit at [] = Ok (port, limit)
 check port limit at (part ∷ parts) =
     cond (part.0 == 58)
-    (add_part port (number_at 5 65535 part.1) (Err (at + 1, BadPort)) (λ n. check (Some n) limit (at + 1 + length part.1) parts))
-    (add_part limit (number_at 3 255 part.1) (Err (at + 1, BadLimit)) (λ n. check port (Some n) (at + 1 + length part.1) parts))
+    (add_part port (number_at 5 port_max part.1) (Err (at + 1, BadPort)) (λ n. check (Some n) limit (at + 1 + length part.1) parts))
+    (add_part limit (number_at 3 slots_max part.1) (Err (at + 1, BadLimit)) (λ n. check port (Some n) (at + 1 + length part.1) parts))
 
 cut_plain : (ds rest : List ℕ) → AllPass plain ds → EndsPart rest → cut (ds ++ rest) ≡ (ds, (cut rest).1)
 cut_plain [] [] h ends = refl
@@ -83,10 +84,10 @@ plain_digits : (cs : List ℕ) → AllDigits 10 cs → AllPass plain cs
 plain_digits cs h = All-from_get_or (λ c. plain c ≡ true) cs 0 (λ k lt. plain_digit (get_or cs k 0) (digit_at cs k lt h))
 
 port_step : (limit : Option ℕ) (at port : ℕ) (digits : List ℕ) (more : List (ℕ × List ℕ)) → IsPort digits port → check None limit at ((58, digits) ∷ more) ≡ check (Some port) limit (at + 1 + length digits) more
-port_step limit at port digits more h = let found = number_found 5 65535 digits port h in rw found refl
+port_step limit at port digits more h = let found = number_found 5 port_max digits port h in rw found refl
 
 limit_step : (port : Option ℕ) (at limit : ℕ) (digits : List ℕ) (more : List (ℕ × List ℕ)) → IsLimit digits limit → check port None at ((47, digits) ∷ more) ≡ check port (Some limit) (at + 1 + length digits) more
-limit_step port at limit digits more h = let found = number_found 3 255 digits limit h in rw found refl
+limit_step port at limit digits more h = let found = number_found 3 slots_max digits limit h in rw found refl
 
 port_then : (limit : Option ℕ) (at port : ℕ) (part more : List ℕ) → SpellsPort part port → EndsPart more → check None limit at (cut (part ++ more)).1 ≡ check (Some port) limit (at + length part) (cut more).1
 port_then limit at port part more h ends =
@@ -137,11 +138,13 @@ parts_right port limit at parts h = ap (λ t. check None None at (cut t).1) (sym
 
 wrong_port : (port limit : Option ℕ) (at : ℕ) (number : List ℕ) (more : List (ℕ × List ℕ)) → IsSome port ⊎ ((n : ℕ) → IsPort number n → ⊥) → check port limit at ((58, number) ∷ more) ≡ Err (at + 1, BadPort)
 wrong_port (Some old) limit at number more h = refl
-wrong_port None limit at number more h = ⊎_elim (λ some. absurd (false≢true some)) (λ none. let no = number_none 5 65535 number none in rw no refl) h
+wrong_port None limit at number more h =
+    ⊎_elim (λ some. absurd (false≢true some)) (λ none. let no = number_none 5 port_max number none in rw no refl) h
 
 wrong_limit : (port limit : Option ℕ) (at : ℕ) (number : List ℕ) (more : List (ℕ × List ℕ)) → IsSome limit ⊎ ((n : ℕ) → IsLimit number n → ⊥) → check port limit at ((47, number) ∷ more) ≡ Err (at + 1, BadLimit)
 wrong_limit port (Some old) at number more h = refl
-wrong_limit port None at number more h = ⊎_elim (λ some. absurd (false≢true some)) (λ none. let no = number_none 3 255 number none in rw no refl) h
+wrong_limit port None at number more h =
+    ⊎_elim (λ some. absurd (false≢true some)) (λ none. let no = number_none 3 slots_max number none in rw no refl) h
 
 check_wrong : (separator : ℕ) (port limit : Option ℕ) (at : ℕ) (number : List ℕ) (fault : HostFault) (more : List (ℕ × List ℕ)) → WrongPart separator port limit number fault → (is_separator separator ≡ true) × (check port limit at ((separator, number) ∷ more) ≡ Err (at + 1, fault))
 check_wrong separator port limit at number fault more h =

@@ -12,6 +12,7 @@ use Rattle.std.proofs.lemmas.Int.Digits.{length-digits_of-le}
 use Rattle.std.specs.Int.Digits.{digits_of}
 use Rattle.std.proofs.lemmas.List.{append_assoc, append-nil, length-map, length-append}
 use Rattle.std.proofs.lemmas.List.Elements.{All-nil, All-cons, All-head, All-tail, All-append, All-weaker, All-from_get_or}
+use Rattle.farm_types.specs.Limits.{port_default, port_max, slots_max}
 use Rattle.farm_types.specs.Decimals.{IsDecimal}
 use Rattle.farm_types.specs.declared.hosts.Host.{Host}
 use Rattle.farm_types.specs.declared.hosts.Hosts.{Hosts}
@@ -46,11 +47,11 @@ number_again k greatest n low high power fits =
       high = high;
     }
 
-port_again : (n : ℕ) → 1 ≤ n → n ≤ 65535 → IsPort (decimal n) n
-port_again n low high = number_again 5 65535 n low high (omega arith) (omega arith)
+port_again : (n : ℕ) → 1 ≤ n → n ≤ port_max → IsPort (decimal n) n
+port_again n low high = number_again 5 port_max n low high (omega arith) (omega arith)
 
-limit_again : (n : ℕ) → 1 ≤ n → n ≤ 255 → IsLimit (decimal n) n
-limit_again n low high = number_again 3 255 n low high (omega arith) (omega arith)
+limit_again : (n : ℕ) → 1 ≤ n → n ≤ slots_max → IsLimit (decimal n) n
+limit_again n low high = number_again 3 slots_max n low high (omega arith) (omega arith)
 
 -- ---- the word of an entry
 
@@ -67,7 +68,7 @@ here_again host h local =
     let name : List ℕ = host.name.text in
     let limit : ℕ = host.limit in
     let at_port : ℕ → Host = λ p. record { name = record { text = name }; port = p; limit = limit; local = host.local } in
-    let at_local : Bool → Host = λ b. record { name = record { text = name }; port = 3632; limit = limit; local = b } in
+    let at_local : Bool → Host = λ b. record { name = record { text = name }; port = port_default; limit = limit; local = b } in
     let alone : names_this_machine name None ≡ true = ap (λ t. names_this_machine t None) is.0 in
     record {
       name = name;

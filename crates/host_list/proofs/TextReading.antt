@@ -3,6 +3,7 @@ use Rattle.std.proofs.Common.{◌≡◌, ℕ, suc, ◌+◌, ◌<◌, ◌≤◌, 
 use Rattle.std.specs.Prelude.{◌==◌}
 use Rattle.std.proofs.lemmas.Bool.Decides.{nat_tests}
 use Rattle.std.proofs.lemmas.List.{append-nil}
+use Rattle.farm_types.specs.Limits.{hosts_max}
 use Rattle.farm_types.specs.declared.hosts.Host.{Host}
 use Rattle.farm_types.specs.declared.hosts.Hosts.{Hosts}
 use Rattle.host_list.specs.declared.meaning.Meaning.{Meaning}
@@ -31,7 +32,7 @@ one_list (w ∷ ws) (m ∷ ms) (n ∷ ns) h k =
 -- the first wrong word behind this many entries
 abbrev first_wrong : ℕ → List TextWord → Option (ℕ × HostFault)
 first_wrong count [] = None
-first_wrong count (w ∷ ws) = after (reading_of w.bytes) w.at (count == 16) (first_wrong count ws) (first_wrong (count + 1) ws)
+first_wrong count (w ∷ ws) = after (reading_of w.bytes) w.at (count == hosts_max) (first_wrong count ws) (first_wrong (count + 1) ws)
   where
     after : Reading → ℕ → Bool → Option (ℕ × HostFault) → Option (ℕ × HostFault) → Option (ℕ × HostFault)
     after (Err wrong) at full same more = Some (at + wrong.0, wrong.1)
@@ -40,10 +41,11 @@ first_wrong count (w ∷ ws) = after (reading_of w.bytes) w.at (count == 16) (fi
     after (Ok (LocalCpp n)) at full same more = same
     after (Ok Randomize) at full same more = same
 
-host_next : (count : ℕ) (w : TextWord) (ws : List TextWord) (host : Host) → HostWord w.bytes (Entry host) → count < 16 → first_wrong count (w ∷ ws) ≡ first_wrong (count + 1) ws
+host_next : (count : ℕ) (w : TextWord) (ws : List TextWord) (host : Host) → HostWord w.bytes (Entry host) → count < hosts_max
+    → first_wrong count (w ∷ ws) ≡ first_wrong (count + 1) ws
 host_next count w ws host h few =
     let is = word_right w.bytes (Entry host) h in
-    let not_full : (count == 16) ≡ false = grind (arith, nat_tests) in
+    let not_full : (count == hosts_max) ≡ false = grind (arith, nat_tests) in
     rw (is, not_full) refl
 
 slots_next : (count : ℕ) (w : TextWord) (ws : List TextWord) (n : ℕ) → HostWord w.bytes (LocalSlots n) → first_wrong count (w ∷ ws) ≡ first_wrong count ws
@@ -56,7 +58,8 @@ randomize_next : (count : ℕ) (w : TextWord) (ws : List TextWord) → HostWord 
 randomize_next count w ws h = let is = word_right w.bytes Randomize h in rw is refl
 
 -- right words are passed over
-passed : (count : ℕ) (before : List TextWord) (ms : List Meaning) (rest : List TextWord) → HostWords before ms → count + length (hosts_in ms) ≤ 16 → first_wrong count (before ++ rest) ≡ first_wrong (count + length (hosts_in ms)) rest
+passed : (count : ℕ) (before : List TextWord) (ms : List Meaning) (rest : List TextWord) → HostWords before ms
+    → count + length (hosts_in ms) ≤ hosts_max → first_wrong count (before ++ rest) ≡ first_wrong (count + length (hosts_in ms)) rest
 passed count [] [] rest h few = let e : count ≡ count + 0 = omega arith in ap (λ n. first_wrong n rest) e
 passed count [] (m ∷ ms) rest h few = absurd h
 passed count (w ∷ ws) [] rest h few = absurd h
@@ -72,10 +75,11 @@ passed count (w ∷ ws) (Randomize ∷ ms) rest h few = randomize_next count w (
 stopped_alone : (count : ℕ) (w : TextWord) (ws : List TextWord) (at place : ℕ) (fault : HostFault) → WordFault w.bytes place fault → at ≡ w.at + place → first_wrong count (w ∷ ws) ≡ Some (at, fault)
 stopped_alone count w ws at place fault h e = let is = word_wrong w.bytes place fault h in rw is (ap (λ a. Some (a, fault)) (sym e))
 
-stopped_full : (count : ℕ) (w : TextWord) (ws : List TextWord) (host : Host) → HostWord w.bytes (Entry host) → count ≡ 16 → first_wrong count (w ∷ ws) ≡ Some (w.at, TooMany)
+stopped_full : (count : ℕ) (w : TextWord) (ws : List TextWord) (host : Host) → HostWord w.bytes (Entry host) → count ≡ hosts_max
+    → first_wrong count (w ∷ ws) ≡ Some (w.at, TooMany)
 stopped_full count w ws host h e =
     let is = word_right w.bytes (Entry host) h in
-    let full : (count == 16) ≡ true = rw e refl in
+    let full : (count == hosts_max) ≡ true = rw e refl in
     rw (is, full) refl
 
 stopped : (count : ℕ) (w : TextWord) (ws : List TextWord) (at : ℕ) (fault : HostFault) → IsWrongWord count w at fault → first_wrong count (w ∷ ws) ≡ Some (at, fault)

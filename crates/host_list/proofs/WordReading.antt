@@ -10,6 +10,7 @@ use Rattle.std.proofs.lemmas.List.{append-nil, drop_at, take_at, get_or_at}
 use Rattle.std.proofs.lemmas.List.Elements.{All-head, All-tail, All-from_get_or, All-append, All-cons, All-nil, All-weaker, All-get_or}
 use Rattle.std.proofs.lemmas.Slice.Eq.{starts_is}
 use Rattle.std.proofs.lemmas.Bool.Decides.{Decides-eqb}
+use Rattle.farm_types.specs.Limits.{host_name_max, port_max, slots_max}
 use Rattle.farm_types.specs.Decimals.{IsDecimal}
 use Rattle.farm_types.specs.declared.hosts.Host.{Host}
 use Rattle.host_list.specs.declared.meaning.Meaning.{Meaning}
@@ -52,8 +53,8 @@ reach_of (c ∷ cs) parts h ends =
     let no_dash = not_dash c h.first in
     let all = prefix_all is_host_name_byte (c ∷ cs) parts h.each (name_stops parts ends) in
     let few = h.few in
-    let least : min 255 (length (c ∷ cs)) ≡ length (c ∷ cs) = omega arith in
-    ap (λ b. cond b 0 (min 255 (prefix_len is_host_name_byte (c ∷ (cs ++ parts))))) no_dash ∙ ap (min 255) all ∙ least
+    let least : min host_name_max (length (c ∷ cs)) ≡ length (c ∷ cs) = omega arith in
+    ap (λ b. cond b 0 (min host_name_max (prefix_len is_host_name_byte (c ∷ (cs ++ parts))))) no_dash ∙ ap (min host_name_max) all ∙ least
 
 or_true : (b : Bool) → (b || true) ≡ true
 or_true true = refl
@@ -90,10 +91,12 @@ digits_host_bytes : (most greatest n : ℕ) (digits : List ℕ) → IsDecimal mo
 digits_host_bytes most greatest n digits h = All-from_get_or (λ c. is_host_byte c ≡ true) digits 0 (λ k lt. digit_host_byte (get_or digits k 0) (digit_at digits k lt h.each))
 
 port_bytes : (part : List ℕ) (port : ℕ) → SpellsPort part port → AllPass is_host_byte part
-port_bytes part port h = subst (AllPass is_host_byte) (sym h.2) (All-cons (λ c. is_host_byte c ≡ true) 58 h.0 refl (digits_host_bytes 5 65535 port h.0 h.1))
+port_bytes part port h =
+    subst (AllPass is_host_byte) (sym h.2) (All-cons (λ c. is_host_byte c ≡ true) 58 h.0 refl (digits_host_bytes 5 port_max port h.0 h.1))
 
 limit_bytes : (part : List ℕ) (limit : ℕ) → SpellsLimit part limit → AllPass is_host_byte part
-limit_bytes part limit h = subst (AllPass is_host_byte) (sym h.2) (All-cons (λ c. is_host_byte c ≡ true) 47 h.0 refl (digits_host_bytes 3 255 limit h.0 h.1))
+limit_bytes part limit h =
+    subst (AllPass is_host_byte) (sym h.2) (All-cons (λ c. is_host_byte c ≡ true) 47 h.0 refl (digits_host_bytes 3 slots_max limit h.0 h.1))
 
 parts_bytes : (port limit : Option ℕ) (parts : List ℕ) → SpellsParts port limit parts → AllPass is_host_byte parts
 parts_bytes None None parts h = subst (AllPass is_host_byte) (sym h) (All-nil (λ c. is_host_byte c ≡ true))
@@ -170,8 +173,8 @@ host_reading name (Err wrong) = Err wrong
 
 abbrev option_reading : List ℕ → Reading
 option_reading word =
-    cond (begins_with (codes "--localslots=") word) (slots_of 13 LocalSlots (number_at 3 255 (drop 13 word)))
-    (cond (begins_with (codes "--localslots_cpp=") word) (slots_of 17 LocalCpp (number_at 3 255 (drop 17 word)))
+    cond (begins_with (codes "--localslots=") word) (slots_of 13 LocalSlots (number_at 3 slots_max (drop 13 word)))
+    (cond (begins_with (codes "--localslots_cpp=") word) (slots_of 17 LocalCpp (number_at 3 slots_max (drop 17 word)))
     (cond (bytes_eq word (codes "--randomize")) (Ok Randomize) (Err (0, UnknownOption))))
 
 abbrev entry_reading : List ℕ → Reading
@@ -212,10 +215,10 @@ word_right word (Entry host) h =
     let plus : begins_with (codes "+") word ≡ false = subst (λ w. begins_with (codes "+") w ≡ false) spelled (no_plus h.name h.parts h.named) in
     rw (no_option, plus, holds_no_at word bytes, holds_no_comma word bytes) (entry_right word host h)
 word_right word (LocalSlots n) h =
-    let found = number_found 3 255 h.0 n h.1 in
+    let found = number_found 3 slots_max h.0 n h.1 in
     subst (λ w. reading_of w ≡ Ok (LocalSlots n)) (sym h.2) (ap (slots_of 13 LocalSlots) found)
 word_right word (LocalCpp n) h =
-    let found = number_found 3 255 h.0 n h.1 in
+    let found = number_found 3 slots_max h.0 n h.1 in
     subst (λ w. reading_of w ≡ Ok (LocalCpp n)) (sym h.2) (ap (slots_of 17 LocalCpp) found)
 word_right word Randomize h = subst (λ w. reading_of w ≡ Ok Randomize) (sym h) refl
 
@@ -223,10 +226,11 @@ word_right word Randomize h = subst (λ w. reading_of w ≡ Ok Randomize) (sym h
 whole : (expected fault : HostFault) (at : ℕ) → IsAtStart expected at fault → wrong 0 expected ≡ wrong at fault
 whole expected fault at h = rw (h.0, h.1) refl
 
-slots_wrong : (option word : List ℕ) (make : ℕ → Meaning) (at : ℕ) (fault : HostFault) → begins_with option word ≡ true → SlotsFault option word at fault → slots_of (length option) make (number_at 3 255 (drop (length option) word)) ≡ Err (at, fault)
+slots_wrong : (option word : List ℕ) (make : ℕ → Meaning) (at : ℕ) (fault : HostFault) → begins_with option word ≡ true
+    → SlotsFault option word at fault → slots_of (length option) make (number_at 3 slots_max (drop (length option) word)) ≡ Err (at, fault)
 slots_wrong option word make at fault begins h =
     let front : word ≡ option ++ drop (length option) word = (starts_is Decides-eqb word option true (sym begins)).0 refl in
-    let none = number_none 3 255 (drop (length option) word) (λ n is. h.0 n (drop (length option) word, is, front)) in
+    let none = number_none 3 slots_max (drop (length option) word) (λ n is. h.0 n (drop (length option) word, is, front)) in
     ap (slots_of (length option) make) none ∙ rw (h.1, h.2) refl
 
 option_wrong : (word : List ℕ) (at : ℕ) (fault : HostFault) → OptionFault word at fault → option_reading word ≡ Err (at, fault)

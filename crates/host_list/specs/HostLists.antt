@@ -2,7 +2,7 @@
 use Rattle.std.specs.Prelude.{ℕ, ◌≡◌, ◌+◌, ◌≤◌, List, [], ◌∷◌, ◌++◌, length, codes, Bool, true, false, ◌⊎◌, if◌then◌else◌, All}
 use Rattle.std.specs.List.{flat_map}
 use Rattle.std.specs.Fmt.{decimal}
-use Rattle.farm_types.specs.Limits.{hosts_max, slots_max}
+use Rattle.farm_types.specs.Limits.{hosts_max, slots_max, port_default, port_max}
 use Rattle.farm_types.specs.declared.hosts.Host.{Host}
 use Rattle.farm_types.specs.declared.hosts.Hosts.{Hosts}
 use Rattle.host_list.specs.declared.meaning.Meaning.{Meaning}
@@ -118,11 +118,11 @@ printed_hosts hosts = flat_map host_line hosts.list ++ options_text hosts
 pub record IsHost (host : Host) : Type 0 where
   pub named : IsHostName host.name.text
   pub port_low : 1 ≤ host.port
-  pub port_high : host.port ≤ 65535
+  pub port_high : host.port ≤ port_max
   pub limit_low : 1 ≤ host.limit
   pub limit_high : host.limit ≤ slots_max
   -- a local entry is `localhost`, and has the port that stands where none is given
-  pub here : host.local ≡ true → (host.name.text ≡ codes "localhost") × (host.port ≡ 3632)
+  pub here : host.local ≡ true → (host.name.text ≡ codes "localhost") × (host.port ≡ port_default)
 
 -- what a host list has
 pub record AreHosts (hosts : Hosts) : Type 0 where

@@ -3,6 +3,7 @@ use Rattle.std.specs.Prelude.{ℕ, ◌≡◌, ◌+◌, List, [], ◌∷◌, ◌+
 use Rattle.std.specs.List.{list_any, starts_with, prefix_len, AllPass}
 use Rattle.std.specs.Str.{bytes_eq}
 use Rattle.farm_types.specs.Bytes.{comma, dash, slash, colon, at_sign}
+use Rattle.farm_types.specs.Limits.{host_name_max, port_default}
 use Rattle.farm_types.specs.declared.hosts.Host.{Host}
 use Rattle.host_list.specs.declared.meaning.Meaning.{Meaning}
 use Rattle.host_list.specs.declared.meaning.Meaning.TheVariants.{Entry, LocalSlots, LocalCpp, Randomize}
@@ -38,7 +39,7 @@ names_this_machine name port = bytes_eq name (codes "localhost") && is_none port
 abbrev pub host_of : List ℕ → Option ℕ → Option ℕ → Host
 host_of name port limit = record {
   name = record { text = name };
-  port = unwrap_or port 3632;
+  port = unwrap_or port port_default;
   limit = unwrap_or limit (if names_this_machine name port then 2 else 4);
   local = names_this_machine name port;
 }
@@ -101,7 +102,7 @@ is_separator c = c == colon || c == slash
 
 -- how far a name can reach from the word's first byte on
 abbrev pub name_reach : List ℕ → ℕ
-name_reach word = if slice_index word 0 == dash then 0 else min 255 (prefix_len is_host_name_byte word)
+name_reach word = if slice_index word 0 == dash then 0 else min host_name_max (prefix_len is_host_name_byte word)
 
 -- a name isn't empty, and reaches to the first separator or to the word's end
 abbrev pub begins_with_name : List ℕ → Bool

@@ -8,11 +8,10 @@ ghost use Rattle.host_list.specs.Answers.{IsError};
 
 use crate::fault::{FaultAt, HostError, HostFault};
 use crate::parts::{Parts, read_parts};
+use farm_types::limits::{HOST_NAME_MAX, PORT_DEFAULT};
 use farm_types::{Bytes, Host, HostName};
 use std::alloc::{AllocError, Global};
 
-/// The port of a host where none is given.
-pub const PORT_DEFAULT: u16 = 3632;
 /// The limit of a host where none is given.
 pub const LIMIT_DEFAULT: u8 = 4;
 /// The limit of a local entry where none is given.
@@ -20,8 +19,6 @@ pub const LOCAL_LIMIT_DEFAULT: u8 = 2;
 
 /// The name of this machine, reached without the network.
 pub const LOCALHOST: &[u8] = b"localhost";
-/// The most bytes of a name.
-const NAME_MAX: usize = 255;
 
 fn is_name_byte(byte: u8) -> bool
     ensures { result ≡ names.is_host_name_byte byte }
@@ -38,7 +35,7 @@ fn name_reach(word: &[u8]) -> usize
         return 0;
     }
     for (at, byte) in word.iter().enumerate() {
-        if at == NAME_MAX || !is_name_byte(*byte) {
+        if at == HOST_NAME_MAX || !is_name_byte(*byte) {
             return at;
         }
     }

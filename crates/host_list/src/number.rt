@@ -3,7 +3,7 @@
 ghost use Rattle.std.specs.Prelude.{ℕ, IfSome, IfNone};
 ghost use Rattle.host_list.specs.Names.{IsPort, IsLimit};
 
-use farm_types::limits::SLOTS_MAX;
+use farm_types::limits::{PORT_MAX, SLOTS_MAX};
 use farm_types::read_decimal;
 
 /// The port that the digits spell: 1 to 65,535, in 1 to 5 digits.
@@ -11,7 +11,7 @@ pub fn read_port(digits: &[u8]) -> Option<u16>
     ensures found { IfSome result (λ port. IsPort digits.now port) }
     ensures none { IfNone result ((port : ℕ) → IsPort digits.now port → ⊥) }
 {
-    let port = read_decimal(digits, 5, 1, 65_535)?;
+    let port = read_decimal(digits, 5, 1, PORT_MAX)?;
     Some(port as u16)
 }
 

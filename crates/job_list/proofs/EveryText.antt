@@ -3,6 +3,7 @@ use Rattle.std.proofs.Common.{◌≡◌, ℕ, zero, suc, ◌+◌, ◌<◌, ◌�
 use Rattle.std.specs.Prelude.{◌⊎◌}
 use Rattle.std.specs.List.{slice_get}
 use Rattle.std.proofs.lemmas.Bool.{cases_Bool, cases_lt, false≢true}
+use Rattle.farm_types.specs.Limits.{job_list_max, jobs_max}
 use Rattle.job_list.specs.declared.fault.JobFault.{JobFault}
 use Rattle.job_list.specs.declared.fault.JobFault.TheVariants.{NoJobs, TooMany, TooLong, SameOutput, NotText}
 use Rattle.job_list.specs.Texts.{NumberedLine, job_lines}
@@ -26,7 +27,7 @@ every_job line = ⊎_elim
 record AllRight (count : ℕ) (lines : List NumberedLine) : Type 0 where
   jobs : List (List (List ℕ))
   each : AreJobs lines jobs
-  few : count + length jobs ≤ 512
+  few : count + length jobs ≤ jobs_max
 
 -- behind this many jobs one of these lines is the first that isn't
 record OneWrong (count : ℕ) (lines : List NumberedLine) : Type 0 where
@@ -37,10 +38,11 @@ record OneWrong (count : ℕ) (lines : List NumberedLine) : Type 0 where
   fault : JobFault
   split : lines ≡ before ++ line ∷ after
   right : AreJobs before jobs
-  few : count + length jobs ≤ 512
+  few : count + length jobs ≤ jobs_max
   wrong : IsWrongLine (count + length jobs) line.bytes fault
 
-wrong_here : (count : ℕ) (l : NumberedLine) (ls : List NumberedLine) (fault : JobFault) → count ≤ 512 → IsWrongLine count l.bytes fault → OneWrong count (l ∷ ls)
+wrong_here : (count : ℕ) (l : NumberedLine) (ls : List NumberedLine) (fault : JobFault) → count ≤ jobs_max → IsWrongLine count l.bytes fault
+    → OneWrong count (l ∷ ls)
 wrong_here count l ls fault few wrong = record {
   before = [];
   line = l;
@@ -69,10 +71,10 @@ wrong_later count l ls words job one = record {
 right_later : (count : ℕ) (l : NumberedLine) (ls : List NumberedLine) (words : List (List ℕ)) → JobOf l.bytes words → AllRight (count + 1) ls → AllRight count (l ∷ ls)
 right_later count l ls words job all = record { jobs = words ∷ all.jobs; each = (job, all.each); few = let few = all.few in omega arith }
 
-full_or_not : (count : ℕ) → count ≤ 512 → (count ≡ 512) ⊎ (count + 1 ≤ 512)
-full_or_not count few = ⊎_elim (λ room. inr (omega arith)) (λ full. inl (omega arith)) (cases_lt count 512)
+full_or_not : (count : ℕ) → count ≤ jobs_max → (count ≡ jobs_max) ⊎ (count + 1 ≤ jobs_max)
+full_or_not count few = ⊎_elim (λ room. inr (omega arith)) (λ full. inl (omega arith)) (cases_lt count jobs_max)
 
-every_lines : (count : ℕ) (lines : List NumberedLine) → count ≤ 512 → AllRight count lines ⊎ OneWrong count lines
+every_lines : (count : ℕ) (lines : List NumberedLine) → count ≤ jobs_max → AllRight count lines ⊎ OneWrong count lines
 every_lines count [] few = inl (record { jobs = []; each = tt; few = omega arith })
 every_lines count (l ∷ ls) few =
     let later = every_lines (count + 1) ls in
@@ -97,7 +99,7 @@ line_at (l ∷ ls) (j ∷ js) (suc i) h lt = line_at ls js i h.1 (omega arith)
 Text : List ℕ → Type 0
 Text text = ((jobs : List (List (List ℕ))) × JobsOf text jobs) ⊎ ((at : ℕ) × (fault : JobFault) × JobFaultStands text at fault)
 
-text_wrong : (text : List ℕ) → length text ≤ 16_777_216 → OneWrong 0 (job_lines text) → Text text
+text_wrong : (text : List ℕ) → length text ≤ job_list_max → OneWrong 0 (job_lines text) → Text text
 unfolding Text
 text_wrong text short one =
     let e : 0 + length one.jobs ≡ length one.jobs = omega arith in
@@ -120,7 +122,8 @@ text_wrong text short one =
       ),
     )
 
-text_shares : (text : List ℕ) (jobs : List (List (List ℕ))) (i j : ℕ) → length text ≤ 16_777_216 → AreJobs (job_lines text) jobs → length jobs ≤ 512 → IsLeastPair (outputs_of jobs) i j → Text text
+text_shares : (text : List ℕ) (jobs : List (List (List ℕ))) (i j : ℕ) → length text ≤ job_list_max → AreJobs (job_lines text) jobs
+    → length jobs ≤ jobs_max → IsLeastPair (outputs_of jobs) i j → Text text
 unfolding Text
 text_shares text jobs i j short each few pair =
     let there = line_at (job_lines text) jobs j each (get_past (outputs_of jobs) j (Some pair.same.0) pair.same.2) in
@@ -149,10 +152,10 @@ none_or_some [] jobs h = inl refl
 none_or_some (l ∷ ls) [] h = absurd h
 none_or_some (l ∷ ls) (j ∷ js) h = inr (omega arith)
 
-text_right : (text : List ℕ) → length text ≤ 16_777_216 → AllRight 0 (job_lines text) → Text text
+text_right : (text : List ℕ) → length text ≤ job_list_max → AllRight 0 (job_lines text) → Text text
 unfolding Text
 text_right text short all =
-    let few : length all.jobs ≤ 512 = (let few = all.few in omega arith) in
+    let few : length all.jobs ≤ jobs_max = (let few = all.few in omega arith) in
     ⊎_elim
     (λ none. inr (0, NoJobs, inr (short, inr (inl (none, refl, refl)))))
     (λ some. ⊎_elim
@@ -161,8 +164,8 @@ text_right text short all =
     (every_pair (outputs_of all.jobs)))
     (none_or_some (job_lines text) all.jobs all.each)
 
-short_or_long : (n : ℕ) → (n ≤ 16_777_216) ⊎ (16_777_216 < n)
-short_or_long n = ⊎_elim inr inl (cases_lt 16_777_216 n)
+short_or_long : (n : ℕ) → (n ≤ job_list_max) ⊎ (job_list_max < n)
+short_or_long n = ⊎_elim inr inl (cases_lt job_list_max n)
 
 pub every_text : (text : List ℕ) → ((jobs : List (List (List ℕ))) × JobsOf text jobs) ⊎ ((at : ℕ) × (fault : JobFault) × JobFaultStands text at fault)
 unfolding Text

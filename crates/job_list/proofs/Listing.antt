@@ -5,6 +5,7 @@ use Rattle.std.specs.List.{AllPass, slice_get}
 use Rattle.std.proofs.lemmas.List.{append_assoc, append-nil, length-drop, drop_more, drop_all}
 use Rattle.std.proofs.lemmas.List.Folds.{drop_split}
 use Rattle.std.proofs.lemmas.List.Splits.{slice_split_none, slice_split_at}
+use Rattle.farm_types.specs.Limits.{job_list_max, jobs_max}
 use Rattle.farm_types.specs.Bytes.{line_feed, hash, is_blank}
 use Rattle.job_list.specs.Texts.{is_job, lines_of, NumberedLine, jobs_from, job_lines}
 use Rattle.job_list.specs.Outputs.{AreApart, outputs_of}
@@ -144,7 +145,8 @@ lists_error text from end number old Memory within h next wrong = tt
 
 -- ---- the whole text
 
-pub text_error : (e : JobError) (text : List ℕ) → length text ≤ 16_777_216 → IsError (HasWrongLine (job_lines text)) e → IsError (JobFaultStands text) e
+pub text_error : (e : JobError) (text : List ℕ) → length text ≤ job_list_max → IsError (HasWrongLine (job_lines text)) e
+    → IsError (JobFaultStands text) e
 text_error (Fault at fault) text short h = inr (short, inl h)
 text_error Memory text short h = tt
 
@@ -153,7 +155,8 @@ none_listed [] jobs h e = refl
 none_listed (l ∷ ls) [] h e = absurd h
 none_listed (l ∷ ls) (j ∷ js) h e = absurd (omega arith)
 
-pub text_empty : (text : List ℕ) (jobs : List (List (List ℕ))) → length text ≤ 16_777_216 → AreJobs (job_lines text) jobs → length jobs ≡ 0 → JobFaultStands text 0 NoJobs
+pub text_empty : (text : List ℕ) (jobs : List (List (List ℕ))) → length text ≤ job_list_max → AreJobs (job_lines text) jobs
+    → length jobs ≡ 0 → JobFaultStands text 0 NoJobs
 text_empty text jobs short h e = inr (short, inr (inl (none_listed (job_lines text) jobs h e, refl, refl)))
 
 -- as many numbers as jobs
@@ -168,7 +171,9 @@ line_there [] i at h = absurd cc
 line_there (l ∷ ls) zero at h = (l, refl, let e : l.number ≡ at = cc in sym e)
 line_there (l ∷ ls) (suc i) at h = line_there ls i at h
 
-share_error : (e : JobError) (text : List ℕ) (listed : Listed) → length text ≤ 16_777_216 → AreJobs (job_lines text) listed.jobs → length listed.jobs ≤ 512 → listed.lines ≡ numbers_of (job_lines text) → IsError (ListedShare listed) e → IsError (JobFaultStands text) e
+share_error : (e : JobError) (text : List ℕ) (listed : Listed) → length text ≤ job_list_max → AreJobs (job_lines text) listed.jobs
+    → length listed.jobs ≤ jobs_max → listed.lines ≡ numbers_of (job_lines text) → IsError (ListedShare listed) e
+    → IsError (JobFaultStands text) e
 share_error (Fault at fault) text listed short each few numbers h =
     let there = line_there (job_lines text) h.second at (ap (λ ns. slice_get ns h.second) (sym numbers) ∙ h.there) in
     inr (
@@ -188,11 +193,15 @@ share_error (Fault at fault) text listed short each few numbers h =
     )
 share_error Memory text listed short each few numbers h = tt
 
-pub list_answer : (r : Result (List (List (List ℕ))) JobError) (text : List ℕ) (listed : Listed) → length text ≤ 16_777_216 → AreJobs (job_lines text) listed.jobs → 1 ≤ length listed.jobs → length listed.jobs ≤ 512 → IfOk r (λ jobs. jobs ≡ listed.jobs) → OnOk r (AreApart (outputs_of listed.jobs)) → IfOk r (λ jobs. JobsOf text jobs)
+pub list_answer : (r : Result (List (List (List ℕ))) JobError) (text : List ℕ) (listed : Listed) → length text ≤ job_list_max
+    → AreJobs (job_lines text) listed.jobs → 1 ≤ length listed.jobs → length listed.jobs ≤ jobs_max → IfOk r (λ jobs. jobs ≡ listed.jobs)
+    → OnOk r (AreApart (outputs_of listed.jobs)) → IfOk r (λ jobs. JobsOf text jobs)
 list_answer (Ok jobs) text listed short each some few is apart =
     subst (JobsOf text) (sym is) (record { short = short; each = each; some = some; few = few; apart = apart })
 list_answer (Err e) text listed short each some few is apart = tt
 
-pub share_answer : (r : Result (List (List (List ℕ))) JobError) (text : List ℕ) (listed : Listed) → length text ≤ 16_777_216 → AreJobs (job_lines text) listed.jobs → length listed.jobs ≤ 512 → listed.lines ≡ numbers_of (job_lines text) → IfErr r (λ e. IsError (ListedShare listed) e) → IfErr r (λ e. IsError (JobFaultStands text) e)
+pub share_answer : (r : Result (List (List (List ℕ))) JobError) (text : List ℕ) (listed : Listed) → length text ≤ job_list_max
+    → AreJobs (job_lines text) listed.jobs → length listed.jobs ≤ jobs_max → listed.lines ≡ numbers_of (job_lines text)
+    → IfErr r (λ e. IsError (ListedShare listed) e) → IfErr r (λ e. IsError (JobFaultStands text) e)
 share_answer (Ok jobs) text listed short each few numbers h = tt
 share_answer (Err e) text listed short each few numbers h = share_error e text listed short each few numbers h

@@ -11,6 +11,7 @@ use Rattle.std.proofs.lemmas.List.Elements.{All-nil, All-cons, All-head, All-tai
 use Rattle.std.proofs.lemmas.List.Splits.{slice_split_none}
 use Rattle.std.proofs.lemmas.List.Sums.{split_at_first, fails_before_first, passes_at_first}
 use Rattle.std.proofs.lemmas.Str.{IsUtf8-append, IsUtf8-nil, IsUtf8-from_ascii, IsUtf8-take, IsUtf8-drop, IsCharBoundary-before_ascii, IsCharBoundary-after_ascii}
+use Rattle.farm_types.specs.Limits.{job_list_max}
 use Rattle.farm_types.specs.Bytes.{line_feed, space, double_quote, backslash}
 use Rattle.job_list.specs.Parts.{Each, Quoted, literal, escaped, is_mark, IsQuoted, quoted_text, quoted_bytes, Part, blank, double, IsPart, part_text}
 use Rattle.job_list.specs.Lines.{words_of, goes_on, onto_words, LineOf}
@@ -239,7 +240,8 @@ is_job_printed (w ∷ ws) some = refl
 one_apart : (words : List (List ℕ)) → AreApart (outputs_of (words ∷ []))
 one_apart words i j lt same = let within = get_past (outputs_of (words ∷ [])) j (Some same.0) same.2 in omega arith
 
-list_printed : (ws : List (List ℕ)) → ArePrintable ws → AreUtf8 ws → 1 ≤ length ws → length (words_text ws) ≤ 16_777_216 → JobsOf (words_text ws) (ws ∷ [])
+list_printed : (ws : List (List ℕ)) → ArePrintable ws → AreUtf8 ws → 1 ≤ length ws → length (words_text ws) ≤ job_list_max
+    → JobsOf (words_text ws) (ws ∷ [])
 list_printed ws plain utf8 some short =
     let is = is_job_printed ws some in
     let lines : job_lines (words_text ws) ≡ record { number = 1; bytes = words_text ws } ∷ [] = ap (jobs_from 1) (one_line ws plain) ∙ rw is refl in
@@ -265,6 +267,8 @@ pub answer_job : {E : Type 0} (r : Result (List ℕ) E) (ws : List (List ℕ)) �
 answer_job (Ok line) ws plain is h = subst (λ t. (is_job t ≡ true) × JobOf t ws) (sym is) (is_job_printed ws h.some, job_printed ws plain h.utf8)
 answer_job (Err e) ws plain is h = tt
 
-pub answer_again : {E : Type 0} (r : Result (List ℕ) E) (ws : List (List ℕ)) → ArePrintable ws → IfOk r (λ line. line ≡ words_text ws) → AreJobWords ws → IfOk r (λ line. length line ≤ 16_777_216 → JobsOf line (ws ∷ []))
-answer_again (Ok line) ws plain is h = subst (λ t. length t ≤ 16_777_216 → JobsOf t (ws ∷ [])) (sym is) (list_printed ws plain h.utf8 h.some)
+pub answer_again : {E : Type 0} (r : Result (List ℕ) E) (ws : List (List ℕ)) → ArePrintable ws → IfOk r (λ line. line ≡ words_text ws)
+    → AreJobWords ws → IfOk r (λ line. length line ≤ job_list_max → JobsOf line (ws ∷ []))
+answer_again (Ok line) ws plain is h =
+    subst (λ t. length t ≤ job_list_max → JobsOf t (ws ∷ [])) (sym is) (list_printed ws plain h.utf8 h.some)
 answer_again (Err e) ws plain is h = tt

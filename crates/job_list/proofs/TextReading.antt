@@ -7,6 +7,7 @@ use Rattle.std.proofs.lemmas.List.Sums.{AllPass-from_list_all, list_all-from_All
 use Rattle.std.proofs.lemmas.Str.{is_utf8-from_IsUtf8, IsUtf8-from_is_utf8}
 use Rattle.std.proofs.lemmas.Bool.Decides.{nat_tests}
 use Rattle.std.proofs.lemmas.List.{append-nil}
+use Rattle.farm_types.specs.Limits.{jobs_max}
 use Rattle.job_list.specs.declared.fault.JobFault.{JobFault}
 use Rattle.job_list.specs.declared.fault.JobFault.TheVariants.{TooMany, SameOutput, NotText}
 use Rattle.job_list.specs.Lines.{LineFault}
@@ -77,19 +78,20 @@ one_list (l ∷ ls) (m ∷ ms) (n ∷ ns) h k =
 -- the first wrong line behind this many jobs
 abbrev first_wrong : ℕ → List NumberedLine → Option (ℕ × JobFault)
 first_wrong count [] = None
-first_wrong count (l ∷ ls) = by (job_reading l.bytes) l.number (count == 512) (first_wrong (count + 1) ls)
+first_wrong count (l ∷ ls) = by (job_reading l.bytes) l.number (count == jobs_max) (first_wrong (count + 1) ls)
   where
     by : Reading → ℕ → Bool → Option (ℕ × JobFault) → Option (ℕ × JobFault)
     by (Err fault) at full more = Some (at, fault)
     by (Ok words) at full more = cond full (Some (at, TooMany)) more
 
-passed : (count : ℕ) (before : List NumberedLine) (jobs : List (List (List ℕ))) (rest : List NumberedLine) → AreJobs before jobs → count + length jobs ≤ 512 → first_wrong count (before ++ rest) ≡ first_wrong (count + length jobs) rest
+passed : (count : ℕ) (before : List NumberedLine) (jobs : List (List (List ℕ))) (rest : List NumberedLine) → AreJobs before jobs
+    → count + length jobs ≤ jobs_max → first_wrong count (before ++ rest) ≡ first_wrong (count + length jobs) rest
 passed count [] [] rest h few = let e : count ≡ count + 0 = omega arith in ap (λ n. first_wrong n rest) e
 passed count [] (j ∷ js) rest h few = absurd h
 passed count (l ∷ ls) [] rest h few = absurd h
 passed count (l ∷ ls) (j ∷ js) rest h few =
     let is = job_right l.bytes j h.0 in
-    let not_full : (count == 512) ≡ false = grind (arith, nat_tests) in
+    let not_full : (count == jobs_max) ≡ false = grind (arith, nat_tests) in
     let here : first_wrong count (l ∷ (ls ++ rest)) ≡ first_wrong (count + 1) (ls ++ rest) = rw (is, not_full) refl in
     let later = passed (count + 1) ls js rest h.1 (omega arith) in
     let e : count + 1 + length js ≡ count + suc (length js) = omega arith in
@@ -100,10 +102,11 @@ stopped count l ls fault (inl p) = let is = job_no_text l.bytes p.1 in rw is (ap
 stopped count l ls fault (inr (inl p)) = let is = job_breaks l.bytes fault p.0 p.1 in rw is refl
 stopped count l ls fault (inr (inr p)) =
     let is = job_right l.bytes p.2 p.3 in
-    let full : (count == 512) ≡ true = rw p.1 refl in
+    let full : (count == jobs_max) ≡ true = rw p.1 refl in
     rw (is, full) (ap (λ f. Some (l.number, f)) (sym p.0))
 
-all_right : (lines : List NumberedLine) (jobs : List (List (List ℕ))) → AreJobs lines jobs → length jobs ≤ 512 → first_wrong 0 lines ≡ None
+all_right : (lines : List NumberedLine) (jobs : List (List (List ℕ))) → AreJobs lines jobs → length jobs ≤ jobs_max
+    → first_wrong 0 lines ≡ None
 all_right lines jobs h few = ap (first_wrong 0) (sym (append-nil lines)) ∙ passed 0 lines jobs [] h (omega arith)
 
 one_wrong : (lines : List NumberedLine) (at : ℕ) (fault : JobFault) → HasWrongLine lines at fault → first_wrong 0 lines ≡ Some (at, fault)
@@ -112,7 +115,8 @@ one_wrong lines at fault h =
     ap (first_wrong 0) h.split ∙ passed 0 h.before h.jobs (h.line ∷ h.after) h.right (let few = h.few in omega arith)
     ∙ ap (λ n. first_wrong n (h.line ∷ h.after)) zero ∙ stopped (length h.jobs) h.line h.after fault h.wrong ∙ ap (λ n. Some (n, fault)) (sym h.place)
 
-wrong_right : (lines : List NumberedLine) (at : ℕ) (fault : JobFault) (jobs : List (List (List ℕ))) → HasWrongLine lines at fault → AreJobs lines jobs → length jobs ≤ 512 → ⊥
+wrong_right : (lines : List NumberedLine) (at : ℕ) (fault : JobFault) (jobs : List (List (List ℕ))) → HasWrongLine lines at fault
+    → AreJobs lines jobs → length jobs ≤ jobs_max → ⊥
 wrong_right lines at fault jobs h each few = let e = sym (one_wrong lines at fault h) ∙ all_right lines jobs each few in cc
 
 -- ---- a text

@@ -8,7 +8,7 @@ use Rattle.edge_traits.specs.Told.{told}
 use Rattle.edge_traits.specs.Calls.{names_next, one_more, failed_calls}
 use Rattle.file_map.specs.FileMaps.{Files}
 use Rattle.edge_traits.specs.FileMaps.{files_after}
-use Rattle.edge_traits.specs.Keepers.{HasLength}
+use Rattle.edge_traits.specs.Keepers.{HasLength, overruns_after}
 use Rattle.object_delivery.specs.declared.mem_files.MemFiles.{MemFiles}
 use Rattle.object_delivery.specs.FileViews.{FilesView, appended, files_renamed, files_without}
 
@@ -56,14 +56,6 @@ IsLoadAnswer files name bound (Err Failed) = names_next files.fails files.made �
 IsLoadAnswer files name bound (Err Absent) = (names_next files.fails files.made ≡ false) × (get files.files name ≡ None)
 IsLoadAnswer files name bound (Err (TooMuch bytes)) = (names_next files.fails files.made ≡ false) × HasLength files.files name bytes × (bound < bytes)
 IsLoadAnswer files name bound (Err Memory) = (names_next files.fails files.made ≡ false) × (bytes : List ℕ) × IsHeld files name bound bytes
-
--- the overruns after a load: one more for a file that isn't there or is above the bound
-abbrev pub overruns_after : ℕ → Result (List ℕ) FetchFault → ℕ
-overruns_after overruns (Ok bytes) = overruns
-overruns_after overruns (Err Failed) = overruns
-overruns_after overruns (Err Absent) = one_more overruns
-overruns_after overruns (Err (TooMuch bytes)) = one_more overruns
-overruns_after overruns (Err Memory) = overruns
 
 abbrev pub after_load : FilesState → Result (List ℕ) FetchFault → FilesState
 after_load files result = record files { made = one_more files.made; overruns = overruns_after files.overruns result }

@@ -3,6 +3,7 @@ use Rattle.std.proofs.Common.{◌≡◌, ℕ, ◌+◌, ◌≤◌, eqb, List, [],
 use Rattle.std.specs.Prelude.{nat_le}
 use Rattle.std.proofs.lemmas.Bool.{leb-true, eqb-true}
 use Rattle.std.proofs.lemmas.List.{append-nil, nil_from_length, length-append}
+use Rattle.farm_types.specs.Limits.{messages_max}
 use Rattle.farm_types.specs.declared.ran.Outcome.{Outcome}
 use Rattle.wire_tokens.specs.declared.faults.ReplyFault.{ReplyFault}
 use Rattle.wire_tokens.specs.Format.{Field, Due, IsField, Progress}
@@ -130,7 +131,7 @@ after_serr old new n is r part status err out left given body token =
     let q = at_part old n Serr is r in
     let uncounted : old.given ≡ 0 = q.kept in
     let len : n ≡ length old.body = omega (arith, q.no_more, uncounted) in
-    let small : n ≤ 1048576 = leb-true n 1048576 (allowed (nat_le n 1048576) _ q.token.right) in
+    let small : n ≤ messages_max = leb-true n messages_max (allowed (nat_le n messages_max) _ q.token.right) in
     let counts : Counts new = record {
       at_part = subst (λ (x : Part). IsAtPart x new.status) (sym part) tt;
       small_err = rw err (omega (arith, small, len));
@@ -154,7 +155,7 @@ after_sout old new n is r part status err out left given body token =
     let q = at_part old n Sout is r in
     let uncounted : old.given ≡ 0 = q.kept in
     let len : n ≡ length old.body = omega (arith, q.no_more, uncounted) in
-    let small : n ≤ 1048576 = leb-true n 1048576 (allowed (nat_le n 1048576) _ q.token.right) in
+    let small : n ≤ messages_max = leb-true n messages_max (allowed (nat_le n messages_max) _ q.token.right) in
     let counts : Counts new = record {
       at_part = subst (λ (x : Part). IsAtPart x new.status) (sym part) (sym status);
       small_err = rw err r.counts.small_err;

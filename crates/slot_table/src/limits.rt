@@ -1,6 +1,8 @@
 //! What a farm's slots are limited by.
 ghost use Rattle.std.specs.Prelude.{◌↔◌, ◌≤◌, IsTrue};
 
+use crate::mask::MASK_BITS;
+
 /// What a farm's slots are limited by. It never changes.
 #[derive(Clone, Copy, PartialEq, Eq, Debug)]
 pub struct Limits<const H: usize> {
@@ -26,7 +28,10 @@ impl<const H: usize> Limits<H> {
     pub fn are_valid(&self) -> bool
         ensures { IsTrue result ↔ AreValid self.now }
     {
-        self.count as usize <= H && self.count <= 64 && self.local_slots > 0 && self.each_has_slot()
+        self.count as usize <= H
+            && self.count <= MASK_BITS
+            && self.local_slots > 0
+            && self.each_has_slot()
     }
 
     fn each_has_slot(&self) -> bool

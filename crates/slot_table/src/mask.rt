@@ -1,8 +1,11 @@
 //! Sets of host entries.
 ghost use Rattle.std.specs.Prelude.{◌≡◌, ℕ, ◌<◌, ◌≤◌, ◌&&◌, not, nat_lt, nat_eq};
-ghost use Rattle.slot_table.specs.Mask.{in_mask};
+ghost use Rattle.slot_table.specs.Mask.{mask_bits, in_mask};
 
-/// A set of host entries: bit `i` says whether entry `i` is in it. It has entries below 64 alone.
+/// The places of a mask.
+pub const MASK_BITS: u32 = 64;
+
+/// A set of host entries: bit `i` says whether entry `i` is in it. It has entries below `MASK_BITS` alone.
 #[derive(Clone, Copy, PartialEq, Eq, Debug)]
 pub struct Mask {
     pub bits: u64,
@@ -11,11 +14,11 @@ pub struct Mask {
 impl Mask {
     /// Every entry below `count`.
     pub fn all(count: u32) -> Mask
-        requires { count ≤ 64 }
+        requires { count ≤ mask_bits }
         ensures { (i : ℕ) → in_mask result i ≡ nat_lt i count }
     {
         Mask {
-            bits: if count < 64 {
+            bits: if count < MASK_BITS {
                 (1 << count) - 1
             } else {
                 u64::MAX
@@ -25,7 +28,7 @@ impl Mask {
 
     /// The same entries without `host`.
     pub fn without(self, host: u32) -> Mask
-        requires { host < 64 }
+        requires { host < mask_bits }
         ensures { (i : ℕ) → in_mask result i ≡ (in_mask self i && not (nat_eq i host)) }
     {
         Mask {
@@ -35,7 +38,7 @@ impl Mask {
 
     /// Whether the entry is in it.
     pub fn contains(self, host: u32) -> bool
-        requires { host < 64 }
+        requires { host < mask_bits }
         ensures { result ≡ in_mask self host }
     {
         self.bits >> host & 1 == 1

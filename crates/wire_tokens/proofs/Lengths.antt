@@ -6,6 +6,7 @@ use Rattle.std.proofs.lemmas.List.{length-append, length-drop, length-take, leng
 use Rattle.std.proofs.lemmas.List.Elements.{All-cons, All-nil}
 use Rattle.std.proofs.lemmas.List.Concat.{flat_map-cons}
 use Rattle.std.proofs.lemmas.List.Sums.{sum_by-cons}
+use Rattle.farm_types.specs.Limits.{messages_max, object_max, word_max, words_bytes_max, words_max, source_max}
 use Rattle.farm_types.specs.declared.ran.Outcome.{Outcome}
 use Rattle.farm_types.specs.declared.request.Request.{Request}
 use Rattle.farm_types.specs.Fits.{OutcomeFits, RequestFits}
@@ -44,7 +45,8 @@ length-reply_text o =
 cut_one : (text : List ℕ) → 1 ≤ length text → (drop (length text - 1) text ≡ [] → ⊥) × (length (take (length text - 1) text) + 1 ≡ length text)
 cut_one text some = (λ e. absurd (omega (arith, ap length e, length-drop (length text - 1) text)), omega (arith, length-take (length text - 1) text))
 
-longest_reply_of : (err out object : ℕ) → err ≤ 1048576 → out ≤ 1048576 → object ≤ 33554432 → (text : List ℕ) × IsShortReply text × (length text + 1 ≡ 60 + (err + out + object))
+longest_reply_of : (err out object : ℕ) → err ≤ messages_max → out ≤ messages_max → object ≤ object_max
+    → (text : List ℕ) × IsShortReply text × (length text + 1 ≡ 60 + (err + out + object))
 longest_reply_of err out object a b c =
     let o : Outcome = record { status = 0; err = replicate err 0; out = replicate out 0; object = replicate object 0 } in
     let le : length o.err ≡ err = length-replicate err 0 in
@@ -61,7 +63,7 @@ longest_reply_of err out object a b c =
 -- Some short text of a reply has 35,651,643 bytes.
 pub longest_short_reply : (text : List ℕ) × IsShortReply text × (length text ≡ 35651643)
 longest_short_reply =
-    let z = longest_reply_of 1048576 1048576 33554432 (omega arith) (omega arith) (omega arith) in
+    let z = longest_reply_of messages_max messages_max object_max (omega arith) (omega arith) (omega arith) in
     (z.0, z.1, omega (arith, z.2))
 
 -- ---- requests
@@ -82,13 +84,19 @@ length-request_text q =
     let e3 : length argc ≡ 12 + length words = plain_len (codes "ARGC") words (length q.words) refl in
     plain_len (codes "DIST") argc 1 refl ∙ omega (arith, e1, e2, e3, length-words_text q.words)
 
-equal_words : (n : ℕ) (word : List ℕ) → length word ≤ 65536 → (words : List (List ℕ)) × (length words ≡ n) × All (λ w. length w ≤ 65536) words × (sum_by length words ≡ n * length word)
-equal_words zero word small = ([], refl, All-nil (λ (w : List ℕ). length w ≤ 65536), omega arith)
+equal_words : (n : ℕ) (word : List ℕ) → length word ≤ word_max
+    → (words : List (List ℕ)) × (length words ≡ n) × All (λ w. length w ≤ word_max) words × (sum_by length words ≡ n * length word)
+equal_words zero word small = ([], refl, All-nil (λ (w : List ℕ). length w ≤ word_max), omega arith)
 equal_words (suc n) word small =
-    let z = equal_words n word small in
-    (word ∷ z.0, ap suc z.1, All-cons (λ (w : List ℕ). length w ≤ 65536) word z.0 small z.2, omega (arith, z.3, sum_by-cons length word z.0))
+    let z = equal_words n word small in (
+      word ∷ z.0,
+      ap suc z.1,
+      All-cons (λ (w : List ℕ). length w ≤ word_max) word z.0 small z.2,
+      omega (arith, z.3, sum_by-cons length word z.0),
+    )
 
-longest_request_of : (count size source : ℕ) → 1 ≤ count → count ≤ 1024 → size ≤ 65536 → count * size ≤ 1048576 → source ≤ 33554432
+longest_request_of : (count size source : ℕ) → 1 ≤ count → count ≤ words_max → size ≤ word_max → count * size ≤ words_bytes_max
+    → source ≤ source_max
     → (text : List ℕ) × IsShortRequest text × (length text + 1 ≡ 36 + (12 * count + count * size + source))
 longest_request_of count size source some few small together last =
     let word : List ℕ = replicate size 0 in
@@ -108,5 +116,5 @@ longest_request_of count size source some few small together last =
 -- Some short text of a request has 34,615,331 bytes.
 pub longest_short_request : (text : List ℕ) × IsShortRequest text × (length text ≡ 34615331)
 longest_short_request =
-    let z = longest_request_of 1024 1024 33554432 (omega arith) (omega arith) (omega arith) (omega arith) (omega arith) in
+    let z = longest_request_of words_max 1024 source_max (omega arith) (omega arith) (omega arith) (omega arith) (omega arith) in
     (z.0, z.1, omega (arith, z.2))

@@ -3,6 +3,7 @@ use Rattle.std.proofs.Common.{◌≡◌, ◌≢◌, ℕ, ◌≤◌, true, eqb, L
 use Rattle.std.specs.Prelude.{codes, nat_le, ◌||◌}
 use Rattle.std.proofs.lemmas.Bool.{leb-true, le-leb, eqb-true, eq-eqb, or_cases, or_left, or_right, cases_lt}
 use Rattle.std.proofs.lemmas.List.{append-nil, nil_from_length}
+use Rattle.farm_types.specs.Limits.{messages_max, object_max}
 use Rattle.farm_types.specs.declared.ran.Outcome.{Outcome}
 use Rattle.wire_tokens.specs.Token.{IsToken}
 use Rattle.wire_tokens.specs.Format.{Field, IsFront}
@@ -106,10 +107,10 @@ front-spelled (a ∷ b ∷ c ∷ d ∷ f ∷ []) text r e =
     let kc = bodied _ c r3.1 refl fc in
     let kd = bodied _ d r4.1 refl fd in
     let kf = bodied _ f r5.1 refl ff in
-    let fits_c = leb-true c.number 1048576 (allowed (nat_le c.number 1048576) _ fc.right) in
-    let fits_d = leb-true d.number 1048576 (allowed (nat_le d.number 1048576) _ fd.right) in
-    let rule_f = allowed_twice (nat_le f.number 33554432) (eqb b.number 0 || eqb f.number 0) _ _ ff.right in
-    let fits_f = leb-true f.number 33554432 rule_f.0 in
+    let fits_c = leb-true c.number messages_max (allowed (nat_le c.number messages_max) _ fc.right) in
+    let fits_d = leb-true d.number messages_max (allowed (nat_le d.number messages_max) _ fd.right) in
+    let rule_f = allowed_twice (nat_le f.number object_max) (eqb b.number 0 || eqb f.number 0) _ _ ff.right in
+    let fits_f = leb-true f.number object_max rule_f.0 in
     let o : Outcome = record { status = b.number; err = c.body; out = d.body; object = f.body } in
     let last : r5.1 ++ r5.2 ≡ ff.token ++ f.body = ap (λ (x : List ℕ). r5.1 ++ x) r5.6 ∙ append-nil r5.1 ∙ ff.parts in
     let parts5 : r4.2 ≡ ff.token ++ f.body = r5.5 ∙ last in
@@ -119,9 +120,9 @@ front-spelled (a ∷ b ∷ c ∷ d ∷ f ∷ []) text r e =
       o,
       record {
         fits = record {
-          err_fits = subst (λ (k : ℕ). k ≤ 1048576) kc fits_c;
-          out_fits = subst (λ (k : ℕ). k ≤ 1048576) kd fits_d;
-          object_fits = subst (λ (k : ℕ). k ≤ 33554432) kf fits_f;
+          err_fits = subst (λ (k : ℕ). k ≤ messages_max) kc fits_c;
+          out_fits = subst (λ (k : ℕ). k ≤ messages_max) kd fits_d;
+          object_fits = subst (λ (k : ℕ). k ≤ object_max) kf fits_f;
           failure = λ h. nil_from_length f.body (sym kf ∙ either_zero b.number f.number rule_f.1 h);
         };
         done = r.1;

@@ -3,6 +3,7 @@ use Rattle.std.proofs.Common.{◌≡◌, ℕ, ◌+◌, ◌<◌, ◌≤◌, Bool,
 use Rattle.std.specs.Prelude.{nat_le}
 use Rattle.std.proofs.lemmas.Bool.{leb-true, ltb-true}
 use Rattle.std.proofs.lemmas.List.{length-append}
+use Rattle.farm_types.specs.Limits.{messages_max, object_max}
 use Rattle.wire_tokens.specs.declared.token.Scan.{Scan}
 use Rattle.wire_tokens.specs.declared.token.Scan.TheVariants.{Number, WrongName, BadDigit, Short}
 use Rattle.wire_tokens.specs.Scan.{scan_of}
@@ -53,7 +54,7 @@ by_fields (a ∷ b ∷ []) front rest r e =
     let r2 = r.6 in
     let pa = ap length (plain _ a r.1 refl (due_again _ r.0 a r.1 r.3 r.4)).1 in
     let pb = ap length (plain _ b r2.1 refl (due_again _ r2.0 b r2.1 r2.3 r2.4)).1 in
-    let l = last_len reply_format _ e.0 rest 1048576 e.1 e.2 (λ m ok. at_most m 1048576 _ ok) in
+    let l = last_len reply_format _ e.0 rest messages_max e.1 e.2 (λ m ok. at_most m messages_max _ ok) in
     omega (arith, l, pa, pb)
 by_fields (a ∷ b ∷ c ∷ []) front rest r e =
     let r2 = r.6 in
@@ -62,8 +63,8 @@ by_fields (a ∷ b ∷ c ∷ []) front rest r e =
     let pb = ap length (plain _ b r2.1 refl (due_again _ r2.0 b r2.1 r2.3 r2.4)).1 in
     let fc = due_again _ r3.0 c r3.1 r3.3 r3.4 in
     let kc = bodied _ c r3.1 refl fc in
-    let mc = at_most c.number 1048576 _ fc.right in
-    let l = last_len reply_format _ e.0 rest 1048576 e.1 e.2 (λ m ok. at_most m 1048576 _ ok) in
+    let mc = at_most c.number messages_max _ fc.right in
+    let l = last_len reply_format _ e.0 rest messages_max e.1 e.2 (λ m ok. at_most m messages_max _ ok) in
     omega (arith, l, pa, pb, kc, mc)
 by_fields (a ∷ b ∷ c ∷ d ∷ []) front rest r e =
     let r2 = r.6 in
@@ -75,9 +76,9 @@ by_fields (a ∷ b ∷ c ∷ d ∷ []) front rest r e =
     let fd = due_again _ r4.0 d r4.1 r4.3 r4.4 in
     let kc = bodied _ c r3.1 refl fc in
     let kd = bodied _ d r4.1 refl fd in
-    let mc = at_most c.number 1048576 _ fc.right in
-    let md = at_most d.number 1048576 _ fd.right in
-    let l = last_len reply_format _ e.0 rest 33554432 e.1 e.2 (λ m ok. at_most_twice m 33554432 _ _ _ ok) in
+    let mc = at_most c.number messages_max _ fc.right in
+    let md = at_most d.number messages_max _ fd.right in
+    let l = last_len reply_format _ e.0 rest object_max e.1 e.2 (λ m ok. at_most_twice m object_max _ _ _ ok) in
     omega (arith, l, pa, pb, kc, mc, kd, md)
 by_fields (a ∷ b ∷ c ∷ d ∷ f ∷ more) front rest r e = let no = e.1 in absurd cc
 

@@ -5,6 +5,7 @@ use Rattle.std.proofs.lemmas.Bool.{leb-true, le-leb, eqb-true, eq-eqb, ne_eqb, l
 use Rattle.std.proofs.lemmas.List.{append-nil, length-append, same_from_push}
 use Rattle.std.proofs.lemmas.List.Elements.{All-cons, All-nil, All-head, All-tail}
 use Rattle.std.proofs.lemmas.List.Sums.{sum_by-cons, sum_by_push}
+use Rattle.farm_types.specs.Limits.{word_max, words_bytes_max, words_max, source_max}
 use Rattle.farm_types.specs.declared.request.Request.{Request}
 use Rattle.wire_tokens.specs.declared.faults.RequestFault.{RequestFault}
 use Rattle.wire_tokens.specs.Token.{IsToken}
@@ -61,7 +62,8 @@ due_none a b words lt = rw (le-ltb (length words) b.number (omega arith), ne_eqb
 abbrev pub source_field : List ℕ → Field
 source_field source = record { number = length source; body = source }
 
-words-front : (a b : Field) (done words : List (List ℕ)) (text doti source : List ℕ) → length done + length words ≡ b.number → sum_by length done + sum_by length words ≤ 1048576 → All (λ word. length word ≤ 65536) words → length source ≤ 33554432
+words-front : (a b : Field) (done words : List (List ℕ)) (text doti source : List ℕ) → length done + length words ≡ b.number
+    → sum_by length done + sum_by length words ≤ words_bytes_max → All (λ word. length word ≤ word_max) words → length source ≤ source_max
     → SpellsWords words text → IsToken (codes "DOTI") (length source) doti → IsFront request_format (a ∷ b ∷ word_fields done) (word_fields words ++ record { number = length source; body = source } ∷ []) (text ++ (doti ++ source))
 unfolding word_fields
 words-front a b done [] text doti source count together each fits spelled is_doti =
@@ -79,10 +81,12 @@ words-front a b done (word ∷ words) text doti source count together each fits 
     let push : sum_by length (done ++ word ∷ []) ≡ sum_by length done + length word = sum_by_push length done word in
     let some : length (word_fields done) < b.number = omega (arith, length-word_fields done) in
     let before : bodies_len (word_fields done) ≡ sum_by length done = bodies_len-word_fields done in
-    let small : length word ≤ 65536 = All-head (λ (w : List ℕ). length w ≤ 65536) word words each in
-    let right : word_fault (bodies_len (word_fields done)) (length word) ≡ None = rw (le-leb (length word) 65536 small, le-leb (bodies_len (word_fields done) + length word) 1048576 (omega arith)) refl in
+    let small : length word ≤ word_max = All-head (λ (w : List ℕ). length w ≤ word_max) word words each in
+    let right : word_fault (bodies_len (word_fields done)) (length word) ≡ None =
+    rw (le-leb (length word) word_max small, le-leb (bodies_len (word_fields done) + length word) words_bytes_max (omega arith)) refl in
     let len : length (done ++ word ∷ []) ≡ length done + 1 = length-append done (word ∷ []) in
-    let later = words-front a b (done ++ word ∷ []) words spelled.1 doti source (omega arith) (omega arith) (All-tail (λ (w : List ℕ). length w ≤ 65536) word words each) fits spelled.4 is_doti in (
+    let later = words-front a b (done ++ word ∷ []) words spelled.1 doti source (omega arith) (omega arith)
+    (All-tail (λ (w : List ℕ). length w ≤ word_max) word words each) fits spelled.4 is_doti in (
       argv_due (bodies_len (word_fields done)),
       spelled.0 ++ word,
       spelled.1 ++ (doti ++ source),
@@ -92,8 +96,8 @@ words-front a b done (word ∷ words) text doti source count together each fits 
       subst (λ (fs : List Field). IsFront request_format (a ∷ b ∷ fs) (word_fields words ++ record { number = length source; body = source } ∷ []) (spelled.1 ++ (doti ++ source))) (word_fields-push done word) later,
     )
 
-count_right : (n : ℕ) → 1 ≤ n → n ≤ 1024 → count_fault n ≡ None
-count_right n low high = rw (le-leb 1 n low, le-leb n 1024 high) refl
+count_right : (n : ℕ) → 1 ≤ n → n ≤ words_max → count_fault n ≡ None
+count_right n low high = rw (le-leb 1 n low, le-leb n words_max high) refl
 
 pub spelled-front : (text : List ℕ) (q : Request) → SpellsRequest text q → IsFront request_format [] (request_fields q) text
 unfolding request_fields word_fields
@@ -135,17 +139,19 @@ record WordsAndSource (a b : Field) (done : List (List ℕ)) (fields : List Fiel
   is_doti : IsToken (codes "DOTI") (length source) doti
   parts : text ≡ spelled ++ (doti ++ source)
   count : length done + length words ≡ b.number
-  each : All (λ word. length word ≤ 65536) words
-  together : sum_by length done + sum_by length words ≤ 1048576
-  source_fits : length source ≤ 33554432
+  each : All (λ word. length word ≤ word_max) words
+  together : sum_by length done + sum_by length words ≤ words_bytes_max
+  source_fits : length source ≤ source_max
 
-front-last : (a b : Field) (done : List (List ℕ)) (f : Field) (fields : List Field) (text : List ℕ) → length done ≡ b.number → sum_by length done ≤ 1048576 → IsFront request_format (a ∷ b ∷ word_fields done) (f ∷ fields) text → WordsAndSource a b done (f ∷ fields) text
+front-last : (a b : Field) (done : List (List ℕ)) (f : Field) (fields : List Field) (text : List ℕ) → length done ≡ b.number
+    → sum_by length done ≤ words_bytes_max → IsFront request_format (a ∷ b ∷ word_fields done) (f ∷ fields) text
+    → WordsAndSource a b done (f ∷ fields) text
 unfolding word_fields
 front-last a b done f [] text all together r =
     let e : length (word_fields done) ≡ b.number = length-word_fields done ∙ all in
     let is = due_again doti_due r.0 f r.1 (sym (due_source a b (word_fields done) e) ∙ r.3) r.4 in
     let k : f.number ≡ length f.body = bodied doti_due f r.1 refl is in
-    let small : f.number ≤ 33554432 = leb-true f.number 33554432 (allowed (nat_le f.number 33554432) _ is.right) in
+    let small : f.number ≤ source_max = leb-true f.number source_max (allowed (nat_le f.number source_max) _ is.right) in
     record {
       words = [];
       source = f.body;
@@ -156,9 +162,9 @@ front-last a b done f [] text all together r =
       is_doti = token_of doti_due (codes "DOTI") f r.1 refl refl is;
       parts = r.5 ∙ ap (λ (x : List ℕ). r.1 ++ x) r.6 ∙ append-nil r.1 ∙ is.parts;
       count = omega arith;
-      each = All-nil (λ (word : List ℕ). length word ≤ 65536);
+      each = All-nil (λ (word : List ℕ). length word ≤ word_max);
       together = omega arith;
-      source_fits = subst (λ (k : ℕ). k ≤ 33554432) k small;
+      source_fits = subst (λ (k : ℕ). k ≤ source_max) k small;
     }
 front-last a b done f (g ∷ fields) text all together r =
     let len : length (word_fields done ++ f ∷ []) ≡ length (word_fields done) + 1 = length-append (word_fields done) (f ∷ []) in
@@ -166,7 +172,9 @@ front-last a b done f (g ∷ fields) text all together r =
     let no = sym past ∙ r.6.3 in
     absurd cc
 
-front-words : (a b : Field) (done : List (List ℕ)) (fields : List Field) (text : List ℕ) → length done ≤ b.number → sum_by length done ≤ 1048576 → IsFront request_format (a ∷ b ∷ word_fields done) fields text → request_due (a ∷ b ∷ (word_fields done ++ fields)) ≡ None → WordsAndSource a b done fields text
+front-words : (a b : Field) (done : List (List ℕ)) (fields : List Field) (text : List ℕ) → length done ≤ b.number
+    → sum_by length done ≤ words_bytes_max → IsFront request_format (a ∷ b ∷ word_fields done) fields text
+    → request_due (a ∷ b ∷ (word_fields done ++ fields)) ≡ None → WordsAndSource a b done fields text
 unfolding word_fields
 front-words a b done [] text count together r e =
     let w : word_fields done ++ [] ≡ word_fields done = append-nil (word_fields done) in
@@ -181,9 +189,11 @@ front-words a b done (f ∷ fields) text count together r e =
           let due : Due RequestFault = argv_due (bodies_len (word_fields done)) in
           let is = due_again due r.0 f r.1 (sym (due_word a b (word_fields done) (omega (arith, length-word_fields done))) ∙ r.3) r.4 in
           let k : f.number ≡ length f.body = bodied due f r.1 refl is in
-          let rule = allowed_twice (nat_le f.number 65536) (nat_le (bodies_len (word_fields done) + f.number) 1048576) _ _ is.right in
-          let small : f.number ≤ 65536 = leb-true f.number 65536 rule.0 in
-          let sum : bodies_len (word_fields done) + f.number ≤ 1048576 = leb-true (bodies_len (word_fields done) + f.number) 1048576 rule.1 in
+          let rule = allowed_twice (nat_le f.number word_max) (nat_le (bodies_len (word_fields done) + f.number) words_bytes_max)
+          _ _ is.right in
+          let small : f.number ≤ word_max = leb-true f.number word_max rule.0 in
+          let sum : bodies_len (word_fields done) + f.number ≤ words_bytes_max =
+          leb-true (bodies_len (word_fields done) + f.number) words_bytes_max rule.1 in
           let before : bodies_len (word_fields done) ≡ sum_by length done = bodies_len-word_fields done in
           let push : sum_by length (done ++ f.body ∷ []) ≡ sum_by length done + length f.body = sum_by_push length done f.body in
           let len : length (done ++ f.body ∷ []) ≡ length done + 1 = length-append done (f.body ∷ []) in
@@ -204,7 +214,7 @@ front-words a b done (f ∷ fields) text count together r e =
             parts = r.5 ∙ ap (λ (x : List ℕ). x ++ r.2) is.parts ∙ append_assoc is.token f.body r.2 ∙ ap (λ (x : List ℕ). is.token ++ (f.body ++ x)) z.parts
                 ∙ ap (λ (x : List ℕ). is.token ++ x) (sym (append_assoc f.body z.spelled (z.doti ++ z.source))) ∙ sym (append_assoc is.token (f.body ++ z.spelled) (z.doti ++ z.source));
             count = omega (arith, z.count);
-            each = All-cons (λ (word : List ℕ). length word ≤ 65536) f.body z.words (subst (λ (m : ℕ). m ≤ 65536) k small) z.each;
+            each = All-cons (λ (word : List ℕ). length word ≤ word_max) f.body z.words (subst (λ (m : ℕ). m ≤ word_max) k small) z.each;
             together = omega (arith, z.together, sum_by-cons length f.body z.words);
             source_fits = z.source_fits;
           }
@@ -222,9 +232,9 @@ front-spelled (a ∷ b ∷ fields) text r e =
     let pa = plain dist_due a r.1 refl fa in
     let pb = plain argc_due b r2.1 refl fb in
     let one : a.number ≡ 1 = eqb-true a.number 1 (allowed (eqb a.number 1) _ fa.right) in
-    let rule = count_is (nat_le 1 b.number) (nat_le b.number 1024) _ fb.right in
+    let rule = count_is (nat_le 1 b.number) (nat_le b.number words_max) _ fb.right in
     let low : 1 ≤ b.number = leb-true 1 b.number rule.0 in
-    let high : b.number ≤ 1024 = leb-true b.number 1024 rule.1 in
+    let high : b.number ≤ words_max = leb-true b.number words_max rule.1 in
     let z = front-words a b [] fields r2.2 (omega arith) (omega arith) r2.6 e in
     let count : length z.words ≡ b.number = omega (arith, z.count) in
     let q : Request = record { words = z.words; source = z.source } in (

@@ -4,6 +4,7 @@ use Rattle.std.specs.Prelude.{codes}
 use Rattle.std.specs.List.{flat_map}
 use Rattle.std.proofs.lemmas.List.Elements.{All-head, All-tail}
 use Rattle.std.proofs.lemmas.List.Concat.{flat_map-cons}
+use Rattle.farm_types.specs.Limits.{word_max}
 use Rattle.farm_types.specs.declared.ran.Outcome.{Outcome}
 use Rattle.farm_types.specs.declared.request.Request.{Request}
 use Rattle.farm_types.specs.Fits.{OutcomeFits, RequestFits}
@@ -31,15 +32,15 @@ reply_written o fits status = record {
   parts = refl;
 }
 
-words_written : (words : List (List ℕ)) → All (λ word. length word ≤ 65536) words → SpellsWords words (flat_map word_text words)
+words_written : (words : List (List ℕ)) → All (λ word. length word ≤ word_max) words → SpellsWords words (flat_map word_text words)
 words_written [] each = refl
 words_written (word ∷ words) each =
-    let small : length word ≤ 65536 = All-head (λ (w : List ℕ). length w ≤ 65536) word words each in (
+    let small : length word ≤ word_max = All-head (λ (w : List ℕ). length w ≤ word_max) word words each in (
       token (codes "ARGV") (length word),
       flat_map word_text words,
       low_is (codes "ARGV") (length word) (omega arith),
       flat_map-cons word_text word words ∙ append_assoc (token (codes "ARGV") (length word)) word (flat_map word_text words),
-      words_written words (All-tail (λ (w : List ℕ). length w ≤ 65536) word words each),
+      words_written words (All-tail (λ (w : List ℕ). length w ≤ word_max) word words each),
     )
 
 pub request_written : (q : Request) → RequestFits q.words q.source → SpellsRequest (request_text q) q
