@@ -5,12 +5,8 @@ import subprocess
 import sys
 import time
 
-from wire import compile_words, exchange
-import wire
-
-
-def request(source):
-    return wire.request(compile_words(b"probe"), source)
+from peaks import resident
+from wire import compile_request, exchange
 
 
 def timed(call, times):
@@ -27,16 +23,11 @@ def hit(port, path):
     source = b"int a = 1;\n" * (8 * 1024 * 1024 // 11)
     with open(path, "wb") as file:
         file.write(source)
-    text = request(source)
+    text = compile_request(b"probe", source)
     assert exchange(port, text).startswith(b"DONE00000001STAT00000000")
     cached = timed(lambda: exchange(port, text), 9)
     summed = timed(lambda: subprocess.run(["sha256sum", path], stdout=subprocess.DEVNULL, check=True), 9)
     print(f"a hit on a source of 8 MiB, with its transfer: {cached:.1f} ms; sha256sum of it, with its start: {summed:.1f} ms; ratio {cached / summed:.2f}")
-
-
-def resident(process, kind="VmRSS"):
-    with open(f"/proc/{process}/status", encoding="ascii") as file:
-        return next(int(line.split()[1]) for line in file if line.startswith(kind))
 
 
 def fill(port, count, process, name, sizes):
@@ -44,7 +35,7 @@ def fill(port, count, process, name, sizes):
     choice = random.Random(7)
     for number in range(count):
         body = b"int a;\n" * (choice.randint(least, most) // 7)
-        assert exchange(port, request(b"// %d\n" % number + body)).startswith(b"DONE00000001STAT00000000")
+        assert exchange(port, compile_request(b"probe", b"// %d\n" % number + body)).startswith(b"DONE00000001STAT00000000")
     own = resident(process, "RssAnon")
     print(f"{name}: {resident(process)} KiB resident behind {count} sources of {sizes} KiB, of which {own} KiB aren't of files")
 

@@ -7,11 +7,12 @@ import tempfile
 import time
 from collections import Counter
 
+from checks import fail, verdict, write
+
 REFUSE, RUNS, FARM = sys.argv[1:4]
 EVERY = "--every" in sys.argv
 SECONDS = 30
 USUAL, WANTING, OWN = "as usual", "memory wanting", "refused to the program's own part"
-failures = 0
 
 
 def run(words, **more):
@@ -64,12 +65,10 @@ class Compile:
         tempfile.tempdir = os.path.join(folder, "own")
         os.mkdir(tempfile.tempdir)
         os.mkdir("bin")
-        with open("bin/bare.c", "w") as file:
-            file.write(BARE % shutil.which("gcc"))
+        write("bin/bare.c", BARE % shutil.which("gcc"))
         bare = ["cc", "-static", "bin/bare.c", "-o", "bin/gcc"]
         self.is_built = subprocess.run(bare, stderr=subprocess.DEVNULL).returncode == 0
-        with open("a.c", "w") as file:
-            file.write("int f(int x) { return x; }\n")
+        write("a.c", "int f(int x) { return x; }\n")
         subprocess.run(["gcc", "-c", "a.c", "-o", "whole.o"], check=True)
         with open("whole.o", "rb") as file:
             self.whole = file.read()
@@ -104,11 +103,9 @@ def numbers(most):
 
 def refuse(name, words, end):
     """Refuses none that is made, and then one after another."""
-    global failures
     most = count(words)
     if end(run(words, REFUSED=str(2 * most))) != USUAL:
-        failures += 1
-        print(f"FAIL {name}: with no allocation refused")
+        fail(f"{name}: with no allocation refused")
     begun = time.monotonic()
     ends = Counter()
     for number in numbers(most):
@@ -121,8 +118,7 @@ def refuse(name, words, end):
             seen, how = "no end", None
         ends[how] += 1
         if how is None:
-            failures += 1
-            print(f"FAIL {name}: with allocation {number} refused: {seen}")
+            fail(f"{name}: with allocation {number} refused: {seen}")
     told = ", ".join(f"{how} {times}" for how, times in ends.items() if how)
     print(f"{name}: {most} allocations, {sum(ends.values())} refused in {time.monotonic() - begun:.0f} s: {told}")
 
@@ -140,5 +136,4 @@ if shutil.which("gcc"):
         else:
             print("farm cc over the disk: skipped, since no program can be linked statically here")
         os.chdir("/")
-print(f"tests/allocations: {failures} failed")
-sys.exit(1 if failures else 0)
+verdict("tests/allocations")

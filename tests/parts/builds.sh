@@ -1,5 +1,5 @@
 # Whole builds for tests/interop, which sources this file in its working folder: many jobs and hosts, a host that is killed, and single commands.
-# It uses farm, expect, refuses, answers, same and split of that script.
+# It uses refuses, answers, same and split of that script.
 
 # list COUNT: writes COUNT sources, what gcc makes of each, and the list of their jobs
 list() {

@@ -67,6 +67,21 @@ work_folder() {
   export TMPDIR=$work/tmp LC_ALL=C
 }
 
+# is_taken PORT: whether anybody listens at a port
+is_taken() { grep -q "^ *[0-9]*: [0-9A-F]*:$(printf '%04X' "$1") [0-9A-F]*:[0-9A-F]* 0A " /proc/net/tcp; }
+
+# comes_up PROCESS SIGN..: waits until a server of the script's own listens, which the command SIGN tells: for ten seconds at most, and while the process lives
+comes_up() {
+  local process=$1
+  shift
+  for _ in $(seq 100); do
+    "$@" && return
+    kill -0 "$process" 2>/dev/null || return 1
+    sleep 0.1
+  done
+  return 1
+}
+
 # fail WHAT: something isn't as it should be
 fail() {
   echo "FAIL $1"

@@ -6,18 +6,11 @@ import sys
 import threading
 import time
 
-import wire
+from checks import end, fail
+from wire import compile_request, dial, exchange
 
 PORT = int(sys.argv[1])
-GOOD = wire.request(wire.compile_words(b"gcc"), b"int a = 1;\n")
-
-
-def exchange(text, **more):
-    return wire.exchange(PORT, text, **more)
-
-
-def asks(compiler, source, *options, name=b"a.i"):
-    return wire.request(wire.compile_words(compiler, *options, name=name), source)
+GOOD = compile_request(b"gcc", b"int a = 1;\n")
 
 
 def is_answered(reply):
@@ -25,33 +18,33 @@ def is_answered(reply):
 
 
 def four():
-    assert is_answered(exchange(GOOD))
-    assert b"unknown compiler cc\n" in exchange(asks(b"cc", b""))
-    assert exchange(b"", source="127.0.0.2") == b""
-    assert exchange(b"DIST", half_close=True) == b""
+    assert is_answered(exchange(PORT, GOOD))
+    assert b"unknown compiler cc\n" in exchange(PORT, compile_request(b"cc", b""))
+    assert exchange(PORT, b"", source="127.0.0.2") == b""
+    assert exchange(PORT, b"DIST", half_close=True) == b""
 
 
 def all_kinds():
     # one that dies in the middle, by a reset
-    link = wire.dial(PORT)
+    link = dial(PORT)
     link.sendall(GOOD[:60])
     link.setsockopt(socket.SOL_SOCKET, socket.SO_LINGER, struct.pack("ii", 1, 0))
     link.close()
     # one that dies as soon as its request is sent
-    link = wire.dial(PORT)
+    link = dial(PORT)
     link.sendall(GOOD)
     link.setsockopt(socket.SOL_SOCKET, socket.SO_LINGER, struct.pack("ii", 1, 0))
     link.close()
-    assert is_answered(exchange(GOOD + b"x" * 1000)), "surplus bytes"
-    assert is_answered(exchange(GOOD, half_close=True)), "a client that half-closes"
-    assert exchange(b"GET / HTTP/1.0\r\n\r\n") == b"", "another protocol"
+    assert is_answered(exchange(PORT, GOOD + b"x" * 1000)), "surplus bytes"
+    assert is_answered(exchange(PORT, GOOD, half_close=True)), "a client that half-closes"
+    assert exchange(PORT, b"GET / HTTP/1.0\r\n\r\n") == b"", "another protocol"
     # one that says nothing holds one door and no other
-    idle = wire.dial(PORT)
+    idle = dial(PORT)
     for _ in range(12):
-        assert is_answered(exchange(GOOD)), "beside an idle client"
+        assert is_answered(exchange(PORT, GOOD)), "beside an idle client"
     # more at once than there are doors
     answers = []
-    threads = [threading.Thread(target=lambda: answers.append(exchange(GOOD))) for _ in range(64)]
+    threads = [threading.Thread(target=lambda: answers.append(exchange(PORT, GOOD))) for _ in range(64)]
     for thread in threads:
         thread.start()
     for thread in threads:
@@ -70,7 +63,7 @@ def own_objects(rounds):
 
         def ask(word, name, wait):
             time.sleep(wait)
-            answers[word] = exchange(asks(b"shared", b"x", word, name=name))
+            answers[word] = exchange(PORT, compile_request(b"shared", b"x", word, name=name))
 
         asked = [(b"-fremoves-%d" % status, b"a.c", 0), (b"-fwrites", b"b.cc", 0.2)]
         threads = [threading.Thread(target=ask, args=each) for each in asked]
@@ -85,20 +78,20 @@ def own_objects(rounds):
 
 
 def served():
-    assert is_answered(exchange(GOOD)), "a program by a path from farmd's folder"
-    assert exchange(asks(b"gcc", b"int a;\n", b"-B@x\n")) == b"", "a word that isn't let through"
-    assert is_answered(exchange(GOOD)), "a word that is let through, after another"
-    messages = exchange(asks(b"gcc", b"int a = ;\n"))
+    assert is_answered(exchange(PORT, GOOD)), "a program by a path from farmd's folder"
+    assert exchange(PORT, compile_request(b"gcc", b"int a;\n", b"-B@x\n")) == b"", "a word that isn't let through"
+    assert is_answered(exchange(PORT, GOOD)), "a word that is let through, after another"
+    messages = exchange(PORT, compile_request(b"gcc", b"int a = ;\n"))
     assert b"SERR" in messages and b"input.i:1:9: error" in messages and b"farm-" not in messages, messages
 
 
 def one():
-    assert is_answered(exchange(GOOD)), "one client"
+    assert is_answered(exchange(PORT, GOOD)), "one client"
 
 
 MODES = {"all": all_kinds, "four": four, "one": one, "served": served, "own": lambda: own_objects(int(os.environ.get("ROUNDS", "5")))}
 try:
     MODES[sys.argv[2] if sys.argv[2:] else "all"]()
 except (AssertionError, OSError) as error:
-    print("FAIL clients.py:", error)
-    sys.exit(1)
+    fail(f"clients.py: {error}")
+end()

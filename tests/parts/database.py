@@ -5,6 +5,8 @@ import re
 import subprocess
 import sys
 
+from checks import end, fail
+
 FIXED = [
     "gcc x.c",
     r"gcc -DNAME=\"value\" x.c",
@@ -56,8 +58,8 @@ def main():
     assert ran.returncode == 0 and len(lines) == len(commands), (ran.returncode, len(lines), ran.stderr)
     wrong = [command for command, line in zip(commands, lines) if by_list(line) != by_shell(command)]
     for command in wrong[:5]:
-        print(f"FAIL {command!r}: the shell has {by_shell(command)}")
-    sys.exit(1 if wrong else 0)
+        fail(f"{command!r}: the shell has {by_shell(command)}")
+    end()
 
 
 main()

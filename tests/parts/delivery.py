@@ -13,11 +13,14 @@ import subprocess
 import tempfile
 import time
 
-from farm import FARM, content, expect, leftovers, start_farm, verdict, write
+from checks import expect, verdict, write, write_program
+from farm import FARM, content, job, leftovers, make_folder, start_farm
 from peaks import Peak
 from wire import read_request, reply_head, start_host
 
 MIB = 1048576
+COMPILER = '#!/bin/sh\ncat "$2"\n'
+SOURCES = [("small.c", 1, "S"), ("large.c", 30 * MIB, "L"), ("other.c", 30 * MIB, "M"), ("most.c", 32 * MIB, "T")]
 
 
 def serve(link):
@@ -38,21 +41,9 @@ def run(folder, jobs, **more):
     return child.wait(), text, peak.kib() * 1024
 
 
-def make_folder(folder):
-    compiler = os.path.join(folder, "cc")
-    write(compiler, '#!/bin/sh\ncat "$2"\n')
-    os.chmod(compiler, 0o755)
-    for name, size, letter in [("small", 1, "S"), ("large", 30 * MIB, "L"), ("other", 30 * MIB, "M"), ("most", 32 * MIB, "T")]:
-        write(os.path.join(folder, name + ".c"), f"{size} {letter}\n")
-
-
-def job(name, output):
-    return f"./cc -c {name}.c -o {output}\n"
-
-
 def resident_sizes(folder):
-    _, _, least = run(folder, job("small", "small.o"))
-    status, text, most = run(folder, job("most", "most.o"))
+    _, _, least = run(folder, job("small.c", "small.o"))
+    status, text, most = run(folder, job("most.c", "most.o"))
     expect("the largest object", status == 0 and content(f"{folder}/most.o") == ("T", 32 * MIB), text)
     print(f"resident size: {least // 1024} KiB for an object of 1 byte, {most // 1024} KiB for one of 32 MiB")
     expect("a large object isn't kept in memory", most <= least + 4 * MIB)
@@ -65,11 +56,11 @@ def whole_or_old(folder, before):
 def killed_in_a_put(folder, times):
     write(f"{folder}/x.o", "oooo")
     begun = time.monotonic()
-    run(folder, job("large", "y.o"))
+    run(folder, job("large.c", "y.o"))
     length = time.monotonic() - begun
     left = 0
     for _ in range(times):
-        child = start_farm(folder, job("large", "x.o"), PORT, "--no-fallback")
+        child = start_farm(folder, job("large.c", "x.o"), PORT, "--no-fallback")
         time.sleep(random.uniform(0, length))
         child.kill()
         child.stdout.read()
@@ -79,15 +70,15 @@ def killed_in_a_put(folder, times):
         for name in leftovers(folder):
             expect("what is left has a name of its own", re.fullmatch(r"farm-\d+-\d+\.farm~", name), name)
             os.remove(f"{folder}/{name}")
-    status, text, _ = run(folder, job("large", "x.o"))
+    status, text, _ = run(folder, job("large.c", "x.o"))
     expect("a run after killed ones", status == 0 and content(f"{folder}/x.o") == ("L", 30 * MIB), text)
     print(f"killed {times} times: {left} files were left")
 
 
 def two_at_once(folder, times):
     for number in range(times):
-        first = start_farm(folder, job("large", "z.o"), PORT, "--no-fallback")
-        second = start_farm(folder, job("other", "./z.o" if number % 2 else "z.o"), PORT, "--no-fallback")
+        first = start_farm(folder, job("large.c", "z.o"), PORT, "--no-fallback")
+        second = start_farm(folder, job("other.c", "./z.o" if number % 2 else "z.o"), PORT, "--no-fallback")
         for child in (first, second):
             child.stdout.read()
             expect("each of two at one output succeeds", child.wait() == 0)
@@ -101,7 +92,7 @@ def large_above_a_limit(folder):
         resource.setrlimit(resource.RLIMIT_FSIZE, (MIB, MIB))
 
     write(f"{folder}/x.o", "oooo")
-    status, text, _ = run(folder, job("large", "x.o"), preexec_fn=limit)
+    status, text, _ = run(folder, job("large.c", "x.o"), preexec_fn=limit)
     expect("a file-size limit", status == 107 and text.startswith("x.o: cannot be written: File too large") and "1 failed put\n" in text, (status, text))
     expect("a file-size limit leaves the output", content(f"{folder}/x.o") == ("o", 4) and not leftovers(folder))
 
@@ -115,10 +106,10 @@ def large_on_a_small_disk(folder):
         return
     try:
         write(f"{small}/x.o", "oooo")
-        status, text, _ = run(folder, job("large", "small-disk/x.o"))
+        status, text, _ = run(folder, job("large.c", "small-disk/x.o"))
         expect("a full disk", status == 107 and "1 failed put\n" in text and "x.o: cannot be written: No space left" in text, (status, text))
         expect("a full disk leaves the output", content(f"{small}/x.o") == ("o", 4) and not leftovers(small))
-        status, text, _ = run(folder, job("small", "small-disk/x.o"))
+        status, text, _ = run(folder, job("small.c", "small-disk/x.o"))
         expect("a smaller object fits", status == 0 and content(f"{small}/x.o") == ("S", 1), text)
     finally:
         subprocess.run(["umount", small])
@@ -128,7 +119,7 @@ def other_outputs(folder):
     os.mkfifo(f"{folder}/pipe")
     os.mkdir(f"{folder}/place")
     for name, status in [("/dev/null", 0), ("pipe", 107), ("place", 107), ("l" * 255, 0)]:
-        seen, text, _ = run(folder, job("small", name))
+        seen, text, _ = run(folder, job("small.c", name))
         expect(f"the output {name[:10]}", seen == status, (seen, text))
         expect(f"the reason for {name[:10]}", (f"{name}: cannot be written: " in text) == (status != 0), text)
     expect("a device stays one", subprocess.run(["test", "-c", "/dev/null"]).returncode == 0)
@@ -205,12 +196,11 @@ esac
 """
 
 
-def own_objects(folder, rounds):
+def objects_of_two_workers(folder, rounds):
     """Two workers at once: one's compiler takes its output away and ends later, the other's writes its object meanwhile. Each has its own."""
     place = f"{folder}/own"
     os.mkdir(place)
-    write(f"{place}/cc1", REMOVER)
-    os.chmod(f"{place}/cc1", 0o755)
+    write_program(f"{place}/cc1", REMOVER)
     write(f"{place}/a.c", "")
     write(f"{place}/b.cc", "")
     os.mkdir(f"{place}/tmp")
@@ -234,7 +224,7 @@ PORT = start_host(serve)
 work = tempfile.mkdtemp()
 try:
     os.environ["TMPDIR"] = work
-    make_folder(work)
+    make_folder(work, COMPILER, SOURCES)
     resident_sizes(work)
     killed_in_a_put(work, 50)
     two_at_once(work, 40)
@@ -242,7 +232,7 @@ try:
     large_on_a_small_disk(work)
     other_outputs(work)
     outputs_as_gcc(work)
-    own_objects(work, int(os.environ.get("ROUNDS", "5")))
+    objects_of_two_workers(work, int(os.environ.get("ROUNDS", "5")))
 finally:
     shutil.rmtree(work, ignore_errors=True)
 verdict("tests/delivery")

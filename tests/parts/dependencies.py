@@ -8,6 +8,8 @@ import subprocess
 import sys
 import tempfile
 
+from checks import end, fail, write
+
 FARM = sys.argv[1]
 IS_ALL = "--all" in sys.argv
 
@@ -24,10 +26,8 @@ def tree(folder):
     for path in ("src", "obj/deep", "obj.d"):
         os.makedirs(os.path.join(folder, path))
     for name in ("x.c", "src/y.c", "src/y.cc", "src/a b$c.c", "src/two.dots.c", "src/#n.cc"):
-        with open(os.path.join(folder, name), "w", encoding="ascii") as file:
-            file.write(f'#include "{"" if "/" in name else "src/"}h.h"\nint f(void) {{ return H; }}\n')
-    with open(os.path.join(folder, "src/h.h"), "w", encoding="ascii") as file:
-        file.write("#define H 1\n")
+        write(os.path.join(folder, name), f'#include "{"" if "/" in name else "src/"}h.h"\nint f(void) {{ return H; }}\n')
+    write(os.path.join(folder, "src/h.h"), "#define H 1\n")
 
 
 def texts(folder):
@@ -72,12 +72,11 @@ def compare(words):
     want, got = left(words), left([FARM, "cc", *words])
     if want[0] != got[0] or (want[0] and want[1] != got[1]):
         differing = [name for name in {**want[1], **got[1]} if want[1].get(name) != got[1].get(name)]
-        return f"FAIL {words}: {want[0]} {got[0]} {[(name, want[1].get(name), got[1].get(name)) for name in differing]}"
+        return f"{words}: {want[0]} {got[0]} {[(name, want[1].get(name), got[1].get(name)) for name in differing]}"
     return None
 
 
 def main():
-    failed = 0
     with concurrent.futures.ThreadPoolExecutor(len(os.sched_getaffinity(0))) as pool:
         for compiler in SOURCES:
             if shutil.which(compiler) is None:
@@ -85,9 +84,10 @@ def main():
                 continue
             commands = [*combinations(compiler), *other_shapes(compiler)]
             faults = [fault for fault in pool.map(compare, commands) if fault]
-            print(f"{compiler}: {len(commands)} commands, {len(faults)} wrong", *faults[:5], sep="\n")
-            failed += len(faults)
-    sys.exit(1 if failed else 0)
+            print(f"{compiler}: {len(commands)} commands, {len(faults)} wrong")
+            for fault in faults[:5]:
+                fail(fault)
+    end()
 
 
 main()

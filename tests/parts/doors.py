@@ -11,10 +11,11 @@ import threading
 import time
 
 import wire
+from checks import end, expect
 
 PORT, CONNECTIONS, AT_ONCE = int(sys.argv[1]), int(sys.argv[2]), int(sys.argv[3])
 LONGEST = float(sys.argv[4]) if sys.argv[4:] else 2.0
-REQUEST = wire.request(wire.compile_words(b"probe"), b"x")
+REQUEST = wire.compile_request(b"probe", b"x")
 REPLY = b"DONE00000001STAT00000000SERR00000000SOUT00000000DOTO00000000"
 stop = threading.Event()
 lock = threading.Lock()
@@ -126,6 +127,5 @@ took.sort()
 held = len(took) and took[-1]
 print(f"{CONNECTIONS} connections in {time.monotonic() - begun:.1f} s, {', '.join(f'{count} of which each {kind}' for kind, count in kinds.items())}: "
       f"answers took {took[len(took) // 2]:.2f} s (median), {took[int(len(took) * 0.99)]:.2f} (of a hundred the longest), {held:.2f} at most")
-if wrong or held > LONGEST:
-    print(f"FAIL doors.py: {len(wrong)} wrong {wrong[:3]}, the longest answer took {held:.2f} s")
-    sys.exit(1)
+expect("doors.py:", not wrong and held <= LONGEST, f"{len(wrong)} wrong {wrong[:3]}, the longest answer took {held:.2f} s")
+end()

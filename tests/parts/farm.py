@@ -1,27 +1,21 @@
 """Runs of farm for the checks, and what they leave. FARM names the program."""
 import os
 import subprocess
-import sys
+
+from checks import write, write_program
 
 FARM = os.environ["FARM"]
-failures = []
 
 
-def expect(name, holds, seen=""):
-    if not holds:
-        failures.append(name)
-        print(f"FAIL {name} {seen}")
+def make_folder(folder, compiler, sources):
+    """A compiler, cc, and sources, each with its name, the bytes of its object, and their letter."""
+    write_program(f"{folder}/cc", compiler)
+    for name, size, letter in sources:
+        write(f"{folder}/{name}", f"{size} {letter}\n")
 
 
-def verdict(check):
-    """Ends a check by what failed."""
-    print(f"{check}: {f'{len(failures)} failed' if failures else 'passed'}")
-    sys.exit(1 if failures else 0)
-
-
-def write(path, text):
-    with open(path, "w", encoding="ascii") as file:
-        file.write(text)
+def job(source, output):
+    return f"./cc -c {source} -o {output}\n"
 
 
 def content(path):

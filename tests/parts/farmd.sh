@@ -1,4 +1,4 @@
-# A farmd for the checks. To be sourced by bash.
+# A farmd for the checks. To be sourced by bash, behind the rest of checks.sh.
 
 # start_farmd LOG [WORD..]: starts farmd on loopback with these words, and sets PORT and FARMD_PROCESS. Its output goes to the file LOG, its messages to LOG.err.
 # --trust-options comes first.
@@ -7,18 +7,21 @@ start_farmd() {
   shift
   [ "${1:-}" = --trust-options ] && trust=$1 && shift
   for PORT in $(seq 14632 14731); do
-    (exec 3<>"/dev/tcp/127.0.0.1/$PORT") 2>/dev/null && continue
+    is_taken "$PORT" && continue
+    : >"$log.err" # an earlier one may have told this port
     "$FARMD" $trust --listen 127.0.0.1 --port "$PORT" "$@" >"$log" 2>"$log.err" &
     FARMD_PROCESS=$!
-    for _ in $(seq 50); do
-      grep -q "0100007F:$(printf '%04X' "$PORT") .* 0A" /proc/net/tcp && return
-      kill -0 "$FARMD_PROCESS" 2>/dev/null || break
-      sleep 0.1
-    done
+    comes_up "$FARMD_PROCESS" grep -q "^farmd: listens at 127.0.0.1:$PORT," "$log.err" && return
     kill "$FARMD_PROCESS" 2>/dev/null
+    # another was faster at this port, or no other port will do either
+    grep -q 'cannot listen' "$log.err" || break
   done
+  FARMD_PROCESS=
   return 1
 }
+
+# answered LOG: how many compiles a farmd has answered. A line comes behind its reply.
+answered() { grep -c 'gcc answered 00000000' "$1.err"; }
 
 stop_farmd() {
   [ -n "${FARMD_PROCESS:-}" ] && kill "$FARMD_PROCESS" 2>/dev/null && wait "$FARMD_PROCESS" 2>/dev/null

@@ -15,13 +15,15 @@ import tempfile
 import threading
 import time
 
-from farm import FARM, content, expect, leftovers, run_farm, start_farm, verdict, write
+from checks import expect, verdict, write
+from farm import FARM, content, job, leftovers, make_folder, run_farm, start_farm
 from wire import read_request, reply_head, start_host
 
 PAGE = 4096
 SIZE = 16 * PAGE
 MIB = 1 << 20
 JOBS = 30
+SOURCES = [("x.i", SIZE, "N"), ("small.i", 1, "S"), *((f"k{number}.i", MIB, "N") for number in range(JOBS))]
 KILLS = int(os.environ.get("KILLS", "200"))
 SIGNALS = [signal.SIGKILL, signal.SIGTERM, signal.SIGINT, signal.SIGHUP]
 TENTHS = range(11)
@@ -63,23 +65,10 @@ def reset_after(tenths):
     return serve
 
 
-# jobs
-
-def job(output, source="x.i"):
-    return f"./cc -c {source} -o {output}\n"
-
+# reports
 
 def line(port, text):
     return f"1 {text.replace('HOST', f'127.0.0.1:{port}')}\ntotal 1 ok {int('stat 00000000' in text)}\n"
-
-
-def make_folder(folder):
-    write(f"{folder}/cc", COMPILER)
-    os.chmod(f"{folder}/cc", 0o755)
-    write(f"{folder}/x.i", f"{SIZE} N\n")
-    write(f"{folder}/small.i", "1 S\n")
-    for number in range(JOBS):
-        write(f"{folder}/k{number}.i", f"{MIB} N\n")
 
 
 # faults of the disk
@@ -109,7 +98,7 @@ def full_disk(folder):
             return
         try:
             write(f"{small}/x.o", "oooo")
-            not_put(f"a disk of {pages} pages", small, run_farm(folder, job("disk/x.o"), PORT, "--no-fallback"), pages * PAGE > SIZE)
+            not_put(f"a disk of {pages} pages", small, run_farm(folder, job("x.i", "disk/x.o"), PORT, "--no-fallback"), pages * PAGE > SIZE)
         finally:
             subprocess.run(["umount", small])
 
@@ -122,7 +111,7 @@ def limited(folder):
             resource.setrlimit(resource.RLIMIT_FSIZE, (most, most))
 
         write(f"{folder}/x.o", "oooo")
-        not_put(f"a limit of {most} bytes", folder, run_farm(folder, job("x.o"), PORT, "--no-fallback", preexec_fn=limit), most == SIZE)
+        not_put(f"a limit of {most} bytes", folder, run_farm(folder, job("x.i", "x.o"), PORT, "--no-fallback", preexec_fn=limit), most == SIZE)
 
 
 def unwritable(folder):
@@ -140,7 +129,7 @@ def unwritable(folder):
             os.setuid(NOBODY)
 
     try:
-        not_put("a folder that isn't writable", place, run_farm(folder, job("place/x.o"), PORT, "--no-fallback", preexec_fn=leave))
+        not_put("a folder that isn't writable", place, run_farm(folder, job("x.i", "place/x.o"), PORT, "--no-fallback", preexec_fn=leave))
     except PermissionError:
         print("a folder that isn't writable: skipped, since another user can't run the program here")
     os.chmod(place, 0o755)
@@ -152,13 +141,13 @@ def unprinted(folder):
     """The report can't be printed: the status says so, and the object is there."""
     write(f"{folder}/x.o", "oooo")
     with open("/dev/full", "w") as full:
-        status, _ = run_farm(folder, job("x.o"), PORT, "--no-fallback", stdout=full)
+        status, _ = run_farm(folder, job("x.i", "x.o"), PORT, "--no-fallback", stdout=full)
     expect("a full output", status == 100 and content(f"{folder}/x.o") == ("N", SIZE), status)
-    status, _ = run_farm(folder, job("small.o", "small.i"), PORT, "--no-fallback", stdout=None, stderr=None, preexec_fn=lambda: os.close(1))
+    status, _ = run_farm(folder, job("small.i", "small.o"), PORT, "--no-fallback", stdout=None, stderr=None, preexec_fn=lambda: os.close(1))
     expect("a closed output", status == 100 and content(f"{folder}/small.o") == ("S", 1), status)
     ends, starts = os.pipe()
     os.close(ends)
-    status, _ = run_farm(folder, job("x.o"), PORT, "--no-fallback", stdout=starts, stderr=None)
+    status, _ = run_farm(folder, job("x.i", "x.o"), PORT, "--no-fallback", stdout=starts, stderr=None)
     os.close(starts)
     expect("an output that no one reads", status == 100, status)
 
@@ -166,7 +155,7 @@ def unprinted(folder):
 # kills
 
 def killed(folder):
-    jobs = "".join(job(f"k{number}.o", f"k{number}.i") for number in range(JOBS))
+    jobs = "".join(job(f"k{number}.i", f"k{number}.o") for number in range(JOBS))
     begun = time.monotonic()
     status, text = run_farm(folder, jobs, PORT, "--workers", "4", "--no-fallback")
     length = time.monotonic() - begun
@@ -199,13 +188,13 @@ def resets(folder):
     for tenths in TENTHS:
         port = start_host(reset_after(tenths))
         write(f"{folder}/x.o", "oooo")
-        seen = run_farm(folder, job("x.o"), port, "--no-fallback")
+        seen = run_farm(folder, job("x.i", "x.o"), port, "--no-fallback")
         if tenths == 10:
             expect("a reset behind the reply", seen == (0, line(port, "remote HOST stat 00000000")), seen)
             continue
         expect(f"a reset after {tenths} tenths", seen == (107, line(port, "failed HOST recv")), seen)
         expect(f"a reset after {tenths} tenths leaves the output", content(f"{folder}/x.o") == ("o", 4) and not leftovers(folder))
-        seen = run_farm(folder, job("x.o"), port)
+        seen = run_farm(folder, job("x.i", "x.o"), port)
         expect(f"a reset after {tenths} tenths is made good here", seen == (0, line(port, "here stat 00000000")), seen)
         expect(f"a reset after {tenths} tenths, and the object", content(f"{folder}/x.o") == ("N", SIZE) and not leftovers(folder))
 
@@ -213,7 +202,7 @@ def resets(folder):
 def hangs(folder):
     port = start_host(hang)
     write(f"{folder}/x.o", "oooo")
-    seen = run_farm(folder, job("x.o"), port, "--no-fallback")
+    seen = run_farm(folder, job("x.i", "x.o"), port, "--no-fallback")
     expect("a host that hangs for a second", seen == (0, line(port, "remote HOST stat 00000000")), seen)
     expect("a host that hangs, and the object", content(f"{folder}/x.o") == ("N", SIZE))
 
@@ -231,14 +220,14 @@ def killed_host(folder):
         os._exit(0)
     door.close()
     write(f"{folder}/x.o", "oooo")
-    child = start_farm(folder, job("x.o"), port)
+    child = start_farm(folder, job("x.i", "x.o"), port)
     threading.Timer(0.5, os.kill, (host, signal.SIGKILL)).start()
     text = child.stdout.read().decode()
     os.waitpid(host, 0)
     seen = (child.wait(), text)
     expect("a host that is killed", seen == (0, line(port, "here stat 00000000")), seen)
     expect("a host that is killed, and the object", content(f"{folder}/x.o") == ("N", SIZE) and not leftovers(folder))
-    seen = run_farm(folder, job("x.o"), port, "--no-fallback")
+    seen = run_farm(folder, job("x.i", "x.o"), port, "--no-fallback")
     expect("a host that is gone", seen == (103, line(port, "failed HOST dial")), seen)
 
 
@@ -254,7 +243,7 @@ def mute_host(folder):
         link.setblocking(False)
         link.connect_ex(("127.0.0.1", port))
     begun = time.monotonic()
-    seen = run_farm(folder, job("x.o"), port)
+    seen = run_farm(folder, job("x.i", "x.o"), port)
     took = time.monotonic() - begun
     expect("a host that answers no dial", seen == (0, line(port, "here stat 00000000")), seen)
     expect("a host that answers no dial costs 5 seconds", 4.5 < took < 12, took)
@@ -274,7 +263,7 @@ def silent_host(folder):
 
     port = start_host(silent)
     begun = time.monotonic()
-    seen = run_farm(folder, job("x.o"), port)
+    seen = run_farm(folder, job("x.i", "x.o"), port)
     took = time.monotonic() - begun
     expect("a host that is silent", seen == (0, line(port, "here stat 00000000")), seen)
     expect("a host that is silent costs 10 minutes", 595 < took < 640, took)
@@ -284,7 +273,7 @@ def two_addresses(folder):
     """A name of two addresses, of which one refuses: the other is dialed."""
     write(f"{folder}/hosts", "127.0.0.3 twofold\n127.0.0.1 twofold\n")
     program = f"mount --bind {folder}/hosts /etc/hosts && exec {FARM} build --hosts twofold:{PORT} --no-fallback"
-    run = subprocess.run(["unshare", "--mount", "sh", "-c", program], cwd=folder, input=job("x.o").encode(), capture_output=True, check=False)
+    run = subprocess.run(["unshare", "--mount", "sh", "-c", program], cwd=folder, input=job("x.i", "x.o").encode(), capture_output=True, check=False)
     if b"mount" in run.stderr or b"unshare" in run.stderr:
         print("a name of two addresses: skipped, since nothing can be mounted here")
         return
@@ -296,7 +285,7 @@ PORT = start_host(answer)
 work = tempfile.mkdtemp()
 try:
     os.environ["TMPDIR"] = work
-    make_folder(work)
+    make_folder(work, COMPILER, SOURCES)
     for check in (full_disk, limited, unwritable, unprinted, killed, resets, hangs, killed_host, mute_host, silent_host, two_addresses):
         check(work)
 finally:

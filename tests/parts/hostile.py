@@ -1,19 +1,19 @@
 """Mutated requests for farmd."""
 import os
 import random
-import socket
 import sys
 import threading
 import time
 
 import wire
+from peaks import resident
 
 PORT, PROCESS, RUNS, COUNT, SECONDS = int(sys.argv[1]), int(sys.argv[2]), sys.argv[3], int(sys.argv[4]), float(sys.argv[5])
 THREADS = 8
 
 
 SEEDS = [
-    wire.request([b"probe", b"-c", b"a.i", b"-o", b"a.o"], b"int a = 1;\n"),
+    wire.compile_request(b"probe", b"int a = 1;\n"),
     wire.request([b"probe", b"-O2", b"-g", b"-c", b"b.c", b"-o", b"b.o"], b"int b;\n" * 40),
     wire.request([b"sh", b"-c", b"touch x", b"-o", b"a.o"], b""),
     wire.request([b"probe", b"-E", b"a.c"], b"int a;\n"),
@@ -44,20 +44,9 @@ def mutate(rng, text):
     return bytes(text)
 
 
-def exchange(text):
-    """What farmd answers, however it ends the link."""
-    with wire.dial(PORT) as link:
-        try:
-            link.sendall(text)
-            link.shutdown(socket.SHUT_WR)
-        except OSError:
-            pass
-        return wire.read_all(link)
-
-
 def memory(field):
-    with open(f"/proc/{PROCESS}/status") as status:
-        return next(int(line.split()[1]) for line in status if line.startswith(field)) // 1024
+    """What farmd holds, in MiB."""
+    return resident(PROCESS, field) // 1024
 
 
 class Worker(threading.Thread):
@@ -78,7 +67,7 @@ class Worker(threading.Thread):
 
     def one(self):
         text = mutate(self.rng, self.rng.choice(SEEDS))
-        reply = exchange(text)
+        reply = wire.exchange(PORT, text, half_close=True)
         self.sent += 1
         if not reply:
             return
@@ -121,7 +110,7 @@ def main():
     ran, runs = sum(w.ran for w in workers), os.path.getsize(RUNS)
     if ran != runs:
         sys.exit(f"tests/hostile: {runs} runs, and {ran} replies of runs")
-    if not exchange(SEEDS[0]).startswith(b"DONE00000001STAT00000000"):
+    if not wire.exchange(PORT, SEEDS[0], half_close=True).startswith(b"DONE00000001STAT00000000"):
         sys.exit("tests/hostile: a right request isn't answered any more")
     if 256 < memory("VmHWM"):
         sys.exit(f"tests/hostile: {memory('VmHWM')} MiB")

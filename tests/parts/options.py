@@ -1,24 +1,18 @@
 """Requests with options for farmd: `served PORT RUNS`, `refused PORT RUNS`, and `hostile PORT FOLDER --compiler NAME=PATH..`."""
 import os
-import subprocess
 import sys
 import time
 
-import wire
+from checks import end, expect, failures, write
+from wire import compile_request, exchange
 
 KIND, PORT = sys.argv[1], int(sys.argv[2])
 SECRET = "a line that only this machine has"
 
 
-def request(compiler, options, source):
-    return wire.request(wire.compile_words(compiler.encode(), *(option.encode() for option in options), name=b"a.c"), source)
-
-
-def exchange(text):
-    """What farmd answers, and no less where it resets the link behind that."""
-    with wire.dial(PORT) as link:
-        link.sendall(text)
-        return wire.read_all(link)
+def ask(compiler, options, source):
+    """What farmd answers to a compile with these options."""
+    return exchange(PORT, compile_request(compiler.encode(), source, *(option.encode() for option in options), name=b"a.c"))
 
 
 def lines():
@@ -31,70 +25,59 @@ def lines():
 def through():
     """Each line runs, or none does."""
     runs = sys.argv[3]
-    wrong = count = 0
+    count = 0
     for options in lines():
         before = os.path.getsize(runs)
-        reply = exchange(request("probe", options, b"int a;\n"))
+        reply = ask("probe", options, b"int a;\n")
         ran = os.path.getsize(runs) - before
         count += 1
-        if (ran, reply[:12]) != ((1, b"DONE00000001") if KIND == "served" else (0, b"")):
-            print(f"FAIL {' '.join(options)} is to be {KIND}: {ran} runs, {reply[:60]!r}")
-            wrong += 1
-    print(f"{count} commands are {KIND}" if not wrong else f"{wrong} of {count} aren't {KIND}")
-    sys.exit(wrong != 0)
+        wanted = (1, b"DONE00000001") if KIND == "served" else (0, b"")
+        expect(f"{' '.join(options)} is to be {KIND}:", (ran, reply[:12]) == wanted, f"{ran} runs, {reply[:60]!r}")
+    print(f"{len(failures)} of {count} aren't {KIND}" if failures else f"{count} commands are {KIND}")
 
 
 def hostile():
     folder = sys.argv[3]
     compilers = [word.partition("=")[0] for word in sys.argv[5::2]]
     outside = os.path.join(folder, "outside")
-    with open(os.path.join(folder, "secret"), "w", encoding="ascii") as file:
-        file.write(SECRET + "\n")
+    write(os.path.join(folder, "secret"), SECRET + "\n")
     sources = [
         b"int f(int *a) { return a[0]; }\n",
         b'#include "%s/secret"\n' % folder.encode(),
         b"-wrapper touch,%s/ran -MD -MF %s/ran\n" % (outside.encode(), outside.encode()),
         b"*cc1:\n%%(cpp)\n\n.i:\ntouch %s/ran\n\n" % outside.encode(),
     ]
-    wrong = count = 0
+    count = 0
     begin = time.monotonic()
     for options in lines():
         options = [option.replace("FILE", outside + "/wrote").replace("|touch", f"|touch {outside}/ran").replace("/x", outside + "/wrote") for option in options]
         for compiler in compilers:
             for source in sources:
-                reply = exchange(request(compiler, options, source))
+                reply = ask(compiler, options, source)
                 count += 1
                 made = os.listdir(outside)
-                if reply or made or SECRET.encode() in reply:
-                    print(f"FAIL {compiler} {' '.join(options)}: made {made}, {reply[:80]!r}")
-                    wrong += 1
-                    for name in made:
-                        os.remove(os.path.join(outside, name))
+                expect(f"{compiler} {' '.join(options)}:", not reply and not made, f"made {made}, {reply[:80]!r}")
+                for name in made:
+                    os.remove(os.path.join(outside, name))
     # what is let through and writes beside the object writes into the folder of the run
     here = set(os.listdir("."))
     for options in (["-fstack-usage"], ["-fcallgraph-info"], ["-O2", "-fopt-info-all=wrote"], ["-ftime-trace"], ["-O2", "-fsave-optimization-record"]):
         for compiler in compilers:
-            exchange(request(compiler, options, sources[0]))
+            ask(compiler, options, sources[0])
             count += 1
     made = sorted(set(os.listdir(".")) - here) + os.listdir(outside)
-    if made:
-        print(f"FAIL written outside the folder of a run: {made}")
-        wrong += 1
+    expect("written outside the folder of a run:", not made, made)
     # the doors serve on
     for compiler in compilers:
-        reply = exchange(request(compiler, ["-O2"], sources[0]))
-        if not reply.startswith(b"DONE00000001STAT00000000"):
-            print(f"FAIL {compiler} behind them: {reply[:60]!r}")
-            wrong += 1
-    left = subprocess.run(["ls", "-A", os.path.join(folder, "tmp")], stdout=subprocess.PIPE, text=True, check=False).stdout
-    if left:
-        print(f"FAIL left behind: {left}")
-        wrong += 1
-    print(f"{count} hostile requests in {time.monotonic() - begin:.1f} s, {wrong} of them wrong")
-    sys.exit(wrong != 0)
+        reply = ask(compiler, ["-O2"], sources[0])
+        expect(f"{compiler} behind them:", reply.startswith(b"DONE00000001STAT00000000"), f"{reply[:60]!r}")
+    left = os.listdir(os.path.join(folder, "tmp"))
+    expect("left behind:", not left, left)
+    print(f"{count} hostile requests in {time.monotonic() - begin:.1f} s, {len(failures)} of them wrong")
 
 
 if KIND == "hostile":
     hostile()
 else:
     through()
+end()

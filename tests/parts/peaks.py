@@ -1,10 +1,19 @@
-"""The largest resident size of a process, its children left out. What wait4 tells begins with the size of whoever started it."""
+"""The resident size of a process, its children left out. What wait4 tells of it begins with the size of whoever started it."""
 import threading
 import time
 
 
+def resident(process, field="VmRSS"):
+    """The resident size of a process, or another field of its status, in KiB; 0 where it is gone."""
+    try:
+        with open(f"/proc/{process}/status", encoding="ascii") as file:
+            return next((int(line.split()[1]) for line in file if line.startswith(field)), 0)
+    except OSError:
+        return 0
+
+
 class Peak:
-    """Looks at a process until it ends."""
+    """The largest resident size of a process, which is looked at until it ends."""
 
     def __init__(self, process):
         self.process, self.most = process, 0
@@ -13,14 +22,10 @@ class Peak:
 
     def look(self):
         while True:
-            try:
-                with open(f"/proc/{self.process}/status", encoding="ascii") as file:
-                    seen = [int(line.split()[1]) for line in file if line.startswith("VmHWM")]
-            except OSError:
-                return
+            seen = resident(self.process, "VmHWM")
             if not seen:
                 return
-            self.most = max(self.most, *seen)
+            self.most = max(self.most, seen)
             time.sleep(0.001)
 
     def kib(self):

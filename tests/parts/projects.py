@@ -5,6 +5,8 @@ file that it names."""
 import os
 import sys
 
+from checks import write
+
 COUNT = 30
 
 PART = """#include "whole.h"
@@ -52,19 +54,14 @@ AC_OUTPUT
 """
 
 
-def write(folder, name, text):
-    with open(os.path.join(folder, name), "w", encoding="ascii") as file:
-        file.write(text)
-
-
 def sources(folder):
     os.makedirs(folder)
     numbers = range(1, COUNT + 1)
-    write(folder, "whole.h", "".join(f"int part{k}(const char *text);\n" for k in numbers))
+    write(f"{folder}/whole.h", "".join(f"int part{k}(const char *text);\n" for k in numbers))
     for k in numbers:
-        write(folder, f"part{k}.c", PART.format(k=k))
+        write(f"{folder}/part{k}.c", PART.format(k=k))
     total = " + ".join(f'part{k}("abc")' for k in numbers)
-    write(folder, "main.c", f'#include "whole.h"\nint main(void) {{ return {total} == {3 * 2 * sum(numbers)} ? 0 : 1; }}\n')
+    write(f"{folder}/main.c", f'#include "whole.h"\nint main(void) {{ return {total} == {3 * 2 * sum(numbers)} ? 0 : 1; }}\n')
     return " ".join([f"part{k}.c" for k in numbers] + ["main.c"])
 
 
@@ -95,12 +92,12 @@ def main():
         return
     top = sys.argv[1]
     sources(f"{top}/by_make")
-    write(f"{top}/by_make", "Makefile", MAKEFILE)
+    write(f"{top}/by_make/Makefile", MAKEFILE)
     sources(f"{top}/by_cmake")
-    write(f"{top}/by_cmake", "CMakeLists.txt", CMAKE)
+    write(f"{top}/by_cmake/CMakeLists.txt", CMAKE)
     names = sources(f"{top}/by_configure")
-    write(f"{top}/by_configure", "configure.ac", CONFIGURE)
-    write(f"{top}/by_configure", "Makefile.am", f"bin_PROGRAMS = whole\nwhole_SOURCES = {names} whole.h\nTESTS = whole\n")
+    write(f"{top}/by_configure/configure.ac", CONFIGURE)
+    write(f"{top}/by_configure/Makefile.am", f"bin_PROGRAMS = whole\nwhole_SOURCES = {names} whole.h\nTESTS = whole\n")
 
 
 main()

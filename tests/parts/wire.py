@@ -19,6 +19,10 @@ def request(words, source):
     return text + token(b"DOTI", len(source)) + source
 
 
+def compile_request(compiler, source, *options, name=b"a.i"):
+    return request(compile_words(compiler, *options, name=name), source)
+
+
 # of linux/in.h: a port is chosen as the link is made and not before, so that one whose link to another port waits to end will do
 IP_BIND_ADDRESS_NO_PORT = 24
 
@@ -50,11 +54,14 @@ def read_all(link):
 
 
 def exchange(port, text, half_close=False, source="127.0.0.1"):
-    """What a daemon at this port answers to a text."""
+    """What a daemon at this port answers to a text, however it ends the link."""
     with dial(port, source) as link:
-        link.sendall(text)
-        if half_close:
-            link.shutdown(socket.SHUT_WR)
+        try:
+            link.sendall(text)
+            if half_close:
+                link.shutdown(socket.SHUT_WR)
+        except OSError:
+            pass
         return read_all(link)
 
 

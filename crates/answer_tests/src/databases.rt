@@ -159,7 +159,7 @@ const FAULTS: &[(&str, Option<&str>, usize, DatabaseFault)] = &[
 ];
 
 #[test]
-fn faults(rt: HostRuntime) -> Result<(), Fail> {
+fn each_bad_database_has_its_fault(rt: HostRuntime) -> Result<(), Fail> {
     for (at, (text, folder, from, want)) in FAULTS.iter().enumerate() {
         let selection = Selection {
             folder: *folder,

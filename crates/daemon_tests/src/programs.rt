@@ -241,7 +241,7 @@ fn expect_rows<R: Abort + Threads + Sync>(rt: &R, alloc: Global, rows: &[Row]) -
 }
 
 #[test]
-fn rows(rt: HostRuntime) -> Result<(), Fail> {
+fn a_call_logs_and_ends_by_its_words(rt: HostRuntime) -> Result<(), Fail> {
     expect_rows(&rt, rt.alloc(), ROWS)
 }
 

@@ -88,7 +88,7 @@ fn expect<R: Abort>(
 }
 
 #[test]
-fn bad_words(rt: HostRuntime) -> Result<(), Fail> {
+fn bad_words_are_named_by_their_place(rt: HostRuntime) -> Result<(), Fail> {
     for (words, place) in BAD {
         expect(&rt, rt.alloc(), words, Err(*place), None)?;
     }

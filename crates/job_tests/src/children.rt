@@ -193,7 +193,7 @@ fn expect_answers<R: Abort>(rt: &R, alloc: Global, rows: &[Answer]) -> Result<()
 }
 
 #[test]
-fn answers(rt: HostRuntime) -> Result<(), Fail> {
+fn a_run_answers_what_its_station_leaves(rt: HostRuntime) -> Result<(), Fail> {
     expect_answers(&rt, rt.alloc(), ANSWERS)
 }
 
@@ -286,7 +286,7 @@ fn expect_faults<R: Abort>(rt: &R, alloc: Global, call: Call) -> Result<(), Fail
 }
 
 #[test]
-fn faults(rt: HostRuntime) -> Result<(), Fail> {
+fn a_run_that_fails_or_is_too_loud_is_told(rt: HostRuntime) -> Result<(), Fail> {
     expect_faults(&rt, rt.alloc(), Call::Preprocess)?;
     expect_faults(&rt, rt.alloc(), Call::Compile)?;
     expect_faults(&rt, rt.alloc(), Call::InPlace)

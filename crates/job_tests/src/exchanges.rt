@@ -340,7 +340,7 @@ fn expect_failing<R: Abort>(rt: &R, alloc: Global, rows: &[Failing]) -> Result<(
 }
 
 #[test]
-fn failing_calls(rt: HostRuntime) -> Result<(), Fail> {
+fn a_failed_call_breaks_the_exchange(rt: HostRuntime) -> Result<(), Fail> {
     expect_failing(&rt, rt.alloc(), FAILING)?;
     let undialed = exchange(rt.alloc(), REPLY, 50, &[1], &[], &[])?;
     same(&rt, &cause(undialed), &Some(Cause::Dial), &"a dial");

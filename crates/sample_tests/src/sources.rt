@@ -162,7 +162,7 @@ const LIMITS: &[(u32, u32, &[u8])] = &[
 ];
 
 #[test]
-fn limits(rt: HostRuntime) -> Result<(), Fail> {
+fn names_and_parentheses_have_limits(rt: HostRuntime) -> Result<(), Fail> {
     for (len, depth, want) in LIMITS {
         let text = item_of(rt.alloc(), *len, *depth)?;
         let answer = answer_to(rt.alloc(), text.as_slice())?;

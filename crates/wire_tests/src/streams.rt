@@ -241,7 +241,7 @@ fn expect_cases<R: Abort>(rt: &R, alloc: Global, cases: &[Case]) -> Result<(), F
 }
 
 #[test]
-fn reads_in_pieces(rt: HostRuntime) -> Result<(), Fail> {
+fn a_reply_is_read_in_pieces(rt: HostRuntime) -> Result<(), Fail> {
     expect_cases(&rt, rt.alloc(), CASES)
 }
 

@@ -1,0 +1,34 @@
+# The times of the measures. To be sourced by bash, behind tests/parts/checks.sh.
+
+# the least microseconds of each name
+declare -A least
+
+# timed NAME COMMAND..: runs a command, sets took to its microseconds, and keeps the least of those of its name
+timed() {
+  local name=$1 begin
+  shift
+  begin=${EPOCHREALTIME/./}
+  "$@" || stop "$name failed"
+  took=$((${EPOCHREALTIME/./} - begin))
+  keep_least "$name" "$took"
+}
+
+# keep_least NAME NUMBER
+keep_least() {
+  if [ -z "${least[$1]:-}" ] || [ "$2" -lt "${least[$1]}" ]; then least[$1]=$2; fi
+}
+
+# ms NAME: the least of a name, in milliseconds
+ms() { echo $((least[$1] / 1000)); }
+
+# ratio NAME OTHER [PLACES]: the least of one name in that of the other, with two places behind the point or so many
+ratio() { awk -v a="${least[$1]}" -v b="${least[$2]}" -v n="${3:-2}" 'BEGIN { printf "%.*f", n, a / b }'; }
+
+# file_by_gcc, file_by_split, file_by_distcc, file_by_farm NAME: how NAME.c becomes NAME.o
+file_by_gcc() { gcc -c "$1.c" -o "$1.o"; }
+file_by_split() { gcc -E "$1.c" -o "$1.i" && gcc -c "$1.i" -o "$1.o"; }
+file_by_distcc() { distcc gcc -c "$1.c" -o "$1.o"; }
+file_by_farm() { "$FARM" cc gcc -c "$1.c" -o "$1.o"; }
+
+# list_by_farm LIST HOSTS WORKERS: builds a job list
+list_by_farm() { "$FARM" build --hosts "$2" --workers "$3" --no-fallback <"$1" >/dev/null; }
