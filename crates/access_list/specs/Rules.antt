@@ -1,5 +1,6 @@
 -- What a rule's text says, and what the rules decide.
-use Rattle.std.specs.Prelude.{◌≡◌, ◌≢◌, ℕ, suc, ◌-◌, ◌/◌, ◌^◌, ◌==◌, ◌≤◌, Bool, true, false, List, [], ◌∷◌, ◌++◌, length, take, drop, All, Option, Some, None, unwrap_or, if◌then◌else◌}
+use Rattle.std.specs.Prelude.{◌≡◌, ◌≢◌, ℕ, suc, ◌-◌, ◌/◌, ◌^◌, ◌==◌, ◌≤◌, Bool, true, false, List, [], ◌∷◌, ◌++◌, length, take, drop, All}
+use Rattle.std.specs.Prelude.{Option, Some, None, unwrap_or, if◌then◌else◌}
 use Rattle.std.specs.List.{position_or_len}
 use Rattle.farm_types.specs.Limits.{rules_max}
 use Rattle.farm_types.specs.Decimals.{IsPlainDecimal}
@@ -21,7 +22,8 @@ address_part text = take (slash_in text) text
 abbrev pub bits_part : List ℕ → List ℕ
 bits_part text = drop (slash_in text) text
 
--- what stands behind an address says this number of bits: `/BITS`, 1 or 2 digits without a leading zero and with a value of 0 to 32, or nothing, which means 32
+-- what stands behind an address says this number of bits: `/BITS`, 1 or 2 digits without a leading zero and with a value of 0 to
+-- 32, or nothing, which means 32
 abbrev pub bits_of : List ℕ → ℕ → Type 0
 bits_of [] bits = bits ≡ 32
 bits_of (first ∷ digits) bits = IsPlainDecimal 2 0 32 digits bits

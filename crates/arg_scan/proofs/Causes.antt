@@ -1,5 +1,6 @@
 -- The cause of each class: the least place that gives a reason, or the whole command.
-use Rattle.std.proofs.Common.{◌≡◌, ℕ, zero, suc, ◌<◌, List, [], ◌∷◌, length, Option, Some, None, unwrap_or, refl, ◌∙◌, ap, subst, inl, inr, arith}
+use Rattle.std.proofs.Common.{◌≡◌, ℕ, zero, suc, ◌<◌, List, [], ◌∷◌, length, Option, Some, None, unwrap_or, refl, ◌∙◌, ap, subst, inl}
+use Rattle.std.proofs.Common.{inr, arith}
 use Rattle.std.specs.Prelude.{Contains}
 use Rattle.std.specs.List.{slice_get}
 use Rattle.std.specs.Option.{option_map, option_or}
@@ -24,7 +25,8 @@ none_below words (suc n) k h l =
     let parts = or_parts (first_forced words n) (option_map (λ why. (why, n)) (reason_at words n)) h in
     elim (leb_tells (suc k) n) [
       | inl below ↦ none_below words n k parts.0 below.1
-      | inr not ↦ (let same : n ≡ k = omega (arith, not.1) in subst (λ j. reason_at words j ≡ None) same (map_none (λ why. (why, n)) (reason_at words n) parts.1))
+      | inr not ↦ (let same : n ≡ k = omega (arith, not.1) in
+          subst (λ j. reason_at words j ≡ None) same (map_none (λ why. (why, n)) (reason_at words n) parts.1))
     ]
 
 -- and the other way round
@@ -40,7 +42,9 @@ record IsFound (words : List (List ℕ)) (n at : ℕ) (why : Why) : Type 0 where
   first : reason_at words at ≡ Some why
   before : first_forced words at ≡ None
 
-found_by : (words : List (List ℕ)) (n at : ℕ) (why : Why) (f : Option (Why × ℕ)) (r : Option Why) → first_forced words n ≡ f → reason_at words n ≡ r → option_or f (option_map (λ why. (why, n)) r) ≡ Some (why, at) → (first_forced words n ≡ Some (why, at) → IsFound words n at why) → IsFound words (suc n) at why
+found_by : (words : List (List ℕ)) (n at : ℕ) (why : Why) (f : Option (Why × ℕ)) (r : Option Why) → first_forced words n ≡ f
+    → reason_at words n ≡ r → option_or f (option_map (λ why. (why, n)) r) ≡ Some (why, at)
+    → (first_forced words n ≡ Some (why, at) → IsFound words n at why) → IsFound words (suc n) at why
 found_by words n at why (Some f) r e g h later =
     let rest = later (e ∙ h) in record { within = omega (arith, rest.within); first = rest.first; before = rest.before }
 found_by words n at why None (Some w) e g h later =
@@ -69,7 +73,8 @@ nil_is (reason ∷ more) h = cc
 nothing_forces : (words : List (List ℕ)) → first_forced words (length words) ≡ None → NothingForces words
 nothing_forces words none k l why among = none_in (reasons_at words k) why (none_below words (length words) k none l) among
 
-cause_by : (words : List (List ℕ)) (f : Option (Why × ℕ)) (e : Option Why) → first_forced words (length words) ≡ f → slice_get (end_reasons words) 0 ≡ e → HasCause words (by_place f (by_end e (length words) (verdict.Remote (plan_of words))))
+cause_by : (words : List (List ℕ)) (f : Option (Why × ℕ)) (e : Option Why) → first_forced words (length words) ≡ f
+    → slice_get (end_reasons words) 0 ≡ e → HasCause words (by_place f (by_end e (length words) (verdict.Remote (plan_of words))))
 cause_by words (Some f) e h g =
     let found = found_is words (length words) f.1 f.0 h in
     inl (record {

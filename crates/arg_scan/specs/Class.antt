@@ -1,5 +1,6 @@
 -- The class of a command: it stays on this machine, and why, or it may be sent, and how.
-use Rattle.std.specs.Prelude.{ℕ, zero, suc, ◌≡◌, ◌<◌, ◌⊎◌, Bool, true, false, IsTrue, List, [], ◌∷◌, length, drop, Option, None, Some, unwrap_or, if◌then◌else◌}
+use Rattle.std.specs.Prelude.{ℕ, zero, suc, ◌≡◌, ◌<◌, ◌⊎◌, Bool, true, false, IsTrue, List, [], ◌∷◌, length, drop, Option, None, Some}
+use Rattle.std.specs.Prelude.{unwrap_or, if◌then◌else◌}
 use Rattle.std.specs.List.{slice_get}
 use Rattle.std.specs.Option.{option_map, option_or}
 use Rattle.arg_scan.specs.declared.why.Why.{Why}
@@ -18,7 +19,8 @@ use Rattle.arg_scan.specs.declared.class.Scan.{Scan}
 use Rattle.arg_scan.specs.declared.class.Scan.TheVariants as scan
 use Rattle.arg_scan.specs.Names.{derived_output, ext_of, is_preprocessed}
 use Rattle.arg_scan.specs.Roles.{word_at, part_at}
-use Rattle.arg_scan.specs.Forces.{Forces, NothingForces, first_below, any_below, source_of, is_source, is_output_option, assembles, reasons_at, end_reasons}
+use Rattle.arg_scan.specs.Forces.{Forces, NothingForces, first_below, any_below, source_of, is_source, is_output_option, assembles}
+use Rattle.arg_scan.specs.Forces.{reasons_at, end_reasons}
 
 -- the first reason of the word at a place
 abbrev pub reason_at : List (List ℕ) → ℕ → Option Why

@@ -1,5 +1,6 @@
 -- What makes a command stay on this machine: each place by itself.
-use Rattle.std.specs.Prelude.{ℕ, zero, suc, ◌+◌, ◌<◌, Bool, true, false, not, ◌&&◌, ◌||◌, ◌==◌, List, [], ◌∷◌, ◌++◌, length, drop, codes, Option, None, Some, is_some, bytes_eq, if◌then◌else◌, Contains}
+use Rattle.std.specs.Prelude.{ℕ, zero, suc, ◌+◌, ◌<◌, Bool, true, false, not, ◌&&◌, ◌||◌, ◌==◌, List, [], ◌∷◌, ◌++◌, length, drop, codes}
+use Rattle.std.specs.Prelude.{Option, None, Some, is_some, bytes_eq, if◌then◌else◌, Contains}
 use Rattle.std.specs.Option.{option_or, option_to_list}
 use Rattle.option_table.specs.declared.row.Effect.{Effect}
 use Rattle.option_table.specs.declared.row.Effect.TheVariants as effect

@@ -1,5 +1,6 @@
 -- The names of sources and outputs.
-use Rattle.std.specs.Prelude.{ℕ, ◌-◌, Bool, true, false, ◌&&◌, nat_lt, nat_eq, List, [], ◌∷◌, ◌++◌, length, take, codes, Option, if◌then◌else◌}
+use Rattle.std.specs.Prelude.{ℕ, ◌-◌, Bool, true, false, ◌&&◌, nat_lt, nat_eq, List, [], ◌∷◌, ◌++◌, length, take, codes, Option}
+use Rattle.std.specs.Prelude.{if◌then◌else◌}
 use Rattle.std.specs.List.{list_any, find, starts_with, ends_with}
 use Rattle.arg_scan.specs.declared.names.Ending.{Ending}
 use Rattle.arg_scan.specs.declared.names.Ending.TheVariants.{C, Cc, Cpp, Cxx, CapitalC, I, Ii}

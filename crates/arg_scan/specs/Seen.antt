@@ -14,7 +14,8 @@ use Rattle.arg_scan.specs.declared.verdict.Verdict.TheVariants as verdict
 use Rattle.arg_scan.specs.declared.seen.Input.{Input}
 use Rattle.arg_scan.specs.declared.seen.Seen.{Seen}
 use Rattle.arg_scan.specs.Roles.{part_at}
-use Rattle.arg_scan.specs.Forces.{first_below, any_below, when, source_of, is_source, names_output, is_output_option, action_of, asks_compile, asks_assemble, compiles, assembles}
+use Rattle.arg_scan.specs.Forces.{first_below, any_below, when, source_of, is_source, names_output, is_output_option, action_of}
+use Rattle.arg_scan.specs.Forces.{asks_compile, asks_assemble, compiles, assembles}
 use Rattle.arg_scan.specs.Class.{output_place, by_end}
 
 abbrev pub input_of : Part → ℕ → Option Input

@@ -1,5 +1,6 @@
 -- The labels of the words that are sent are the labels that are kept, and those of the output.
-use Rattle.std.proofs.Common.{◌≡◌, ℕ, Bool, true, false, ◌||◌, List, [], ◌∷◌, ◌++◌, cond, codes, Option, Some, None, if◌then◌else◌, refl, sym, ◌∙◌, ap, append_assoc}
+use Rattle.std.proofs.Common.{◌≡◌, ℕ, Bool, true, false, ◌||◌, List, [], ◌∷◌, ◌++◌, cond, codes, Option, Some, None, if◌then◌else◌, refl}
+use Rattle.std.proofs.Common.{sym, ◌∙◌, ap, append_assoc}
 use Rattle.std.specs.List.{slice_get}
 use Rattle.std.specs.Option.{option_to_list}
 use Rattle.std.proofs.lemmas.Bool.{false≢true}
@@ -34,7 +35,8 @@ abbrev pub kept_owner : Option Effect → Option Effect
 kept_owner None = None
 kept_owner (Some effect) = if effect_is_sent effect then Some effect else None
 
-keep_part : (owner : Option Effect) (word : List ℕ) → is_sent (tail_part owner word) ≡ true → tail_part (kept_owner owner) word ≡ tail_part owner word
+keep_part : (owner : Option Effect) (word : List ℕ) → is_sent (tail_part owner word) ≡ true
+    → tail_part (kept_owner owner) word ≡ tail_part owner word
 keep_part None word h = refl
 keep_part (Some effect) word h = ap (λ b. tail_part (if b then Some effect else None) word) h
 
@@ -60,11 +62,16 @@ owed_dropped (part.Word role.Response) h = refl
 owed_dropped (part.Word (role.Source ending)) h = refl
 owed_dropped (part.Word role.Other) h = refl
 
-drop_owner : (owner : Option Effect) (word : List ℕ) → is_sent (tail_part owner word) ≡ false → kept_owner owner ≡ kept_owner (owed (tail_part owner word))
+drop_owner : (owner : Option Effect) (word : List ℕ) → is_sent (tail_part owner word) ≡ false
+    → kept_owner owner ≡ kept_owner (owed (tail_part owner word))
 drop_owner None word h = owed_dropped (part.Word (role_of word)) h
 drop_owner (Some effect) word h = ap (λ b. if b then Some effect else None) h
 
-relabel_step : (owner : Option Effect) (word : List ℕ) (k : List Label) (tail : List (List ℕ)) → labels_from (kept_owner (owed (tail_part owner word))) (words_of k ++ tail) ≡ k ++ labels_from None tail → (b : Bool) → is_sent (tail_part owner word) ≡ b → labels_from (kept_owner owner) (words_of (cond b (label (tail_part owner word) word ∷ k) k) ++ tail) ≡ cond b (label (tail_part owner word) word ∷ k) k ++ labels_from None tail
+relabel_step : (owner : Option Effect) (word : List ℕ) (k : List Label) (tail : List (List ℕ))
+    → labels_from (kept_owner (owed (tail_part owner word))) (words_of k ++ tail) ≡ k ++ labels_from None tail → (b : Bool)
+    → is_sent (tail_part owner word) ≡ b
+    → labels_from (kept_owner owner) (words_of (cond b (label (tail_part owner word) word ∷ k) k) ++ tail)
+    ≡ cond b (label (tail_part owner word) word ∷ k) k ++ labels_from None tail
 relabel_step owner word k tail rest true h =
     let p = tail_part owner word in
     ap (λ q. label q word ∷ labels_from (owed q) (words_of k ++ tail)) (keep_part owner word h)
@@ -73,13 +80,16 @@ relabel_step owner word k tail rest true h =
 relabel_step owner word k tail rest false h = ap (λ o. labels_from o (words_of k ++ tail)) (drop_owner owner word h) ∙ rest
 
 -- the words that are sent have the labels that they had
-relabel : (owner : Option Effect) (words tail : List (List ℕ)) → final_owner owner words ≡ None → labels_from (kept_owner owner) (words_of (kept (labels_from owner words)) ++ tail) ≡ kept (labels_from owner words) ++ labels_from None tail
+relabel : (owner : Option Effect) (words tail : List (List ℕ)) → final_owner owner words ≡ None
+    → labels_from (kept_owner owner) (words_of (kept (labels_from owner words)) ++ tail) ≡ kept (labels_from owner words)
+    ++ labels_from None tail
 relabel owner [] tail h = ap (λ o. labels_from (kept_owner o) tail) h
 relabel owner (word ∷ more) tail h =
     relabel_step owner word (kept (labels_from (owed (tail_part owner word)) more)) tail
     (relabel (owed (tail_part owner word)) more tail h) (is_sent (tail_part owner word)) refl
 
-no_owed : (p : Part) (word : List ℕ) (last source output : Bool) → slice_get (part_reasons p word last source output) 0 ≡ None → last ≡ true → owed p ≡ None
+no_owed : (p : Part) (word : List ℕ) (last source output : Bool) → slice_get (part_reasons p word last source output) 0 ≡ None
+    → last ≡ true → owed p ≡ None
 no_owed part.Compiler word last source output h l = refl
 no_owed (part.Operand effect) word last source output h l = refl
 no_owed (part.Word role.Dash) word last source output h l = refl
@@ -92,7 +102,8 @@ no_owed (part.Word (role.Source ending)) word last source output h l = refl
 no_owed (part.Word role.Other) word last source output h l = refl
 
 -- where no label gives a reason, no operand is missing
-pub closed : (owner : Option Effect) (words : List (List ℕ)) (source output : Bool) → IsFree source output (labels_from owner words) → (is_nil (labels_from owner words) ≡ true → owner ≡ None) → final_owner owner words ≡ None
+pub closed : (owner : Option Effect) (words : List (List ℕ)) (source output : Bool) → IsFree source output (labels_from owner words)
+    → (is_nil (labels_from owner words) ≡ true → owner ≡ None) → final_owner owner words ≡ None
 closed owner [] source output free h = h refl
 closed owner (word ∷ more) source output free h =
     closed (owed (tail_part owner word)) more _ _ free.1 (λ last. no_owed (tail_part owner word) word _ source output free.0 last)
@@ -110,14 +121,16 @@ tail_labels : (name : List ℕ) → labels_from None (codes "-o" ∷ name ∷ []
 tail_labels name = ap (λ r. label (part.Word r) (codes "-o") ∷ labels_from (owed (part.Word r)) (name ∷ [])) output_role
 
 -- the labels of the kept words of a command, with an output behind them
-pub labels_kept : (words : List (List ℕ)) (name : List ℕ) → IsFree false false (labels words) → (words ≡ [] → ⊥) → labels (words_of (kept (labels words)) ++ codes "-o" ∷ name ∷ []) ≡ kept (labels words) ++ output_tail name
+pub labels_kept : (words : List (List ℕ)) (name : List ℕ) → IsFree false false (labels words) → (words ≡ [] → ⊥)
+    → labels (words_of (kept (labels words)) ++ codes "-o" ∷ name ∷ []) ≡ kept (labels words) ++ output_tail name
 labels_kept [] name free some = absurd (some refl)
 labels_kept (word ∷ more) name free some =
     ap (λ l. label part.Compiler word ∷ l)
     (relabel None more (codes "-o" ∷ name ∷ []) (closed None more _ _ free.1 (λ _. refl))
     ∙ ap (λ l. kept (labels_from None more) ++ l) (tail_labels name))
 
-picks_step : (l : Label) (more : List Label) (b : Bool) → (if b then l.word ∷ words_of (kept more) else words_of (kept more)) ≡ option_to_list (if b then Some l.word else None) ++ words_of (kept more)
+picks_step : (l : Label) (more : List Label) (b : Bool) → (if b then l.word ∷ words_of (kept more) else words_of (kept more))
+    ≡ option_to_list (if b then Some l.word else None) ++ words_of (kept more)
 picks_step l more true = refl
 picks_step l more false = refl
 

@@ -1,5 +1,7 @@
 -- The words of a command with what each is used as, read from the front; what is said of the places says the same of them.
-use Rattle.std.proofs.Common.{◌≡◌, ℕ, zero, suc, ◌+◌, ◌<◌, ◌≤◌, ◌==◌, Bool, true, false, not, ◌||◌, List, [], ◌∷◌, ◌++◌, length, drop, get_or, Option, Some, None, is_some, unwrap_or, if◌then◌else◌, refl, sym, ◌∙◌, ap, append_assoc, append-nil, drop-cons, arith}
+use Rattle.std.proofs.Common.{◌≡◌, ℕ, zero, suc, ◌+◌, ◌<◌, ◌≤◌, ◌==◌, Bool, true, false, not, ◌||◌, List, [], ◌∷◌, ◌++◌, length, drop}
+use Rattle.std.proofs.Common.{get_or, Option, Some, None, is_some, unwrap_or, if◌then◌else◌, refl, sym, ◌∙◌, ap, append_assoc, append-nil}
+use Rattle.std.proofs.Common.{drop-cons, arith}
 use Rattle.std.proofs.lemmas.List.{drop_all}
 use Rattle.std.specs.List.{slice_get}
 use Rattle.std.specs.Option.{option_map, option_or, option_to_list}
@@ -104,7 +106,8 @@ part_of-tail (Some effect) i word = refl
 part_of-tail None i word = refl
 
 -- the places from n on have the labels that are read from there
-labels_behind : (words : List (List ℕ)) (m n : ℕ) → suc n + m ≡ length words → labels_of words (suc n) m ≡ labels_from (owner_at words (suc n)) (drop (suc n) words)
+labels_behind : (words : List (List ℕ)) (m n : ℕ) → suc n + m ≡ length words
+    → labels_of words (suc n) m ≡ labels_from (owner_at words (suc n)) (drop (suc n) words)
 labels_behind words zero n e = sym (ap (labels_from (owner_at words (suc n))) (drop_all (suc n) words (omega arith)))
 labels_behind words (suc m) n e =
     let within : suc n < length words = omega arith in
@@ -123,8 +126,10 @@ labels_all (word ∷ more) = by_len (length (word ∷ more)) refl
     by_len zero e = absurd (omega arith)
     by_len (suc m) e = ap (λ l. label part.Compiler word ∷ l) (labels_behind (word ∷ more) m 0 (omega arith))
 
-gathered_from : {A : Type 0} (pick : Part → List ℕ → Option A) (words : List (List ℕ)) (len m n : ℕ) → n + m ≡ len → gather (at_place pick words) len ≡ gather (at_place pick words) n ++ picks pick (labels_of words n m)
-gathered_from pick words len zero n e = ap (gather (at_place pick words)) (none_on n len e) ∙ sym (append-nil (gather (at_place pick words) n))
+gathered_from : {A : Type 0} (pick : Part → List ℕ → Option A) (words : List (List ℕ)) (len m n : ℕ) → n + m ≡ len
+    → gather (at_place pick words) len ≡ gather (at_place pick words) n ++ picks pick (labels_of words n m)
+gathered_from pick words len zero n e = ap (gather (at_place pick words)) (none_on n len e)
+    ∙ sym (append-nil (gather (at_place pick words) n))
 gathered_from pick words len (suc m) n e =
     gathered_from pick words len m (suc n) (one_on n m len e)
     ∙ append_assoc (gather (at_place pick words) n) (option_to_list (at_place pick words n)) (picks pick (labels_of words (suc n) m))
@@ -133,7 +138,8 @@ pub zero_on : (len : ℕ) → 0 + len ≡ len
 zero_on len = omega arith
 
 -- what is gathered of the places is picked of the labels
-pub gathered_labels : {A : Type 0} (pick : Part → List ℕ → Option A) (words : List (List ℕ)) → gather (at_place pick words) (length words) ≡ picks pick (labels words)
+pub gathered_labels : {A : Type 0} (pick : Part → List ℕ → Option A) (words : List (List ℕ))
+    → gather (at_place pick words) (length words) ≡ picks pick (labels words)
 gathered_labels pick words =
     gathered_from pick words (length words) (length words) 0 (zero_on (length words)) ∙ ap (picks pick) (labels_all words)
 
@@ -150,7 +156,8 @@ or_assoc : (a b c : Bool) → ((a || b) || c) ≡ (a || (b || c))
 or_assoc true b c = refl
 or_assoc false b c = refl
 
-any_from : (test : Part → List ℕ → Bool) (words : List (List ℕ)) (len m n : ℕ) → n + m ≡ len → any_below (at_place test words) len ≡ (any_below (at_place test words) n || any_label test (labels_of words n m))
+any_from : (test : Part → List ℕ → Bool) (words : List (List ℕ)) (len m n : ℕ) → n + m ≡ len
+    → any_below (at_place test words) len ≡ (any_below (at_place test words) n || any_label test (labels_of words n m))
 any_from test words len zero n e = ap (any_below (at_place test words)) (none_on n len e) ∙ or_false _
 any_from test words len (suc m) n e =
     any_from test words len m (suc n) (one_on n m len e)
@@ -158,6 +165,7 @@ any_from test words len (suc m) n e =
     ∙ or_assoc (any_below (at_place test words) n) (at_place test words n) _
 
 -- a test that some place passes is one that some label passes
-pub any_labels : (test : Part → List ℕ → Bool) (words : List (List ℕ)) → any_below (at_place test words) (length words) ≡ any_label test (labels words)
+pub any_labels : (test : Part → List ℕ → Bool) (words : List (List ℕ))
+    → any_below (at_place test words) (length words) ≡ any_label test (labels words)
 any_labels test words =
     any_from test words (length words) (length words) 0 (zero_on (length words)) ∙ ap (any_label test) (labels_all words)

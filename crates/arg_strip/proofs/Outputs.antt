@@ -1,5 +1,7 @@
 -- The name of the output of a command that may be sent gives no reason where it is sent.
-use Rattle.std.proofs.Common.{◌≡◌, ℕ, zero, suc, ◌+◌, ◌-◌, ◌<◌, Bool, true, false, not, ◌||◌, ◌&&◌, nat_eq, List, [], ◌∷◌, ◌++◌, length, take, drop, codes, Option, Some, None, is_some, unwrap_or, if◌then◌else◌, refl, sym, ◌∙◌, ap, subst, append_assoc, length-append, arith}
+use Rattle.std.proofs.Common.{◌≡◌, ℕ, zero, suc, ◌+◌, ◌-◌, ◌<◌, Bool, true, false, not, ◌||◌, ◌&&◌, nat_eq, List, [], ◌∷◌, ◌++◌, length}
+use Rattle.std.proofs.Common.{take, drop, codes, Option, Some, None, is_some, unwrap_or, if◌then◌else◌, refl, sym, ◌∙◌, ap, subst}
+use Rattle.std.proofs.Common.{append_assoc, length-append, arith}
 use Rattle.std.specs.Prelude.{bytes_eq}
 use Rattle.std.specs.List.{slice_get, list_all, ends_with}
 use Rattle.std.proofs.lemmas.List.{same_from_push}
@@ -87,7 +89,9 @@ option_present (Some at) word h =
     (sym (ap (λ e. not (is_output_effect e && is_none_form row.form)) effect_is ∙ ap (λ f. not (true && is_none_form f)) form_is)
     ∙ row_takes_name gcc_rows at.row rows_take_names)
 
-role_by : (dash flag response : Bool) (o : Option Found) (e : Option Ending) (word : List ℕ) → (if dash then role.Dash else (if flag then option_role o word else (if response then role.Response else source_role e))) ≡ role.Flag effect.Output operand.Absent → ⊥
+role_by : (dash flag response : Bool) (o : Option Found) (e : Option Ending) (word : List ℕ)
+    → (if dash then role.Dash else (if flag then option_role o word else (if response then role.Response else source_role e)))
+    ≡ role.Flag effect.Output operand.Absent → ⊥
 role_by true flag response o e word h = cc
 role_by false true response o e word h = option_present o word h
 role_by false false true o e word h = cc
@@ -106,21 +110,32 @@ some_is : (x y : List ℕ) → Some x ≡ Some y → x ≡ y
 some_is x y h = cc
 
 -- what an output option before these words names
-next_calm : (word : List ℕ) (words : List (List ℕ)) (source output : Bool) (text : List ℕ) → IsFree source output (label (part.Word (role.Flag effect.Output operand.Next)) word ∷ labels_from (Some effect.Output) words) → Some (operand_text (part.Word (role.Flag effect.Output operand.Next)) word (labels_from (Some effect.Output) words)) ≡ Some text → IsCalm text
+next_calm : (word : List ℕ) (words : List (List ℕ)) (source output : Bool) (text : List ℕ)
+    → IsFree source output (label (part.Word (role.Flag effect.Output operand.Next)) word ∷ labels_from (Some effect.Output) words)
+    → Some (operand_text (part.Word (role.Flag effect.Output operand.Next)) word (labels_from (Some effect.Output) words))
+    ≡ Some text → IsCalm text
 next_calm word [] source output text free h = absurd (missing why.MissingOperand free.0)
   where
     missing : (w : Why) → Some w ≡ None → ⊥
     missing w h = cc
 next_calm word (x ∷ words) source output text free h = subst IsCalm (some_is x text h) free.1.0
 
-attached_calm : (word : List ℕ) (from : ℕ) (output : Bool) (text : List ℕ) → slice_get (when output why.ManyOutputs ++ output_reasons (drop from word)) 0 ≡ None → Some (drop from word) ≡ Some text → IsCalm text
+attached_calm : (word : List ℕ) (from : ℕ) (output : Bool) (text : List ℕ)
+    → slice_get (when output why.ManyOutputs ++ output_reasons (drop from word)) 0 ≡ None → Some (drop from word) ≡ Some text → IsCalm text
 attached_calm word from output text free h = subst IsCalm (some_is (drop from word) text h) (when_free output why.ManyOutputs _ free)
 
-role_calm : (r : Role) (word : List ℕ) (words : List (List ℕ)) (source output : Bool) (text : List ℕ) → role_of word ≡ r → IsFree source output (label (part.Word r) word ∷ labels_from (owed (part.Word r)) words) → (if names_output (part.Word r) then Some (operand_text (part.Word r) word (labels_from (owed (part.Word r)) words)) else output_label (labels_from (owed (part.Word r)) words)) ≡ Some text → ((owner : Option Effect) (s o : Bool) → IsFree s o (labels_from owner words) → output_label (labels_from owner words) ≡ Some text → IsCalm text) → IsCalm text
+role_calm : (r : Role) (word : List ℕ) (words : List (List ℕ)) (source output : Bool) (text : List ℕ) → role_of word ≡ r
+    → IsFree source output (label (part.Word r) word ∷ labels_from (owed (part.Word r)) words)
+    → (if names_output (part.Word r) then Some (operand_text (part.Word r) word (labels_from (owed (part.Word r)) words)) else
+    output_label (labels_from (owed (part.Word r)) words)) ≡ Some text
+    → ((owner : Option Effect) (s o : Bool) → IsFree s o (labels_from owner words)
+    → output_label (labels_from owner words) ≡ Some text → IsCalm text) → IsCalm text
 role_calm role.Dash word words source output text e free h later = later None _ _ free.1 h
 role_calm (role.Flag effect.Output operand.Absent) word words source output text e free h later = absurd (output_present word e)
-role_calm (role.Flag effect.Output (operand.Attached from)) word words source output text e free h later = attached_calm word from output text free.0 h
-role_calm (role.Flag effect.Output operand.Next) word words source output text e free h later = next_calm word words source output text free h
+role_calm (role.Flag effect.Output (operand.Attached from)) word words source output text e free h later =
+    attached_calm word from output text free.0 h
+role_calm (role.Flag effect.Output operand.Next) word words source output text e free h later =
+    next_calm word words source output text free h
 role_calm (role.Flag effect.Keep o) word words source output text e free h later = later _ _ _ free.1 h
 role_calm (role.Flag effect.Strip o) word words source output text e free h later = later _ _ _ free.1 h
 role_calm (role.Flag effect.Action o) word words source output text e free h later = later _ _ _ free.1 h
@@ -130,14 +145,16 @@ role_calm role.Response word words source output text e free h later = later Non
 role_calm (role.Source ending) word words source output text e free h later = later None _ _ free.1 h
 role_calm role.Other word words source output text e free h later = later None _ _ free.1 h
 
-named_calm : (owner : Option Effect) (words : List (List ℕ)) (source output : Bool) (text : List ℕ) → IsFree source output (labels_from owner words) → output_label (labels_from owner words) ≡ Some text → IsCalm text
+named_calm : (owner : Option Effect) (words : List (List ℕ)) (source output : Bool) (text : List ℕ)
+    → IsFree source output (labels_from owner words) → output_label (labels_from owner words) ≡ Some text → IsCalm text
 named_calm owner [] source output text free h = cc
 named_calm (Some effect) (word ∷ words) source output text free h = named_calm None words _ _ text free.1 h
 named_calm None (word ∷ words) source output text free h =
     role_calm (role_of word) word words source output text refl free h (λ owner s o f g. named_calm owner words s o text f g)
 
 -- a name that the command gives
-pub given_calm : (words : List (List ℕ)) (text : List ℕ) → IsFree false false (labels words) → output_label (labels words) ≡ Some text → IsCalm text
+pub given_calm : (words : List (List ℕ)) (text : List ℕ) → IsFree false false (labels words)
+    → output_label (labels words) ≡ Some text → IsCalm text
 given_calm [] text free h = cc
 given_calm (word ∷ words) text free h = named_calm None words _ _ text free.1 h
 
@@ -150,7 +167,8 @@ calm_by false false h k = refl
 two_calm : (front : List ℕ) (a b : ℕ) → (b ≡ 126 → ⊥) → IsCalm (front ++ a ∷ b ∷ [])
 two_calm front a b plain =
     calm_by _ _
-    (fails_by _ (λ h. let e = (bytes_eq-Decides (front ++ a ∷ b ∷ []) (codes "-")).0 h in let f = ap length e in omega (arith, f, length-append front (a ∷ b ∷ []))))
+    (fails_by _ (λ h. let e = (bytes_eq-Decides (front ++ a ∷ b ∷ []) (codes "-")).0 h in let f = ap length e in
+    omega (arith, f, length-append front (a ∷ b ∷ []))))
     (fails_by _ (λ h.
     let name = front ++ a ∷ b ∷ [] in
     let is = (ends_is Decides-eqb name (codes ".farm~") _ refl).0 h in

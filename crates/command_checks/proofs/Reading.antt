@@ -14,7 +14,10 @@ any-next : (test : ℕ → Bool) (n : ℕ) → (any_below test n || test n) ≡ 
 any-next test n = sym (some_or (first_below test n) (test n) n) ∙ ap (any_below test) (sym (one n))
 
 -- whether one is named among the words, after one more
-pub reads_is : (words : List (List ℕ)) (n : ℕ) (owner : Option Effect) (word : List ℕ) (reads after dash : Bool) (part : Part) → part ≡ part_of owner n word → owner ≡ owner_at words n → word ≡ word_at words n → dash ≡ is_dash part → after ≡ (reads || dash) → reads ≡ any_below (λ at. is_dash (part_at words at)) n → after ≡ any_below (λ at. is_dash (part_at words at)) (n + 1)
+pub reads_is : (words : List (List ℕ)) (n : ℕ) (owner : Option Effect) (word : List ℕ) (reads after dash : Bool) (part : Part)
+    → part ≡ part_of owner n word → owner ≡ owner_at words n → word ≡ word_at words n → dash ≡ is_dash part
+    → after ≡ (reads || dash) → reads ≡ any_below (λ at. is_dash (part_at words at)) n
+    → after ≡ any_below (λ at. is_dash (part_at words at)) (n + 1)
 reads_is words n owner word reads after dash part p e f o is before =
     is
     ∙ ap (λ d. reads || d) (o

@@ -21,7 +21,8 @@ finished text a b c d f rest p =
     let fields : List Field = a ∷ b ∷ c ∷ d ∷ f ∷ [] in
     let none : Field = record { number = 0; body = [] } in
     let z = reads-begins reply_format SpellsReply reply_spelling text fields (progress-reads reply_format text fields rest whole p refl) in
-    let used : length text - length rest ≡ fields_len fields = omega (arith, ap length p.parts, length-append p.front rest, front_len reply_format four_reply [] fields p.front p.is_front) in
+    let used : length text - length rest ≡ fields_len fields =
+    omega (arith, ap length p.parts, length-append p.front rest, front_len reply_format four_reply [] fields p.front p.is_front) in
     let status : z.0.status ≡ b.number = ap (λ (fs : List Field). (get_or fs 1 none).number) (sym z.2) in
     let err : z.0.err ≡ c.body = ap (λ (fs : List Field). (get_or fs 2 none).body) (sym z.2) in
     let out : z.0.out ≡ d.body = ap (λ (fs : List Field). (get_or fs 3 none).body) (sym z.2) in

@@ -4,7 +4,8 @@ use Rattle.farm_types.specs.declared.ran.Outcome.{Outcome}
 use Rattle.wire_tokens.specs.declared.faults.ReplyFault.{ReplyFault}
 use Rattle.wire_tokens.specs.Format.{Field, Due}
 use Rattle.wire_tokens.specs.Step.{Stop as Stopped, too_short, wrong, next_of, ◌>>=◌}
-use Rattle.wire_tokens.specs.Reply.{version_fault, err_fault, out_fault, object_fault, reply_format, BeginsReply, IsShortReply, ReplyFaultStands}
+use Rattle.wire_tokens.specs.Reply.{version_fault, err_fault, out_fault, object_fault, reply_format, BeginsReply, IsShortReply}
+use Rattle.wire_tokens.specs.Reply.{ReplyFaultStands}
 use Rattle.compile_reply.specs.declared.part.Part.{Part}
 use Rattle.compile_reply.specs.declared.part.Part.TheVariants.{Done, Stat, Serr, Sout, Doto}
 use Rattle.compile_reply.specs.declared.decoding.Parts.{Parts}

@@ -1,5 +1,6 @@
 -- Taking bytes of a token and of a body.
-use Rattle.std.proofs.Common.{◌≡◌, ℕ, zero, suc, ◌+◌, ◌*◌, ◌<◌, ◌≤◌, List, [], ◌∷◌, ◌++◌, length, get_or, take, refl, sym, ap, subst, ◌∙◌, append_assoc, arith, inl, inr}
+use Rattle.std.proofs.Common.{◌≡◌, ℕ, zero, suc, ◌+◌, ◌*◌, ◌<◌, ◌≤◌, List, [], ◌∷◌, ◌++◌, length, get_or, take, refl, sym, ap, subst, ◌∙◌}
+use Rattle.std.proofs.Common.{append_assoc, arith, inl, inr}
 use Rattle.std.specs.Prelude.{sum_by}
 use Rattle.std.proofs.lemmas.List.{append-nil}
 use Rattle.std.proofs.lemmas.List.Sums.{sum_by-cons}
@@ -25,7 +26,8 @@ unfolding fields_len word_fields
 fields_len-word_fields [] = refl
 fields_len-word_fields (word ∷ words) = omega (arith, fields_len-word_fields words, sum_by-cons length word words)
 
-fields_len-before : (part : Part) (count : ℕ) (words : List (List ℕ)) (together : ℕ) → together ≡ sum_by length words → fields_len (fields_before part count words) ≡ bytes_before part (length words) together
+fields_len-before : (part : Part) (count : ℕ) (words : List (List ℕ)) (together : ℕ) → together ≡ sum_by length words
+    → fields_len (fields_before part count words) ≡ bytes_before part (length words) together
 unfolding fields_len
 fields_len-before Dist count words together sum = refl
 fields_len-before Argc count words together sum = refl
@@ -39,7 +41,8 @@ pub in_body : (p : Partial) → Holds p → 0 < p.left → InBody p
 in_body p h lt = elim h.phase [ inl t ↦ let none = t.nothing_left in absurd (omega arith) | inr b ↦ b ]
 
 -- the same fields, and some bytes more
-pub placed_more : (old new : Partial) (bytes : List ℕ) → fields_of old ≡ fields_of new → bytes_of new ≡ bytes_of old ++ bytes → (text : List ℕ) → IsPlaced old text → IsPlaced new (text ++ bytes)
+pub placed_more : (old new : Partial) (bytes : List ℕ) → fields_of old ≡ fields_of new → bytes_of new ≡ bytes_of old ++ bytes
+    → (text : List ℕ) → IsPlaced old text → IsPlaced new (text ++ bytes)
 placed_more old new bytes fields same text g =
     subst (λ (x : List Field × List ℕ). Progress request_format (text ++ bytes) x.0 x.1)
     (ap (λ (x : List Field). (x, bytes_of old ++ bytes)) fields ∙ ap (λ (x : List ℕ). (fields_of new, x)) (sym same))
@@ -65,22 +68,28 @@ fault_stands p token byte at place fault h left is here s text g =
     (due_is p h.counts) (ap (step_of request_format (due_in p)) (sym bytes) ∙ s))
 
 -- the end of a field after some bytes
-pub finished : (old mid new : Partial) (piece : List ℕ) (n : ℕ) (turn : Turn) → n ≤ length piece → ((text : List ℕ) → IsPlaced old text → IsPlaced mid (text ++ take n piece)) → Finishes mid new n turn → Says old new piece turn
+pub finished : (old mid new : Partial) (piece : List ℕ) (n : ℕ) (turn : Turn) → n ≤ length piece
+    → ((text : List ℕ) → IsPlaced old text → IsPlaced mid (text ++ take n piece)) → Finishes mid new n turn → Says old new piece turn
 finished old mid new piece n (More taken) fits more f = (rw f.0 fits, f.1, λ text g. f.2 (text ++ take taken piece) (rw f.0 (more text g)))
 finished old mid new piece n (Whole q taken) fits more f = (rw f.0 fits, λ text g. f.1 (text ++ take taken piece) (rw f.0 (more text g)))
 finished old mid new piece n (Bad at fault) fits more f = absurd f
 finished old mid new piece n Memory fits more f = tt
 
 -- what is so of the first byte is so of the piece
-pub one_byte : (old new : Partial) (piece : List ℕ) (byte : ℕ) (turn : Turn) → 0 < length piece → byte ≡ get_or piece 0 0 → Says old new (byte ∷ []) turn → Says old new piece turn
+pub one_byte : (old new : Partial) (piece : List ℕ) (byte : ℕ) (turn : Turn) → 0 < length piece → byte ≡ get_or piece 0 0
+    → Says old new (byte ∷ []) turn → Says old new piece turn
 one_byte old new [] byte turn lt e s = absurd (omega arith)
 one_byte old new (b ∷ piece) byte (More zero) lt e s = (omega arith, s.1, s.2)
-one_byte old new (b ∷ piece) byte (More (suc zero)) lt e s = (omega arith, s.1, subst (λ (x : ℕ). (text : List ℕ) → IsPlaced old text → IsPlaced new (text ++ x ∷ [])) e s.2)
+one_byte old new (b ∷ piece) byte (More (suc zero)) lt e s =
+    (omega arith, s.1, subst (λ (x : ℕ). (text : List ℕ) → IsPlaced old text → IsPlaced new (text ++ x ∷ [])) e s.2)
 one_byte old new (b ∷ piece) byte (More (suc (suc taken))) lt e s = absurd (omega (arith, s.0))
 one_byte old new (b ∷ piece) byte (Whole q zero) lt e s = (omega arith, s.1)
-one_byte old new (b ∷ piece) byte (Whole q (suc zero)) lt e s = (omega arith, subst (λ (x : ℕ). (text : List ℕ) → IsPlaced old text → SpellsRequest (text ++ x ∷ []) q) e s.1)
+one_byte old new (b ∷ piece) byte (Whole q (suc zero)) lt e s =
+    (omega arith, subst (λ (x : ℕ). (text : List ℕ) → IsPlaced old text → SpellsRequest (text ++ x ∷ []) q) e s.1)
 one_byte old new (b ∷ piece) byte (Whole q (suc (suc taken))) lt e s = absurd (omega (arith, s.0))
 one_byte old new (b ∷ piece) byte (Bad at fault) lt e s = λ text g.
-    let one : Stands request_format (text ++ b ∷ []) at fault = subst (λ (x : ℕ). Stands request_format (text ++ x ∷ []) at fault) e (s text g) in
-    subst (λ (x : List ℕ). Stands request_format x at fault) (append_assoc text (b ∷ []) piece) (stands-longer request_format four_request (text ++ b ∷ []) piece at fault one)
+    let one : Stands request_format (text ++ b ∷ []) at fault =
+    subst (λ (x : ℕ). Stands request_format (text ++ x ∷ []) at fault) e (s text g) in
+    subst (λ (x : List ℕ). Stands request_format x at fault) (append_assoc text (b ∷ []) piece)
+    (stands-longer request_format four_request (text ++ b ∷ []) piece at fault one)
 one_byte old new (b ∷ piece) byte Memory lt e s = tt

@@ -8,7 +8,8 @@ use Rattle.compile_request.specs.declared.reader.Step.{Step}
 use Rattle.compile_request.specs.declared.reader.Step.TheVariants.{More, Whole, Bad, Memory}
 use Rattle.compile_request.specs.Reader.{Says, IsUnlessMemory}
 
-pub only_whole : (text piece : List ℕ) (step : Step) → Says text piece step → (used : ℕ) (q : Request) → BeginsRequest (text ++ piece) used q → IsUnlessMemory step (Whole q (used - length text))
+pub only_whole : (text piece : List ℕ) (step : Step) → Says text piece step → (used : ℕ) (q : Request)
+    → BeginsRequest (text ++ piece) used q → IsUnlessMemory step (Whole q (used - length text))
 only_whole text piece More s used q b = absurd (s.no_value used q b)
 only_whole text piece (Whole p n) s used q b =
     let z = one_value (text ++ piece) (length text + n) used p q s.1 b in
@@ -17,10 +18,12 @@ only_whole text piece (Whole p n) s used q b =
 only_whole text piece (Bad at fault) s used q b = absurd (spelled_or_fault (text ++ piece) used at q fault b s)
 only_whole text piece Memory s used q b = tt
 
-pub only_bad : (text piece : List ℕ) (step : Step) → Says text piece step → (at : ℕ) (fault : RequestFault) → RequestFaultStands (text ++ piece) at fault → IsUnlessMemory step (Bad at fault)
+pub only_bad : (text piece : List ℕ) (step : Step) → Says text piece step → (at : ℕ) (fault : RequestFault)
+    → RequestFaultStands (text ++ piece) at fault → IsUnlessMemory step (Bad at fault)
 only_bad text piece More s at fault t = absurd (s.no_fault at fault t)
 only_bad text piece (Whole p n) s at fault t = absurd (spelled_or_fault (text ++ piece) (length text + n) at p fault s.1 t)
-only_bad text piece (Bad i f) s at fault t = let z = one_fault (text ++ piece) i at f fault s t in ap (λ (k : ℕ). Bad k f) z.0 ∙ ap (λ (x : RequestFault). Bad at x) z.1
+only_bad text piece (Bad i f) s at fault t = let z = one_fault (text ++ piece) i at f fault s t in
+    ap (λ (k : ℕ). Bad k f) z.0 ∙ ap (λ (x : RequestFault). Bad at x) z.1
 only_bad text piece Memory s at fault t = tt
 
 pub only_more : (text piece : List ℕ) (step : Step) → Says text piece step → IsShortRequest (text ++ piece) → IsUnlessMemory step More

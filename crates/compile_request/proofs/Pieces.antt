@@ -25,13 +25,16 @@ wants_more p h =
       | inr b ↦
           let missing = b.missing in
           let some = b.some_left in
-          body-wanted request_format (due_in p) p.token p.body p.number (four_request (fields_of p) (due_in p) (due_is p h.counts)) b.token (omega arith)
+          body-wanted request_format (due_in p) p.token p.body p.number (four_request (fields_of p) (due_in p) (due_is p h.counts))
+          b.token (omega arith)
     ]
 
 pub short_there : (p : Partial) → Holds p → (text : List ℕ) → IsPlaced p text → IsShortRequest text
-short_there p h text g = reads-short request_format SpellsRequest request_spelling text (fields_of p) (progress-reads request_format text (fields_of p) (bytes_of p) short g (due_in p, due_is p h.counts, wants_more p h))
+short_there p h text g = reads-short request_format SpellsRequest request_spelling text (fields_of p)
+    (progress-reads request_format text (fields_of p) (bytes_of p) short g (due_in p, due_is p h.counts, wants_more p h))
 
-pub spelled_begins : (text piece : List ℕ) (taken : ℕ) (q : Request) → taken ≤ length piece → SpellsRequest (text ++ take taken piece) q → BeginsRequest (text ++ piece) (length text + taken) q
+pub spelled_begins : (text piece : List ℕ) (taken : ℕ) (q : Request) → taken ≤ length piece
+    → SpellsRequest (text ++ take taken piece) q → BeginsRequest (text ++ piece) (length text + taken) q
 spelled_begins text piece taken q fits s = record {
   within = omega (arith, length-append text piece);
   spelled = subst (λ (x : List ℕ). SpellsRequest x q) (sym (take-append-add text piece taken)) s;

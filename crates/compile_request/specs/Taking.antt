@@ -54,8 +54,10 @@ pub record IsReady (p : Partial) (n : ℕ) : Type 0 where
 
 -- What a turn makes of the bytes that it takes from the front of a piece.
 abbrev pub Says : Partial → Partial → List ℕ → Turn → Type 0
-Says old new piece (More taken) = (taken ≤ length piece) × Holds new × ((text : List ℕ) → IsPlaced old text → IsPlaced new (text ++ take taken piece))
-Says old new piece (Whole q taken) = (taken ≤ length piece) × ((text : List ℕ) → IsPlaced old text → SpellsRequest (text ++ take taken piece) q)
+Says old new piece (More taken) =
+    (taken ≤ length piece) × Holds new × ((text : List ℕ) → IsPlaced old text → IsPlaced new (text ++ take taken piece))
+Says old new piece (Whole q taken) =
+    (taken ≤ length piece) × ((text : List ℕ) → IsPlaced old text → SpellsRequest (text ++ take taken piece) q)
 Says old new piece (Bad at fault) = (text : List ℕ) → IsPlaced old text → Stands request_format (text ++ piece) at fault
 Says old new piece Memory = Unit {0}
 

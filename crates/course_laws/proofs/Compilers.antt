@@ -21,7 +21,8 @@ use Rattle.farm_machine.specs.Course.{IsRunOf, IsWholeWith, Course, outcome_of}
 use Rattle.farm_machine.specs.Table.{IsSource}
 use Rattle.farm_machine.specs.Honest.{Programs, Peers, Compiles, object_of, AllRan, IsHonest}
 use Rattle.course_laws.specs.Laws.{IsAmong}
-use Rattle.course_laws.specs.Answers.{AllGiven, IsFullyHonestTo, FullyHonestLaw, WholeAnswerLaw, PutAnswerLaw, HasOutcome, IsAnswered, AreHonestFor, EndAnswerLaw}
+use Rattle.course_laws.specs.Answers.{AllGiven, IsFullyHonestTo, FullyHonestLaw, WholeAnswerLaw, PutAnswerLaw, HasOutcome, IsAnswered}
+use Rattle.course_laws.specs.Answers.{AreHonestFor, EndAnswerLaw}
 use Rattle.course_laws.proofs.Puts.{puts-last, known-end, KnownEnd, IsCompiledEnd}
 
 -- what a run of a compile answers: its object is left out where it failed
@@ -34,13 +35,16 @@ module _ (peers : Peers) (programs : Programs) where
 
   pub whole-answer : WholeAnswerLaw peers programs
   whole-answer j source x host o fits may whole honest =
-      let spelled : SpellsRequest x.sent (request_for j source) = subst (λ (text : List ℕ). SpellsRequest text (request_for j source)) (sym whole.sent) (request_written (request_for j source) fits) in
+      let spelled : SpellsRequest x.sent (request_for j source) =
+      subst (λ (text : List ℕ). SpellsRequest text (request_for j source)) (sym whole.sent)
+      (request_written (request_for j source) fits) in
       elim honest [
         | inl h ↦ h.0 x.sent x.given (request_for j source) o whole.used (may whole.dialed) spelled whole.spelled h.1
         | inr h ↦ h source x.sent x.given o whole.used (may whole.dialed) spelled whole.spelled
       ]
 
-  given-among : (acts : List Act) (x : Exchange) → AllGiven peers acts → IsAmong (Did (exchanged x)) acts → x.dialed ≡ true → peers x.sent x.given
+  given-among : (acts : List Act) (x : Exchange) → AllGiven peers acts → IsAmong (Did (exchanged x)) acts → x.dialed ≡ true
+      → peers x.sent x.given
   given-among [] x all h = absurd h
   given-among (Did (exchanged y) ∷ acts) x all (inl e) = given-here e all.0
     where
@@ -77,7 +81,8 @@ module _ (peers : Peers) (programs : Programs) where
   ran-among (Met y ∷ acts) x all (inr h) = ran-among acts x all h
 
   -- a job that has a source may be sent
-  sent-by-source : (j : Job) (acts more : List Act) (source : List ℕ) (end : End) → IsSource acts source → Course j (acts ++ more) end → may_be_sent j ≡ true
+  sent-by-source : (j : Job) (acts more : List Act) (source : List ℕ) (end : End) → IsSource acts source
+      → Course j (acts ++ more) end → may_be_sent j ≡ true
   sent-by-source j [] more source end h course = absurd h
   sent-by-source j (Did (fetched x) ∷ acts) more source end h (c, next, from) = next.0
   sent-by-source j (Did (ran x) ∷ acts) more source end h (c, next, from) = next.0
@@ -90,7 +95,8 @@ module _ (peers : Peers) (programs : Programs) where
       go b e = subst (λ (t : Bool). r.object ≡ (if t then r.object else [])) (sym e) refl
 
   -- a run of the compile's words here is a compiler's
-  here-answer : (j : Job) (source : List ℕ) (x : Run) (o : Outcome) → may_be_sent j ≡ true → IsRunOf x (compile_command j) source → programs x.words x.input x.ran
+  here-answer : (j : Job) (source : List ℕ) (x : Run) (o : Outcome) → may_be_sent j ≡ true → IsRunOf x (compile_command j) source
+      → programs x.words x.input x.ran
       → o ≡ outcome_of x.ran → o.status ≡ 0 → Compiles programs (request_for j source) o
   here-answer j source x o sent is may left well =
       let words : x.words ≡ placed_words (stripped j.words) = is.0 ∙ sym (placed_again j.words sent) in
@@ -114,14 +120,17 @@ module _ (peers : Peers) (programs : Programs) where
         outcome = p.outcome;
         compiles = elim k.compile [
           | inl w ↦ whole-answer j k.source w.0 w.1 p.outcome w.3 (given-among before w.0 given w.2) w.4 (inl (honest, p.status))
-          | inr r ↦ here-answer j k.source r.0 p.outcome (sent-by-source j before (Did (put x) ∷ rest) k.source end k.source_is course) r.2 (ran-among before r.0 left r.1) r.3 p.status
+          | inr r ↦ here-answer j k.source r.0 p.outcome
+              (sent-by-source j before (Did (put x) ∷ rest) k.source end k.source_is course) r.2 (ran-among before r.0 left r.1) r.3
+              p.status
         ];
         status = p.status;
         object = p.object;
       }
 
   -- a run of the compile's words here is a compiler's, with no object where it failed
-  run-answer : (j : Job) (source : List ℕ) (x : Run) → may_be_sent j ≡ true → IsRunOf x (compile_command j) source → programs x.words x.input x.ran
+  run-answer : (j : Job) (source : List ℕ) (x : Run) → may_be_sent j ≡ true → IsRunOf x (compile_command j) source
+      → programs x.words x.input x.ran
       → Compiles programs (request_for j source) (answer_of x.ran)
   run-answer j source x sent is may =
       let words : x.words ≡ placed_words (stripped j.words) = is.0 ∙ sym (placed_again j.words sent) in
@@ -135,9 +144,11 @@ module _ (peers : Peers) (programs : Programs) where
         object = refl;
       }
 
-  module _ (j : Job) (acts : List Act) (status : ℕ) (err out : List ℕ) (given : AllGiven peers acts) (left : AllRan programs acts) (k : IsCompiledEnd j acts status err out)
+  module _ (j : Job) (acts : List Act) (status : ℕ) (err out : List ℕ) (given : AllGiven peers acts) (left : AllRan programs acts)
+      (k : IsCompiledEnd j acts status err out)
       (sent : (source : List ℕ) → IsSource acts source → may_be_sent j ≡ true) where
-    by-run : (source : List ℕ) → IsSource acts source → (x : Run) → IsAmong (Did (ran x)) acts → IsRunOf x (compile_command j) source → k.outcome ≡ outcome_of x.ran → HasOutcome programs j acts status err out
+    by-run : (source : List ℕ) → IsSource acts source → (x : Run) → IsAmong (Did (ran x)) acts
+        → IsRunOf x (compile_command j) source → k.outcome ≡ outcome_of x.ran → HasOutcome programs j acts status err out
     by-run source from x among is same = record {
       source = source;
       source_is = from;
@@ -147,11 +158,16 @@ module _ (peers : Peers) (programs : Programs) where
       err_is = sym (ap (λ (o : Outcome). o.err) same) ∙ k.err_is;
       out_is = sym (ap (λ (o : Outcome). o.out) same) ∙ k.out_is;
       object = λ zero_.
-          let p = k.object zero_ in
-          (p.0, p.1, p.2 ∙ ap (λ (o : Outcome). o.object) same ∙ object-is x.ran (sym (ap (λ (o : Outcome). o.status) same) ∙ k.status_is ∙ zero_));
+          let p = k.object zero_ in (
+            p.0,
+            p.1,
+            p.2 ∙ ap (λ (o : Outcome). o.object) same
+                ∙ object-is x.ran (sym (ap (λ (o : Outcome). o.status) same) ∙ k.status_is ∙ zero_),
+          );
     }
 
-    by-host : (x : Exchange) (host : ℕ) → IsAmong (Did (exchanged x)) acts → CanRequest j k.compiled.source → IsWholeWith j x k.compiled.source host k.outcome
+    by-host : (x : Exchange) (host : ℕ) → IsAmong (Did (exchanged x)) acts → CanRequest j k.compiled.source
+        → IsWholeWith j x k.compiled.source host k.outcome
         → (IsHonest peers programs × (k.outcome.status ≡ 0)) ⊎ IsFullyHonestTo peers programs j → HasOutcome programs j acts status err out
     by-host x host among fits whole honest = record {
       source = k.compiled.source;
@@ -183,8 +199,10 @@ module _ (peers : Peers) (programs : Programs) where
       sent-by e c source from = sent-by-source j acts [] source e from (subst (λ (xs : List Act). Course j xs e) (sym (append-nil acts)) c)
 
       go : (e : End) → KnownEnd j acts e → Course j acts e → IsAnswered programs j acts e
-      go (Done status note err out (Remote host)) k c = has-outcome j acts status err out given left k (sent-by (Done status note err out (Remote host)) c) honest
-      go (Done status note err out Here) k c = has-outcome j acts status err out given left k (sent-by (Done status note err out Here) c) honest
+      go (Done status note err out (Remote host)) k c =
+          has-outcome j acts status err out given left k (sent-by (Done status note err out (Remote host)) c) honest
+      go (Done status note err out Here) k c =
+          has-outcome j acts status err out given left k (sent-by (Done status note err out Here) c) honest
       go (Done status note err out Cpp) k c = tt
       go (Done status note err out InPlace) k c = tt
       go (Failed why) k c = tt

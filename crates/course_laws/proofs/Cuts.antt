@@ -1,5 +1,6 @@
 -- The courses that end for want of memory are cut ones.
-use Rattle.std.proofs.Common.{◌≡◌, ◌≢◌, ◌⊎◌, inl, inr, ℕ, ◌+◌, ◌<◌, ◌^◌, Bool, true, false, ◌&&◌, cond, List, [], ◌∷◌, ◌++◌, Some, None, length, nat_eq, nat_lt, refl, sym, ap, ◌∙◌, subst, arith}
+use Rattle.std.proofs.Common.{◌≡◌, ◌≢◌, ◌⊎◌, inl, inr, ℕ, ◌+◌, ◌<◌, ◌^◌, Bool, true, false, ◌&&◌, cond, List, [], ◌∷◌, ◌++◌, Some}
+use Rattle.std.proofs.Common.{length, nat_eq, nat_lt, refl, sym, ap, ◌∙◌, subst, arith}
 use Rattle.std.proofs.lemmas.Bool.{cases_eq}
 use Rattle.farm_types.specs.declared.ran.Ran.{Ran}
 use Rattle.farm_types.specs.declared.ran.Outcome.{Outcome}
@@ -12,18 +13,21 @@ use Rattle.edge_traits.specs.Deeds.{ran, fetched, exchanged, put}
 use Rattle.wire_tokens.specs.Request.{request_text}
 use Rattle.slot_table.specs.Backoff.{bad_until}
 use Rattle.farm_machine.specs.declared.reports.By.{By}
-use Rattle.farm_machine.specs.declared.reports.By.TheVariants.{Cpp, Remote, Here, InPlace}
+use Rattle.farm_machine.specs.declared.reports.By.TheVariants.{Cpp, Remote}
 use Rattle.farm_machine.specs.declared.reports.Why5.TheVariants.{Station, Put as NotPut, Broke, Memory}
 use Rattle.farm_machine.specs.declared.reports.End.{End}
 use Rattle.farm_machine.specs.declared.reports.End.TheVariants.{Done, Failed}
-use Rattle.farm_machine.specs.Acts.{Takes, Gives, GivesBad, FindsDown, TakesLocal, GivesLocal, Act, Did, Met, Loan}
-use Rattle.farm_machine.specs.Jobs.{Job, may_be_sent, is_source_ready, source_name, output_name, preprocessing_command, request_for, host_at, is_local_host}
-use Rattle.farm_machine.specs.Course.{IsBegunWith, IsBrokenWith, At, Start, LentInPlace, RanInPlace, Send, Lent, RanThere, Sent, Locally, LentHere, RanHere, Finish, Over, outcome_of, after_preprocessor, or_here, after_broken, after_whole, Tried, tried_too, no_host, Next, From, Course, Reach}
-use Rattle.farm_machine.specs.Table.{gives_back, IsSource, IsCut, IsCutInExchange, MemoryLaw}
+use Rattle.farm_machine.specs.Acts.{Gives, GivesBad, FindsDown, TakesLocal, GivesLocal, Act, Did, Met, Loan}
+use Rattle.farm_machine.specs.Jobs.{Job, may_be_sent, is_source_ready, source_name, preprocessing_command, request_for}
+use Rattle.farm_machine.specs.Jobs.{host_at, is_local_host}
+use Rattle.farm_machine.specs.Course.{IsBegunWith, IsBrokenWith, At, Start, LentInPlace, RanInPlace, Send, Lent, RanThere, Sent, Locally}
+use Rattle.farm_machine.specs.Course.{LentHere, RanHere, Finish, Over, after_preprocessor, or_here, after_broken, after_whole}
+use Rattle.farm_machine.specs.Course.{Tried, tried_too, no_host, Next, From, Course, Reach}
+use Rattle.farm_machine.specs.Table.{gives_back, IsSource, IsCut, IsCutInExchange}
 use Rattle.course_laws.proofs.Courses.{has_out}
 use Rattle.course_laws.proofs.Requests.{can-request-or-not}
 use Rattle.course_laws.proofs.Sources.{join, split, reach-loan, SourceAt, reach-source, one-source}
-use Rattle.course_laws.proofs.Tables.{forth, back, along, over}
+use Rattle.course_laws.proofs.TablesBack.{back}
 
 -- a job that can go on may stop, and gives back what is out
 stop : (j : Job) (b c : At) (a : Act) → Next j b a c → From j b (gives_back (has_out b)) (Failed Memory)
@@ -41,36 +45,51 @@ stop j (LentHere source note) c a h = (Over (Failed Memory), inr refl, refl)
 stop j (RanHere note r) c a h = (Over (Failed Memory), inr refl, refl)
 stop j (Over e) c a h = absurd h
 
-cut-back : (j : Job) (acts : List Act) → IsCut j acts → Course j acts (Failed Memory)
+pub cut-back : (j : Job) (acts : List Act) → IsCut j acts → Course j acts (Failed Memory)
 cut-back j acts cut =
     let s = split j cut.front (cut.next ∷ cut.rest) Start cut.end (back j (cut.front ++ cut.next ∷ cut.rest) cut.end cut.finished) in
-    let whole : Course j (cut.front ++ gives_back (has_out s.0)) (Failed Memory) = join j cut.front (gives_back (has_out s.0)) Start s.0 (Failed Memory) s.1 (stop j s.0 s.2.0 cut.next s.2.1) in
-    subst (λ (more : List Act). Course j more (Failed Memory)) (sym (cut.is ∙ ap (λ (loan : Loan). cut.front ++ gives_back loan) (reach-loan j cut.front Start s.0 s.1))) whole
+    let whole : Course j (cut.front ++ gives_back (has_out s.0)) (Failed Memory) =
+    join j cut.front (gives_back (has_out s.0)) Start s.0 (Failed Memory) s.1 (stop j s.0 s.2.0 cut.next s.2.1) in
+    subst (λ (more : List Act). Course j more (Failed Memory))
+    (sym (cut.is ∙ ap (λ (loan : Loan). cut.front ++ gives_back loan) (reach-loan j cut.front Start s.0 s.1))) whole
 
 -- an exchange that was begun, and the give
-exchange-stop : (j : Job) (front : List Act) (b c : At) (x y : Exchange) (host : ℕ) (s : List ℕ) → Next j b (Did (exchanged x)) c → SourceAt front b → has_out b ≡ Some (Some host) → IsSource front s → IsBegunWith j y s host → From j b (Did (exchanged y) ∷ Met (Gives host) ∷ []) (Failed Memory)
+exchange-stop : (j : Job) (front : List Act) (b c : At) (x y : Exchange) (host : ℕ) (s : List ℕ) → Next j b (Did (exchanged x)) c
+    → SourceAt front b → has_out b ≡ Some (Some host) → IsSource front s → IsBegunWith j y s host
+    → From j b (Did (exchanged y) ∷ Met (Gives host) ∷ []) (Failed Memory)
 exchange-stop j front (Lent k t note tried) c x y host s h at out source begun =
     let same : k ≡ host = cc in
-    let is : s ≡ t = one-source front s t source at in
-    (Sent k t note tried y, (h.0, subst (λ (i : ℕ). IsBegunWith j y t i) (sym same) (subst (λ (u : List ℕ). IsBegunWith j y u host) is begun), refl), (Over (Failed Memory), (sym same, inr (inr refl)), refl))
+    let is : s ≡ t = one-source front s t source at in (
+      Sent k t note tried y,
+      (
+        h.0,
+        subst (λ (i : ℕ). IsBegunWith j y t i) (sym same)
+            (subst (λ (u : List ℕ). IsBegunWith j y u host) is begun),
+        refl,
+      ),
+      (Over (Failed Memory), (sym same, inr (inr refl)), refl),
+    )
 exchange-stop j front Start c x y host s h at out source begun = absurd h
 exchange-stop j front b c x y host s h at out source begun = absurd h
 
-exchange-back : (j : Job) (acts : List Act) → IsCutInExchange j acts → Course j acts (Failed Memory)
+pub exchange-back : (j : Job) (acts : List Act) → IsCutInExchange j acts → Course j acts (Failed Memory)
 exchange-back j acts cut =
-    let s = split j cut.front (Did (exchanged cut.exchange) ∷ cut.rest) Start cut.end (back j (cut.front ++ Did (exchanged cut.exchange) ∷ cut.rest) cut.end cut.finished) in
+    let s = split j cut.front (Did (exchanged cut.exchange) ∷ cut.rest) Start cut.end
+    (back j (cut.front ++ Did (exchanged cut.exchange) ∷ cut.rest) cut.end cut.finished) in
     let out : has_out s.0 ≡ Some (Some cut.host) = sym (reach-loan j cut.front Start s.0 s.1) ∙ cut.out in
-    let whole : Course j (cut.front ++ Did (exchanged cut.begun) ∷ Met (Gives cut.host) ∷ []) (Failed Memory) = join j cut.front (Did (exchanged cut.begun) ∷ Met (Gives cut.host) ∷ []) Start s.0 (Failed Memory) s.1
-    (exchange-stop j cut.front s.0 s.2.0 cut.exchange cut.begun cut.host cut.source s.2.1 (reach-source j cut.front [] Start s.0 refl s.1) out cut.source_is cut.is_begun) in
+    let whole : Course j (cut.front ++ Did (exchanged cut.begun) ∷ Met (Gives cut.host) ∷ []) (Failed Memory) =
+    join j cut.front (Did (exchanged cut.begun) ∷ Met (Gives cut.host) ∷ []) Start s.0 (Failed Memory) s.1
+    (exchange-stop j cut.front s.0 s.2.0 cut.exchange cut.begun cut.host cut.source s.2.1
+    (reach-source j cut.front [] Start s.0 refl s.1) out cut.source_is cut.is_begun) in
     subst (λ (more : List Act). Course j more (Failed Memory)) (sym cut.is) whole
 
 -- from here a job can go on to another end
-record Goes (j : Job) (b : At) : Type 0 where
-  next : Act
-  rest : List Act
-  end : End
-  whole : end ≢ Failed Memory
-  from : From j b (next ∷ rest) end
+pub record Goes (j : Job) (b : At) : Type 0 where
+  pub next : Act
+  pub rest : List Act
+  pub end : End
+  pub whole : end ≢ Failed Memory
+  pub from : From j b (next ∷ rest) end
 
 -- the same, by no act at all
 record Fins (j : Job) (b : At) : Type 0 where
@@ -79,15 +98,23 @@ record Fins (j : Job) (b : At) : Type 0 where
   whole : end ≢ Failed Memory
   from : From j b acts end
 
-fin-finish : (j : Job) (by : By) (note : List ℕ) (o : Outcome) → Fins j (Finish by note o)
+pub fin-finish : (j : Job) (by : By) (note : List ℕ) (o : Outcome) → Fins j (Finish by note o)
 fin-finish j by note o =
     elim (cases_eq o.status 0) [
       | inl e ↦ record { acts = []; end = Failed NotPut; whole = λ k. cc; from = inl (e, inr refl) }
       | inr n ↦ record { acts = []; end = Done o.status note o.err o.out by; whole = λ k. cc; from = inr (n, refl) }
     ]
 
-goes-locally : (j : Job) (source note : List ℕ) → Goes j (Locally source note)
-goes-locally j source note = record { next = Met TakesLocal; rest = Met GivesLocal ∷ []; end = Failed Station; whole = λ k. cc; from = (LentHere source note, refl, (Over (Failed Station), inl refl, refl)) }
+pub goes-locally : (j : Job) (source note : List ℕ) → Goes j (Locally source note)
+goes-locally j source note =
+    record {
+      next = Met TakesLocal;
+      rest = Met GivesLocal ∷ [];
+      end = Failed Station;
+      whole = λ k. cc;
+      from =
+          (LentHere source note, refl, (Over (Failed Station), inl refl, refl));
+    }
 
 fin-or_here : (j : Job) (source note : List ℕ) (why : End) → why ≢ Failed Memory → Fins j (or_here j source note why)
 fin-or_here j source note why other = go j.config.fallback
@@ -96,42 +123,69 @@ fin-or_here j source note why other = go j.config.fallback
     go true = let g = goes-locally j source note in record { acts = g.next ∷ g.rest; end = g.end; whole = g.whole; from = g.from }
     go false = record { acts = []; end = why; whole = other; from = refl }
 
-no_host-other : (tried : List Tried) → Failed (no_host tried) ≢ Failed Memory
+pub no_host-other : (tried : List Tried) → Failed (no_host tried) ≢ Failed Memory
 no_host-other [] = λ k. cc
 no_host-other (t ∷ ts) = λ k. cc
 
-goes-send : (j : Job) (source note : List ℕ) (tried : List Tried) → Goes j (Send source note tried)
+pub goes-send : (j : Job) (source note : List ℕ) (tried : List Tried) → Goes j (Send source note tried)
 goes-send j source note tried =
     elim (can-request-or-not j source) [
-      | inl fits ↦ let f = fin-or_here j source note (Failed (no_host tried)) (no_host-other tried) in record { next = Met FindsDown; rest = f.acts; end = f.end; whole = f.whole; from = (or_here j source note (Failed (no_host tried)), (fits, refl), f.from) }
-      | inr not ↦ record { next = Met TakesLocal; rest = Met GivesLocal ∷ []; end = Failed Station; whole = λ k. cc; from = (LentHere source note, (not, refl), (Over (Failed Station), inl refl, refl)) }
+      | inl fits ↦ let f = fin-or_here j source note (Failed (no_host tried)) (no_host-other tried) in
+          record {
+            next = Met FindsDown;
+            rest = f.acts;
+            end = f.end;
+            whole = f.whole;
+            from =
+                (or_here j source note (Failed (no_host tried)), (fits, refl), f.from);
+          }
+      | inr not ↦ record {
+        next = Met TakesLocal;
+        rest = Met GivesLocal ∷ [];
+        end = Failed Station;
+        whole = λ k. cc;
+        from =
+            (LentHere source note, (not, refl), (Over (Failed Station), inl refl, refl));
+      }
     ]
 
-fin-broken : (j : Job) (host : ℕ) (cause : Cause) (source note : List ℕ) (tried : List Tried) → Fins j (after_broken j host cause source note tried)
+pub fin-broken : (j : Job) (host : ℕ) (cause : Cause) (source note : List ℕ) (tried : List Tried)
+    → Fins j (after_broken j host cause source note tried)
 fin-broken j host cause source note tried = go (nat_lt (length tried + 1) j.config.tries)
   where
     go : (b : Bool) → Fins j (cond b (Send source note (tried_too host cause tried)) (or_here j source note (Failed (Broke host cause))))
-    go true = let g = goes-send j source note (tried_too host cause tried) in record { acts = g.next ∷ g.rest; end = g.end; whole = g.whole; from = g.from }
+    go true = let g = goes-send j source note (tried_too host cause tried) in
+        record { acts = g.next ∷ g.rest; end = g.end; whole = g.whole; from = g.from }
     go false = fin-or_here j source note (Failed (Broke host cause)) (λ k. cc)
 
 -- an exchange whose dial failed
-dial : Job → ℕ → Exchange
-dial j host = record { host = (host_at j host).name; port = (host_at j host).port; dialed = false; sent = []; given = []; ended = false; stopped = false; faults = 0 }
+pub dial : Job → ℕ → Exchange
+dial j host = record {
+  host = (host_at j host).name;
+  port = (host_at j host).port;
+  dialed = false;
+  sent = [];
+  given = [];
+  ended =
+      false;
+  stopped = false;
+  faults = 0;
+}
 
-dial-broken : (j : Job) (host : ℕ) (source : List ℕ) → IsBrokenWith j (dial j host) source host Dial
+pub dial-broken : (j : Job) (host : ℕ) (source : List ℕ) → IsBrokenWith j (dial j host) source host Dial
 unfolding dial
 dial-broken j host source = record {
   begun = record { host = refl; port = refl; unsent = request_text (request_for j source); prefix = refl };
   shown = record { undialed = refl; sent = refl; given = refl };
 }
 
-small : 0 < 2 ^ 64
+pub small : 0 < 2 ^ 64
 small = omega arith
 
-above : (n : ℕ) → n ≢ 0 → 0 < n
+pub above : (n : ℕ) → n ≢ 0 → 0 < n
 above n h = omega arith
 
-goes-lent : (j : Job) (host : ℕ) (source note : List ℕ) (tried : List Tried) → Goes j (Lent host source note tried)
+pub goes-lent : (j : Job) (host : ℕ) (source note : List ℕ) (tried : List Tried) → Goes j (Lent host source note tried)
 goes-lent j host source note tried = go (is_local_host j host) refl
   where
     f : Fins j (after_broken j host Dial source note tried)
@@ -141,25 +195,44 @@ goes-lent j host source note tried = go (is_local_host j host) refl
     x = dial j host
 
     go : (b : Bool) → is_local_host j host ≡ b → Goes j (Lent host source note tried)
-    go true e = record { next = Met (Gives host); rest = []; end = Failed Station; whole = λ k. cc; from = (Over (Failed Station), (refl, inl (e, refl)), refl) }
+    go true e = record {
+      next = Met (Gives host);
+      rest = [];
+      end = Failed Station;
+      whole = λ k. cc;
+      from =
+          (Over (Failed Station), (refl, inl (e, refl)), refl);
+    }
     go false e = elim (cases_eq j.config.period 0) [
       | inl zero_ ↦ record {
         next = Did (exchanged x);
         rest = Met (Gives host) ∷ f.acts;
         end = f.end;
         whole = f.whole;
-        from = (Sent host source note tried x, (e, (dial-broken j host source).begun, refl), (after_broken j host Dial source note tried, (refl, inr (inl (Dial, dial-broken j host source, zero_, refl))), f.from));
+        from = (
+          Sent host source note tried x,
+          (e, (dial-broken j host source).begun, refl),
+          (after_broken j host Dial source note tried, (refl, inr (inl (Dial, dial-broken j host source, zero_, refl))), f.from),
+        );
       }
       | inr more ↦ record {
         next = Did (exchanged x);
         rest = Met (GivesBad host (bad_until 0 j.config.period)) ∷ f.acts;
         end = f.end;
         whole = f.whole;
-        from = (Sent host source note tried x, (e, (dial-broken j host source).begun, refl), (after_broken j host Dial source note tried, (refl, e, (Dial, dial-broken j host source, above j.config.period more, (0, small, refl), refl)), f.from));
+        from = (
+          Sent host source note tried x,
+          (e, (dial-broken j host source).begun, refl),
+          (
+            after_broken j host Dial source note tried,
+            (refl, e, (Dial, dial-broken j host source, above j.config.period more, (0, small, refl), refl)),
+            f.from,
+          ),
+        );
       }
     ]
 
-goes-start : (j : Job) → Goes j Start
+pub goes-start : (j : Job) → Goes j Start
 goes-start j = go (may_be_sent j) refl (is_source_ready j) refl
   where
     get : Fetch
@@ -169,9 +242,31 @@ goes-start j = go (may_be_sent j) refl (is_source_ready j) refl
     bad = record { words = preprocessing_command j; input = []; ran = record { status = 1; out = []; err = []; object = [] } }
 
     go : (a : Bool) → may_be_sent j ≡ a → (b : Bool) → is_source_ready j ≡ b → Goes j Start
-    go false e b f = record { next = Met TakesLocal; rest = Met GivesLocal ∷ []; end = Failed Station; whole = λ k. cc; from = (LentInPlace, (e, refl), (Over (Failed Station), inl refl, refl)) }
-    go true e true f = let g = goes-send j [] [] [] in record { next = Did (fetched get); rest = g.next ∷ g.rest; end = g.end; whole = g.whole; from = (Send [] [] [], (e, f, refl, refl), g.from) }
-    go true e false f = record { next = Did (ran bad); rest = []; end = Done 1 [] [] [] Cpp; whole = λ k. cc; from = (Over (Done 1 [] [] [] Cpp), (e, f, (refl, refl), refl), refl) }
+    go false e b f = record {
+      next = Met TakesLocal;
+      rest = Met GivesLocal ∷ [];
+      end = Failed Station;
+      whole = λ k. cc;
+      from =
+          (LentInPlace, (e, refl), (Over (Failed Station), inl refl, refl));
+    }
+    go true e true f = let g = goes-send j [] [] [] in
+        record {
+          next = Did (fetched get);
+          rest = g.next ∷ g.rest;
+          end = g.end;
+          whole = g.whole;
+          from =
+              (Send [] [] [], (e, f, refl, refl), g.from);
+        }
+    go true e false f = record {
+      next = Did (ran bad);
+      rest = [];
+      end = Done 1 [] [] [] Cpp;
+      whole = λ k. cc;
+      from =
+          (Over (Done 1 [] [] [] Cpp), (e, f, (refl, refl), refl), refl);
+    }
 
 -- where a job stops for want of memory
 record Plain (j : Job) (at : At) (acts : List Act) : Type 0 where
@@ -193,198 +288,73 @@ record Exch (j : Job) (at : At) (acts : List Act) : Type 0 where
   begun : IsBegunWith j x source host
   is : acts ≡ front ++ Did (exchanged x) ∷ Met (Gives host) ∷ []
 
-abbrev Stops : Job → At → List Act → Type 0
+abbrev pub Stops : Job → At → List Act → Type 0
 Stops j at acts = Plain j at acts ⊎ Exch j at acts
 
-prepend : (j : Job) (at c : At) (a : Act) (acts : List Act) → Next j at a c → Stops j c acts → Stops j at (a ∷ acts)
-prepend j at c a acts next (inl p) = inl record { front = a ∷ p.front; place = p.place; reach = (c, next, p.reach); goes = p.goes; is = ap (λ (more : List Act). a ∷ more) p.is }
-prepend j at c a acts next (inr p) = inr record { front = a ∷ p.front; host = p.host; source = p.source; note = p.note; tried = p.tried; x = p.x; reach = (c, next, p.reach); remote = p.remote; begun = p.begun; is = ap (λ (more : List Act). a ∷ more) p.is }
+pub prepend : (j : Job) (at c : At) (a : Act) (acts : List Act) → Next j at a c → Stops j c acts → Stops j at (a ∷ acts)
+prepend j at c a acts next (inl p) =
+    inl record {
+      front = a ∷ p.front;
+      place = p.place;
+      reach = (c, next, p.reach);
+      goes = p.goes;
+      is =
+          ap (λ (more : List Act). a ∷ more) p.is;
+    }
+prepend j at c a acts next (inr p) =
+    inr record {
+      front = a ∷ p.front;
+      host = p.host;
+      source = p.source;
+      note = p.note;
+      tried = p.tried;
+      x = p.x;
+      reach =
+          (c, next, p.reach);
+      remote = p.remote;
+      begun = p.begun;
+      is = ap (λ (more : List Act). a ∷ more) p.is;
+    }
 
-here : (j : Job) (at : At) (acts : List Act) → Goes j at → acts ≡ gives_back (has_out at) → Stops j at acts
+pub here : (j : Job) (at : At) (acts : List Act) → Goes j at → acts ≡ gives_back (has_out at) → Stops j at acts
 here j at acts goes is = inl record { front = []; place = at; reach = refl; goes = goes; is = is }
 
 -- neither within an exchange nor out of memory
-abbrev Fine : At → Type 0
+abbrev pub Fine : At → Type 0
 Fine (Sent host source note tried x) = ⊥
 Fine (Over e) = e ≢ Failed Memory
 Fine at = Unit {0}
 
-fine-or_here : (j : Job) (source note : List ℕ) (why : End) → why ≢ Failed Memory → Fine (or_here j source note why)
+pub fine-or_here : (j : Job) (source note : List ℕ) (why : End) → why ≢ Failed Memory → Fine (or_here j source note why)
 fine-or_here j source note why other = go j.config.fallback
   where
     go : (b : Bool) → Fine (cond b (Locally source note) (Over why))
     go true = tt
     go false = other
 
-fine-broken : (j : Job) (host : ℕ) (cause : Cause) (source note : List ℕ) (tried : List Tried) → Fine (after_broken j host cause source note tried)
+pub fine-broken : (j : Job) (host : ℕ) (cause : Cause) (source note : List ℕ) (tried : List Tried)
+    → Fine (after_broken j host cause source note tried)
 fine-broken j host cause source note tried = go (nat_lt (length tried + 1) j.config.tries)
   where
     go : (b : Bool) → Fine (cond b (Send source note (tried_too host cause tried)) (or_here j source note (Failed (Broke host cause))))
     go true = tt
     go false = fine-or_here j source note (Failed (Broke host cause)) (λ k. cc)
 
-fine-whole : (j : Job) (host : ℕ) (source note : List ℕ) (o : Outcome) → Fine (after_whole j host source note o)
+pub fine-whole : (j : Job) (host : ℕ) (source note : List ℕ) (o : Outcome) → Fine (after_whole j host source note o)
 fine-whole j host source note o = go (nat_eq o.status 0) (j.config.fallback && j.config.retry)
   where
-    go : (a b : Bool) → Fine (cond a (Finish (Remote host) note o) (cond b (Locally source note) (Over (Done o.status note o.err o.out (Remote host)))))
+    go : (a b : Bool) → Fine (cond a (Finish (Remote host) note o)
+        (cond b (Locally source note) (Over (Done o.status note o.err o.out (Remote host)))))
     go true b = tt
     go false true = tt
     go false false = λ k. cc
 
-fine-cpp : (r : Ran) → Fine (after_preprocessor r)
+pub fine-cpp : (r : Ran) → Fine (after_preprocessor r)
 fine-cpp r = go (nat_eq r.status 0)
   where
     go : (b : Bool) → Fine (cond b (Send r.out r.err []) (Over (Done r.status [] r.err [] Cpp)))
     go true = tt
     go false = λ k. cc
 
-fine-at : (c d : At) → c ≡ d → Fine d → Fine c
+pub fine-at : (c d : At) → c ≡ d → Fine d → Fine c
 fine-at c d e h = subst Fine (sym e) h
-
--- no other end is that for want of memory
-other : {A : Type 0} (j : Job) (c : At) (e : End) (acts : List Act) → c ≡ Over e → e ≢ Failed Memory → From j c acts (Failed Memory) → A
-other j c e acts is apart h = absurd (apart (sym (over j e acts (Failed Memory) (along j c (Over e) acts (Failed Memory) is h)).1))
-
-out-of : (j : Job) (c : At) (acts : List Act) → c ≡ Over (Failed Memory) → From j c acts (Failed Memory) → acts ≡ []
-out-of j c acts is h = (over j (Failed Memory) acts (Failed Memory) (along j c (Over (Failed Memory)) acts (Failed Memory) is h)).0
-
-gave : (j : Job) (at c : At) (k host : ℕ) (acts : List Act) → Goes j at → has_out at ≡ Some (Some host) → k ≡ host → c ≡ Over (Failed Memory) → From j c acts (Failed Memory) → Stops j at (Met (Gives k) ∷ acts)
-gave j at c k host acts goes out same is h = here j at (Met (Gives k) ∷ acts) goes (ap (λ (more : List Act). Met (Gives k) ∷ more) (out-of j c acts is h) ∙ ap (λ (i : ℕ). Met (Gives i) ∷ []) same ∙ ap gives_back (sym out))
-
-gave-local : (j : Job) (at c : At) (acts : List Act) → Goes j at → has_out at ≡ Some None → c ≡ Over (Failed Memory) → From j c acts (Failed Memory) → Stops j at (Met GivesLocal ∷ acts)
-gave-local j at c acts goes out is h = here j at (Met GivesLocal ∷ acts) goes (ap (λ (more : List Act). Met GivesLocal ∷ more) (out-of j c acts is h) ∙ ap gives_back (sym out))
-
-stops : (j : Job) (acts : List Act) (at : At) → Fine at → From j at acts (Failed Memory) → Stops j at acts
-stops j [] Start fine h = here j Start [] (goes-start j) refl
-stops j (Met TakesLocal ∷ acts) Start fine (c, next, from) = prepend j Start c (Met TakesLocal) acts next (stops j acts c (fine-at c LentInPlace next.1 tt) from)
-stops j (Did (fetched x) ∷ acts) Start fine (c, next, from) = prepend j Start c (Did (fetched x)) acts next (stops j acts c (fine-at c (Send x.bytes [] []) next.3 tt) from)
-stops j (Did (ran x) ∷ acts) Start fine (c, next, from) = prepend j Start c (Did (ran x)) acts next (stops j acts c (fine-at c (after_preprocessor x.ran) next.3 (fine-cpp x.ran)) from)
-stops j (Did (ran x) ∷ acts) LentInPlace fine (c, next, from) = prepend j LentInPlace c (Did (ran x)) acts next (stops j acts c (fine-at c (RanInPlace x.ran) next.1 tt) from)
-stops j (Met GivesLocal ∷ acts) LentInPlace fine (c, next, from) =
-    elim next [ inl e ↦ other j c (Failed Station) acts e (λ k. cc) from | inr e ↦ gave-local j LentInPlace c acts record { next = Met GivesLocal; rest = []; end = Failed Station; whole = λ k. cc; from = (Over (Failed Station), inl refl, refl) } refl e from ]
-stops j (Met GivesLocal ∷ acts) (RanInPlace r) fine (c, next, from) =
-    elim next [
-      | inl e ↦ other j c (Done r.status [] r.err r.out InPlace) acts e (λ k. cc) from
-      | inr e ↦ gave-local j (RanInPlace r) c acts record { next = Met GivesLocal; rest = []; end = Done r.status [] r.err r.out InPlace; whole = λ k. cc; from = (Over (Done r.status [] r.err r.out InPlace), inl refl, refl) } refl e from
-    ]
-stops j [] (Send source note tried) fine h = here j (Send source note tried) [] (goes-send j source note tried) refl
-stops j (Met FindsDown ∷ acts) (Send source note tried) fine (c, next, from) = prepend j (Send source note tried) c (Met FindsDown) acts next (stops j acts c (fine-at c (or_here j source note (Failed (no_host tried))) next.1 (fine-or_here j source note (Failed (no_host tried)) (no_host-other tried))) from)
-stops j (Met (Takes host) ∷ acts) (Send source note tried) fine (c, next, from) = prepend j (Send source note tried) c (Met (Takes host)) acts next (stops j acts c (fine-at c (Lent host source note tried) next.3 tt) from)
-stops j (Met TakesLocal ∷ acts) (Send source note tried) fine (c, next, from) = prepend j (Send source note tried) c (Met TakesLocal) acts next (stops j acts c (fine-at c (LentHere source note) next.1 tt) from)
-stops j (Did (ran x) ∷ acts) (Lent host source note tried) fine (c, next, from) = prepend j (Lent host source note tried) c (Did (ran x)) acts next (stops j acts c (fine-at c (RanThere host note x.ran) next.2 tt) from)
-stops j (Met (Gives k) ∷ acts) (Lent host source note tried) fine (c, next, from) =
-    elim next.1 [ inl e ↦ other j c (Failed Station) acts e.1 (λ k. cc) from | inr e ↦ gave j (Lent host source note tried) c k host acts (goes-lent j host source note tried) refl next.0 e from ]
-stops j (Did (exchanged x) ∷ Met (Gives k) ∷ acts) (Lent host source note tried) fine (c, next, from) =
-    let from' : From j (Sent host source note tried x) (Met (Gives k) ∷ acts) (Failed Memory) = along j c (Sent host source note tried x) (Met (Gives k) ∷ acts) (Failed Memory) next.2 from in
-    let d = from'.0 in
-    let n : Next j (Sent host source note tried x) (Met (Gives k)) d = from'.1 in
-    let first : Next j (Lent host source note tried) (Did (exchanged x)) (Sent host source note tried x) = (next.0, next.1, refl) in
-    let on : Fine d → Stops j (Lent host source note tried) (Did (exchanged x) ∷ Met (Gives k) ∷ acts) = λ (fine : Fine d). prepend j (Lent host source note tried) (Sent host source note tried x) (Did (exchanged x)) (Met (Gives k) ∷ acts) first (prepend j (Sent host source note tried x) d (Met (Gives k)) acts n (stops j acts d fine from'.2)) in
-    elim n.1 [
-      | inl w ↦ on (fine-at d (after_whole j host source note w.0) w.2 (fine-whole j host source note w.0))
-      | inr more ↦ elim more [
-        | inl b ↦ on (fine-at d (after_broken j host b.0 source note tried) b.3 (fine-broken j host b.0 source note tried))
-        | inr e ↦ inr record {
-          front = [];
-          host = host;
-          source = source;
-          note = note;
-          tried = tried;
-          x = x;
-          reach = refl;
-          remote = next.0;
-          begun = next.1;
-          is = ap (λ (more : List Act). Did (exchanged x) ∷ Met (Gives k) ∷ more) (out-of j d acts e from'.2) ∙ ap (λ (i : ℕ). Did (exchanged x) ∷ Met (Gives i) ∷ []) n.0;
-        }
-      ]
-    ]
-stops j (Did (exchanged x) ∷ Met (GivesBad k until) ∷ acts) (Lent host source note tried) fine (c, next, from) =
-    let from' : From j (Sent host source note tried x) (Met (GivesBad k until) ∷ acts) (Failed Memory) = along j c (Sent host source note tried x) (Met (GivesBad k until) ∷ acts) (Failed Memory) next.2 from in
-    let d = from'.0 in
-    let n : Next j (Sent host source note tried x) (Met (GivesBad k until)) d = from'.1 in
-    let first : Next j (Lent host source note tried) (Did (exchanged x)) (Sent host source note tried x) = (next.0, next.1, refl) in
-    prepend j (Lent host source note tried) (Sent host source note tried x) (Did (exchanged x)) (Met (GivesBad k until) ∷ acts) first (prepend j (Sent host source note tried x) d (Met (GivesBad k until)) acts n (stops j acts d (fine-at d (after_broken j host n.2.0 source note tried) n.2.4 (fine-broken j host n.2.0 source note tried)) from'.2))
-stops j (Did (exchanged x) ∷ []) (Lent host source note tried) fine (c, next, from) = let h : From j (Sent host source note tried x) [] (Failed Memory) = along j c (Sent host source note tried x) [] (Failed Memory) next.2 from in absurd h
-stops j (Did (exchanged x) ∷ a ∷ acts) (Lent host source note tried) fine (c, next, from) = let h : From j (Sent host source note tried x) (a ∷ acts) (Failed Memory) = along j c (Sent host source note tried x) (a ∷ acts) (Failed Memory) next.2 from in absurd h.1
-stops j [] (Sent host source note tried x) fine h = absurd fine
-stops j (a ∷ acts) (Sent host source note tried x) fine h = absurd fine
-stops j (Met (Gives k) ∷ acts) (RanThere host note r) fine (c, next, from) =
-    elim next.1 [
-      | inl e ↦ prepend j (RanThere host note r) c (Met (Gives k)) acts next (stops j acts c (fine-at c (Finish Here note (outcome_of r)) e tt) from)
-      | inr e ↦ let f = fin-finish j Here note (outcome_of r) in gave j (RanThere host note r) c k host acts record { next = Met (Gives host); rest = f.acts; end = f.end; whole = f.whole; from = (Finish Here note (outcome_of r), (refl, inl refl), f.from) } refl next.0 e from
-    ]
-stops j [] (Locally source note) fine h = here j (Locally source note) [] (goes-locally j source note) refl
-stops j (Met TakesLocal ∷ acts) (Locally source note) fine (c, next, from) = prepend j (Locally source note) c (Met TakesLocal) acts next (stops j acts c (fine-at c (LentHere source note) next tt) from)
-stops j (Did (ran x) ∷ acts) (LentHere source note) fine (c, next, from) = prepend j (LentHere source note) c (Did (ran x)) acts next (stops j acts c (fine-at c (RanHere note x.ran) next.1 tt) from)
-stops j (Met GivesLocal ∷ acts) (LentHere source note) fine (c, next, from) =
-    elim next [ inl e ↦ other j c (Failed Station) acts e (λ k. cc) from | inr e ↦ gave-local j (LentHere source note) c acts record { next = Met GivesLocal; rest = []; end = Failed Station; whole = λ k. cc; from = (Over (Failed Station), inl refl, refl) } refl e from ]
-stops j (Met GivesLocal ∷ acts) (RanHere note r) fine (c, next, from) =
-    elim next [
-      | inl e ↦ prepend j (RanHere note r) c (Met GivesLocal) acts (inl e) (stops j acts c (fine-at c (Finish Here note (outcome_of r)) e tt) from)
-      | inr e ↦ let f = fin-finish j Here note (outcome_of r) in gave-local j (RanHere note r) c acts record { next = Met GivesLocal; rest = f.acts; end = f.end; whole = f.whole; from = (Finish Here note (outcome_of r), inl refl, f.from) } refl e from
-    ]
-stops j [] (Finish by note o) fine h =
-    elim h [
-      | inl z ↦ here j (Finish by note o) [] record { next = Did (put (record { path = output_name j; bytes = o.object })); rest = []; end = Done 0 note o.err o.out by; whole = λ k. cc; from = (Over (Done 0 note o.err o.out by), (z.0, refl, refl, refl), refl) } refl
-      | inr d ↦ let e = d.1 in cc
-    ]
-stops j (Did (put x) ∷ acts) (Finish by note o) fine (c, next, from) = other j c (Done 0 note o.err o.out by) acts next.3 (λ k. cc) from
-stops j [] (Over e) fine h = absurd (fine (sym h))
-stops j [] at fine h = absurd h
-stops j (a ∷ acts) at fine (c, next, from) = absurd next
-
--- from a host'source grant a job can go on by an exchange whose dial failed
-record Dials (j : Job) (host : ℕ) (source note : List ℕ) (tried : List Tried) : Type 0 where
-  rest : List Act
-  end : End
-  whole : end ≢ Failed Memory
-  from : From j (Lent host source note tried) (Did (exchanged (dial j host)) ∷ rest) end
-
-dials : (j : Job) (host : ℕ) (source note : List ℕ) (tried : List Tried) → is_local_host j host ≡ false → Dials j host source note tried
-dials j host source note tried e =
-    let f = fin-broken j host Dial source note tried in
-    let x = dial j host in
-    elim (cases_eq j.config.period 0) [
-      | inl zero_ ↦ record {
-        rest = Met (Gives host) ∷ f.acts;
-        end = f.end;
-        whole = f.whole;
-        from = (Sent host source note tried x, (e, (dial-broken j host source).begun, refl), (after_broken j host Dial source note tried, (refl, inr (inl (Dial, dial-broken j host source, zero_, refl))), f.from));
-      }
-      | inr more ↦ record {
-        rest = Met (GivesBad host (bad_until 0 j.config.period)) ∷ f.acts;
-        end = f.end;
-        whole = f.whole;
-        from = (Sent host source note tried x, (e, (dial-broken j host source).begun, refl), (after_broken j host Dial source note tried, (refl, e, (Dial, dial-broken j host source, above j.config.period more, (0, small, refl), refl)), f.from));
-      }
-    ]
-
-memory : (j : Job) (acts : List Act) → Course j acts (Failed Memory) → IsCut j acts ⊎ IsCutInExchange j acts
-memory j acts h =
-    elim (stops j acts Start tt h) [
-      | inl p ↦ let g = p.goes in inl record {
-        front = p.front;
-        next = g.next;
-        rest = g.rest;
-        end = g.end;
-        finished = forth j (p.front ++ g.next ∷ g.rest) g.end g.whole (join j p.front (g.next ∷ g.rest) Start p.place g.end p.reach g.from);
-        is = p.is ∙ ap (λ (loan : Loan). p.front ++ gives_back loan) (sym (reach-loan j p.front Start p.place p.reach));
-      }
-      | inr p ↦ let d = dials j p.host p.source p.note p.tried p.remote in inr record {
-        front = p.front;
-        exchange = dial j p.host;
-        rest = d.rest;
-        end = d.end;
-        finished = forth j (p.front ++ Did (exchanged (dial j p.host)) ∷ d.rest) d.end d.whole (join j p.front (Did (exchanged (dial j p.host)) ∷ d.rest) Start (Lent p.host p.source p.note p.tried) d.end p.reach d.from);
-        host = p.host;
-        source = p.source;
-        out = reach-loan j p.front Start (Lent p.host p.source p.note p.tried) p.reach;
-        source_is = reach-source j p.front [] Start (Lent p.host p.source p.note p.tried) refl p.reach;
-        begun = p.x;
-        is_begun = p.begun;
-        is = p.is;
-      }
-    ]
-
-pub memory-law : MemoryLaw
-memory-law j acts = (memory j acts, λ h. elim h [ inl cut ↦ cut-back j acts cut | inr cut ↦ exchange-back j acts cut ])

@@ -1,5 +1,6 @@
 -- With fallback on no job fails for a host.
-use Rattle.std.proofs.Common.{◌≡◌, ◌⊎◌, inl, inr, ℕ, ◌+◌, Bool, true, false, ◌&&◌, cond, List, [], ◌∷◌, length, nat_eq, nat_lt, refl, ap, ◌∙◌}
+use Rattle.std.proofs.Common.{◌≡◌, ◌⊎◌, inl, inr, ℕ, ◌+◌, Bool, true, false, ◌&&◌, cond, List, [], ◌∷◌, length, nat_eq, nat_lt, refl, ap}
+use Rattle.std.proofs.Common.{◌∙◌}
 use Rattle.farm_types.specs.declared.ran.Ran.{Ran}
 use Rattle.farm_types.specs.declared.ran.Outcome.{Outcome}
 use Rattle.edge_traits.specs.declared.cause.Cause.{Cause}
@@ -10,7 +11,9 @@ use Rattle.farm_machine.specs.declared.reports.End.{End}
 use Rattle.farm_machine.specs.declared.reports.End.TheVariants.{Done, Failed}
 use Rattle.farm_machine.specs.Acts.{Takes, Gives, GivesBad, FindsDown, TakesLocal, GivesLocal, Act, Did, Met}
 use Rattle.farm_machine.specs.Jobs.{Job}
-use Rattle.farm_machine.specs.Course.{At, Start, LentInPlace, RanInPlace, Send, Lent, RanThere, Sent, Locally, LentHere, RanHere, Finish, Over, outcome_of, after_preprocessor, or_here, after_broken, after_whole, Tried, tried_too, no_host, Next, Ends, From}
+use Rattle.farm_machine.specs.Course.{At, Start, LentInPlace, RanInPlace, Send, Lent, RanThere, Sent, Locally, LentHere, RanHere, Finish}
+use Rattle.farm_machine.specs.Course.{Over, outcome_of, after_preprocessor, or_here, after_broken, after_whole, Tried, tried_too, no_host}
+use Rattle.farm_machine.specs.Course.{Next, Ends, From}
 use Rattle.course_laws.specs.Laws.{FallbackLaw, is_own_end}
 
 -- no host is the cause of the end, where this is one
@@ -55,17 +58,20 @@ module _ (j : Job) (fallback : j.config.fallback ≡ true) where
   own-or_here : (source note : List ℕ) (end : End) → is_own (or_here j source note end) ≡ true
   own-or_here source note end = ap (λ (b : Bool). is_own (cond b (Locally source note) (Over end))) fallback
 
-  own-broken : (host : ℕ) (cause : Cause) (source note : List ℕ) (tried : List Tried) → is_own (after_broken j host cause source note tried) ≡ true
+  own-broken : (host : ℕ) (cause : Cause) (source note : List ℕ) (tried : List Tried)
+      → is_own (after_broken j host cause source note tried) ≡ true
   own-broken host cause source note tried = go (nat_lt (length tried + 1) j.config.tries)
     where
-      go : (b : Bool) → is_own (cond b (Send source note (tried_too host cause tried)) (or_here j source note (Failed (Broke host cause)))) ≡ true
+      go : (b : Bool) → is_own (cond b (Send source note (tried_too host cause tried))
+          (or_here j source note (Failed (Broke host cause)))) ≡ true
       go true = refl
       go false = own-or_here source note (Failed (Broke host cause))
 
   own-whole : (host : ℕ) (source note : List ℕ) (o : Outcome) → is_own (after_whole j host source note o) ≡ true
   own-whole host source note o = go (nat_eq o.status 0) (j.config.fallback && j.config.retry)
     where
-      go : (a b : Bool) → is_own (cond a (Finish (Remote host) note o) (cond b (Locally source note) (Over (Done o.status note o.err o.out (Remote host))))) ≡ true
+      go : (a b : Bool) → is_own
+          (cond a (Finish (Remote host) note o) (cond b (Locally source note) (Over (Done o.status note o.err o.out (Remote host))))) ≡ true
       go true b = refl
       go false true = refl
       go false false = refl
@@ -77,12 +83,14 @@ module _ (j : Job) (fallback : j.config.fallback ≡ true) where
   own-next LentInPlace c (Did (ran x)) h = own-at c (RanInPlace x.ran) h.1 refl
   own-next LentInPlace c (Met GivesLocal) h = one-of c (Over (Failed Station)) (Over (Failed Memory)) h refl refl
   own-next (RanInPlace r) c (Met GivesLocal) h = one-of c (Over (Done r.status [] r.err r.out InPlace)) (Over (Failed Memory)) h refl refl
-  own-next (Send source note tried) c (Met FindsDown) h = own-at c (or_here j source note (Failed (no_host tried))) h.1 (own-or_here source note (Failed (no_host tried)))
+  own-next (Send source note tried) c (Met FindsDown) h =
+      own-at c (or_here j source note (Failed (no_host tried))) h.1 (own-or_here source note (Failed (no_host tried)))
   own-next (Send source note tried) c (Met (Takes host)) h = own-at c (Lent host source note tried) h.3 refl
   own-next (Send source note tried) c (Met TakesLocal) h = own-at c (LentHere source note) h.1 refl
   own-next (Lent host source note tried) c (Did (ran x)) h = own-at c (RanThere host note x.ran) h.2 refl
   own-next (Lent host source note tried) c (Did (exchanged x)) h = own-at c (Sent host source note tried x) h.2 refl
-  own-next (Lent host source note tried) c (Met (Gives i)) h = elim h.1 [ inl e ↦ own-at c (Over (Failed Station)) e.1 refl | inr e ↦ own-at c (Over (Failed Memory)) e refl ]
+  own-next (Lent host source note tried) c (Met (Gives i)) h =
+      elim h.1 [ inl e ↦ own-at c (Over (Failed Station)) e.1 refl | inr e ↦ own-at c (Over (Failed Memory)) e refl ]
   own-next (RanThere host note r) c (Met (Gives i)) h = one-of c (Finish Here note (outcome_of r)) (Over (Failed Memory)) h.1 refl refl
   own-next (Sent host source note tried x) c (Met (Gives i)) h =
       elim h.1 [
@@ -92,7 +100,8 @@ module _ (j : Job) (fallback : j.config.fallback ≡ true) where
           | inr e ↦ own-at c (Over (Failed Memory)) e refl
         ]
       ]
-  own-next (Sent host source note tried x) c (Met (GivesBad i until)) h = own-at c (after_broken j host h.2.0 source note tried) h.2.4 (own-broken host h.2.0 source note tried)
+  own-next (Sent host source note tried x) c (Met (GivesBad i until)) h =
+      own-at c (after_broken j host h.2.0 source note tried) h.2.4 (own-broken host h.2.0 source note tried)
   own-next (Locally source note) c (Met TakesLocal) h = own-at c (LentHere source note) h refl
   own-next (LentHere source note) c (Did (ran x)) h = own-at c (RanHere note x.ran) h.1 refl
   own-next (LentHere source note) c (Met GivesLocal) h = one-of c (Over (Failed Station)) (Over (Failed Memory)) h refl refl

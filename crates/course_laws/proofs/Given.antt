@@ -16,7 +16,8 @@ given-acts peers (Did (put x) ∷ acts) may = given-acts peers acts may
 given-acts peers (Did (timed moment) ∷ acts) may = given-acts peers acts may
 given-acts peers (Met x ∷ acts) may = given-acts peers acts may
 
-pub given-split : (peers : Peers) (acts more : List Act) → AllGiven peers (acts ++ more) → AllGiven peers (untimed acts) × AllGiven peers more
+pub given-split : (peers : Peers) (acts more : List Act) → AllGiven peers (acts ++ more)
+    → AllGiven peers (untimed acts) × AllGiven peers more
 given-split peers [] more all = (tt, all)
 given-split peers (Did (ran x) ∷ acts) more all = given-split peers acts more all
 given-split peers (Did (fetched x) ∷ acts) more all = given-split peers acts more all
@@ -25,7 +26,8 @@ given-split peers (Did (put x) ∷ acts) more all = given-split peers acts more 
 given-split peers (Did (timed moment) ∷ acts) more all = given-split peers acts more all
 given-split peers (Met x ∷ acts) more all = given-split peers acts more all
 
-pub ran-split : (programs : Programs) (acts more : List Act) → AllRan programs (acts ++ more) → AllRan programs (untimed acts) × AllRan programs more
+pub ran-split : (programs : Programs) (acts more : List Act) → AllRan programs (acts ++ more)
+    → AllRan programs (untimed acts) × AllRan programs more
 ran-split programs [] more all = (tt, all)
 ran-split programs (Did (ran x) ∷ acts) more all = let rest = ran-split programs acts more all.1 in ((all.0, rest.0), rest.1)
 ran-split programs (Did (fetched x) ∷ acts) more all = ran-split programs acts more all

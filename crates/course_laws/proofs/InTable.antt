@@ -7,8 +7,8 @@ use Rattle.farm_machine.specs.Acts.{Act}
 use Rattle.farm_machine.specs.Course.{Course}
 use Rattle.farm_machine.specs.Jobs.{Job}
 use Rattle.farm_machine.specs.TableCourse.{IsOfTable}
-use Rattle.course_laws.proofs.Cuts.{memory-law}
-use Rattle.course_laws.proofs.Tables.{back, table}
+use Rattle.course_laws.proofs.CutsByMemory.{memory-law}
+use Rattle.course_laws.proofs.TablesBack.{back, table}
 
 pub in-table : (j : Job) (acts : List Act) (end : End) → Course j acts end → IsOfTable j acts end
 in-table j acts (Failed Memory) course = inr (refl, (memory-law j acts).0 course)

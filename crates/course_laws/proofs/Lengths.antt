@@ -1,5 +1,6 @@
 -- How many acts a course has at most.
-use Rattle.std.proofs.Common.{◌≡◌, ◌⊎◌, inl, inr, ℕ, ◌+◌, ◌-◌, ◌*◌, ◌<◌, ◌≤◌, Bool, true, false, ◌&&◌, cond, List, [], ◌∷◌, length, nat_eq, nat_lt, refl, sym, subst, arith}
+use Rattle.std.proofs.Common.{◌≡◌, ◌⊎◌, inl, inr, ℕ, ◌+◌, ◌-◌, ◌*◌, ◌<◌, ◌≤◌, Bool, true, false, ◌&&◌, cond, List, [], ◌∷◌, length}
+use Rattle.std.proofs.Common.{nat_eq, nat_lt, refl, sym, subst, arith}
 use Rattle.std.proofs.lemmas.Bool.{ltb-true}
 use Rattle.farm_types.specs.declared.ran.Ran.{Ran}
 use Rattle.farm_types.specs.declared.ran.Outcome.{Outcome}
@@ -11,7 +12,9 @@ use Rattle.farm_machine.specs.declared.reports.End.{End}
 use Rattle.farm_machine.specs.declared.reports.End.TheVariants.{Done, Failed}
 use Rattle.farm_machine.specs.Acts.{Takes, Gives, GivesBad, FindsDown, TakesLocal, GivesLocal, Act, Did, Met}
 use Rattle.farm_machine.specs.Jobs.{Job}
-use Rattle.farm_machine.specs.Course.{At, Start, LentInPlace, RanInPlace, Send, Lent, RanThere, Sent, Locally, LentHere, RanHere, Finish, Over, outcome_of, after_preprocessor, or_here, after_broken, after_whole, Tried, tried_too, no_host, Next, From}
+use Rattle.farm_machine.specs.Course.{At, Start, LentInPlace, RanInPlace, Send, Lent, RanThere, Sent, Locally, LentHere, RanHere, Finish}
+use Rattle.farm_machine.specs.Course.{Over, outcome_of, after_preprocessor, or_here, after_broken, after_whole, Tried, tried_too, no_host}
+use Rattle.farm_machine.specs.Course.{Next, From}
 use Rattle.course_laws.specs.Laws.{LengthLaw}
 
 -- From here a course may have n acts more: three for each host that may still be tried, and those of the compile here
@@ -51,17 +54,20 @@ left-or_here j n source note why h = go j.config.fallback
     go true = h
     go false = tt
 
-left-broken : (j : Job) (n host : ℕ) (cause : Cause) (source note : List ℕ) (tried : List Tried) → length tried < j.config.tries → 3 * (j.config.tries - length tried) + 1 ≤ n → Left j (after_broken j host cause source note tried) n
+left-broken : (j : Job) (n host : ℕ) (cause : Cause) (source note : List ℕ) (tried : List Tried) → length tried < j.config.tries
+    → 3 * (j.config.tries - length tried) + 1 ≤ n → Left j (after_broken j host cause source note tried) n
 left-broken j n host cause source note tried more h = go (nat_lt (length tried + 1) j.config.tries) refl
   where
-    go : (b : Bool) → nat_lt (length tried + 1) j.config.tries ≡ b → Left j (cond b (Send source note (tried_too host cause tried)) (or_here j source note (Failed (Broke host cause)))) n
+    go : (b : Bool) → nat_lt (length tried + 1) j.config.tries ≡ b
+        → Left j (cond b (Send source note (tried_too host cause tried)) (or_here j source note (Failed (Broke host cause)))) n
     go true e = let again : length tried + 1 < j.config.tries = ltb-true (length tried + 1) j.config.tries e in (omega arith, omega arith)
     go false e = left-or_here j n source note (Failed (Broke host cause)) (omega arith)
 
 left-whole : (j : Job) (n host : ℕ) (source note : List ℕ) (o : Outcome) → 4 ≤ n → Left j (after_whole j host source note o) n
 left-whole j n host source note o h = go (nat_eq o.status 0) (j.config.fallback && j.config.retry)
   where
-    go : (a b : Bool) → Left j (cond a (Finish (Remote host) note o) (cond b (Locally source note) (Over (Done o.status note o.err o.out (Remote host))))) n
+    go : (a b : Bool) → Left j
+        (cond a (Finish (Remote host) note o) (cond b (Locally source note) (Over (Done o.status note o.err o.out (Remote host))))) n
     go true b = omega arith
     go false true = h
     go false false = tt
@@ -72,7 +78,8 @@ left-next j n Start c (Did (fetched x)) some h l = left-at j n c (Send x.bytes [
 left-next j n Start c (Did (ran x)) some h l = left-at j n c (after_preprocessor x.ran) h.3 (left-preprocessed j n x.ran some (omega arith))
 left-next j n LentInPlace c (Did (ran x)) some h l = left-at j n c (RanInPlace x.ran) h.1 (omega arith)
 left-next j n LentInPlace c (Met GivesLocal) some h l = one-of j n c (Over (Failed Station)) (Over (Failed Memory)) h tt tt
-left-next j n (RanInPlace r) c (Met GivesLocal) some h l = one-of j n c (Over (Done r.status [] r.err r.out InPlace)) (Over (Failed Memory)) h tt tt
+left-next j n (RanInPlace r) c (Met GivesLocal) some h l =
+    one-of j n c (Over (Done r.status [] r.err r.out InPlace)) (Over (Failed Memory)) h tt tt
 left-next j n (Send source note tried) c (Met FindsDown) some h l =
     let more = l.0 in
     let room = l.1 in
@@ -91,14 +98,16 @@ left-next j n (Lent host source note tried) c (Did (exchanged x)) some h l =
     left-at j n c (Sent host source note tried x) h.2 (l.0, omega arith)
 left-next j n (Lent host source note tried) c (Met (Gives i)) some h l =
     elim h.1 [ inl e ↦ left-at j n c (Over (Failed Station)) e.1 tt | inr e ↦ left-at j n c (Over (Failed Memory)) e tt ]
-left-next j n (RanThere host note r) c (Met (Gives i)) some h l = one-of j n c (Finish Here note (outcome_of r)) (Over (Failed Memory)) h.1 (omega arith) tt
+left-next j n (RanThere host note r) c (Met (Gives i)) some h l =
+    one-of j n c (Finish Here note (outcome_of r)) (Over (Failed Memory)) h.1 (omega arith) tt
 left-next j n (Sent host source note tried x) c (Met (Gives i)) some h l =
     let more = l.0 in
     let room = l.1 in
     elim h.1 [
       | inl w ↦ left-at j n c (after_whole j host source note w.0) w.2 (left-whole j n host source note w.0 (omega arith))
       | inr other ↦ elim other [
-        | inl b ↦ left-at j n c (after_broken j host b.0 source note tried) b.3 (left-broken j n host b.0 source note tried l.0 (omega arith))
+        | inl b ↦ left-at j n c (after_broken j host b.0 source note tried) b.3
+            (left-broken j n host b.0 source note tried l.0 (omega arith))
         | inr e ↦ left-at j n c (Over (Failed Memory)) e tt
       ]
     ]
@@ -108,7 +117,8 @@ left-next j n (Sent host source note tried x) c (Met (GivesBad i until)) some h 
 left-next j n (Locally source note) c (Met TakesLocal) some h l = left-at j n c (LentHere source note) h (omega arith)
 left-next j n (LentHere source note) c (Did (ran x)) some h l = left-at j n c (RanHere note x.ran) h.1 (omega arith)
 left-next j n (LentHere source note) c (Met GivesLocal) some h l = one-of j n c (Over (Failed Station)) (Over (Failed Memory)) h tt tt
-left-next j n (RanHere note r) c (Met GivesLocal) some h l = one-of j n c (Finish Here note (outcome_of r)) (Over (Failed Memory)) h (omega arith) tt
+left-next j n (RanHere note r) c (Met GivesLocal) some h l =
+    one-of j n c (Finish Here note (outcome_of r)) (Over (Failed Memory)) h (omega arith) tt
 left-next j n (Finish by note o) c (Did (put x)) some h l = left-at j n c (Over (Done 0 note o.err o.out by)) h.3 tt
 left-next j n at c a some h l = absurd h
 
@@ -127,12 +137,14 @@ left-some j n (RanHere note r) c a h l = omega arith
 left-some j n (Finish by note o) c a h l = l
 left-some j n (Over e) c a h l = absurd h
 
-short-from : (j : Job) (acts : List Act) (n : ℕ) (at : At) (end : End) → 1 ≤ j.config.tries → Left j at n → From j at acts end → length acts ≤ n
+short-from : (j : Job) (acts : List Act) (n : ℕ) (at : At) (end : End) → 1 ≤ j.config.tries → Left j at n → From j at acts end
+    → length acts ≤ n
 short-from j [] n at end some l h = omega arith
 short-from j (a ∷ acts) n at end some l (c, next, from) =
     let one : 1 ≤ n = left-some j n at c a next l in
     let is : n ≡ (n - 1) + 1 = omega arith in
-    let rest : length acts ≤ n - 1 = short-from j acts (n - 1) c end some (left-next j (n - 1) at c a some next (subst (λ (k : ℕ). Left j at k) is l)) from in
+    let rest : length acts ≤ n - 1 =
+    short-from j acts (n - 1) c end some (left-next j (n - 1) at c a some next (subst (λ (k : ℕ). Left j at k) is l)) from in
     omega arith
 
 pub short : LengthLaw

@@ -1,5 +1,6 @@
 -- A put of a course is its last act, and is of the object of a compile before it.
-use Rattle.std.proofs.Common.{◌≡◌, ◌⊎◌, inl, inr, ℕ, ◌+◌, Bool, true, false, ◌&&◌, cond, List, [], ◌∷◌, ◌++◌, length, nat_eq, nat_lt, refl, sym, ap, ◌∙◌, subst, append_assoc, eq-eqb}
+use Rattle.std.proofs.Common.{◌≡◌, ◌⊎◌, inl, inr, ℕ, ◌+◌, Bool, true, false, ◌&&◌, cond, List, [], ◌∷◌, ◌++◌, length, nat_eq, nat_lt}
+use Rattle.std.proofs.Common.{refl, sym, ap, ◌∙◌, subst, append_assoc, eq-eqb}
 use Rattle.std.specs.Prelude.{◌≢◌}
 use Rattle.std.proofs.lemmas.Bool.{eqb-true, true≢false}
 use Rattle.std.proofs.lemmas.List.{append-nil}
@@ -17,7 +18,9 @@ use Rattle.farm_machine.specs.declared.reports.End.{End}
 use Rattle.farm_machine.specs.declared.reports.End.TheVariants.{Done, Failed}
 use Rattle.farm_machine.specs.Acts.{Takes, Gives, GivesBad, FindsDown, TakesLocal, GivesLocal, Act, Did, Met}
 use Rattle.farm_machine.specs.Jobs.{Job, CanRequest, compile_command}
-use Rattle.farm_machine.specs.Course.{IsRunOf, At, Start, LentInPlace, RanInPlace, Send, Lent, RanThere, Sent, Locally, LentHere, RanHere, Finish, Over, outcome_of, after_preprocessor, or_here, after_broken, after_whole, Tried, tried_too, no_host, Next, Ends, From, Reach, Course}
+use Rattle.farm_machine.specs.Course.{IsRunOf, At, Start, LentInPlace, RanInPlace, Send, Lent, RanThere, Sent, Locally, LentHere, RanHere}
+use Rattle.farm_machine.specs.Course.{Finish, Over, outcome_of, after_preprocessor, or_here, after_broken, after_whole, Tried, tried_too}
+use Rattle.farm_machine.specs.Course.{no_host, Next, Ends, From, Reach, Course}
 use Rattle.farm_machine.specs.Table.{IsSource}
 use Rattle.course_laws.specs.Laws.{IsAmong, IsCompiled, PutsLast, PutLaw}
 use Rattle.course_laws.proofs.Sources.{split, SourceAt, more-source, source-next}
@@ -98,20 +101,25 @@ known-or_here j acts source note why = go j.config.fallback
     go true = tt
     go false = tt
 
-known-broken : (j : Job) (acts : List Act) (host : ℕ) (cause : Cause) (source note : List ℕ) (tried : List Tried) → KnownAt j acts (after_broken j host cause source note tried)
+known-broken : (j : Job) (acts : List Act) (host : ℕ) (cause : Cause) (source note : List ℕ) (tried : List Tried)
+    → KnownAt j acts (after_broken j host cause source note tried)
 known-broken j acts host cause source note tried = go (nat_lt (length tried + 1) j.config.tries)
   where
-    go : (b : Bool) → KnownAt j acts (cond b (Send source note (tried_too host cause tried)) (or_here j source note (Failed (Broke host cause))))
+    go : (b : Bool) → KnownAt j acts
+        (cond b (Send source note (tried_too host cause tried)) (or_here j source note (Failed (Broke host cause))))
     go true = tt
     go false = known-or_here j acts source note (Broke host cause)
 
 both-on : (a b c : Bool) → (a && b) ≡ c → c ≡ false → a ≡ true → b ≡ true → ⊥
 both-on a b c is off on on' = true≢false (sym (ap (λ (x : Bool). x && b) on ∙ on') ∙ is ∙ off)
 
-known-whole : (j : Job) (acts : List Act) (host : ℕ) (source note : List ℕ) (o : Outcome) → IsCompiled j acts o → KnownAt j acts (after_whole j host source note o)
+known-whole : (j : Job) (acts : List Act) (host : ℕ) (source note : List ℕ) (o : Outcome) → IsCompiled j acts o
+    → KnownAt j acts (after_whole j host source note o)
 known-whole j acts host source note o h = go (nat_eq o.status 0) (j.config.fallback && j.config.retry) refl refl
   where
-    go : (a b : Bool) → nat_eq o.status 0 ≡ a → (j.config.fallback && j.config.retry) ≡ b → KnownAt j acts (cond a (Finish (Remote host) note o) (cond b (Locally source note) (Over (Done o.status note o.err o.out (Remote host)))))
+    go : (a b : Bool) → nat_eq o.status 0 ≡ a → (j.config.fallback && j.config.retry) ≡ b
+        → KnownAt j acts (cond a (Finish (Remote host) note o)
+        (cond b (Locally source note) (Over (Done o.status note o.err o.out (Remote host)))))
     go true b is on = record { compiled = h; whole = inl (eqb-true o.status 0 is) }
     go false true is on = tt
     go false false is on = record {
@@ -152,7 +160,8 @@ compiled-more j acts a o k = record {
 }
 
 -- a job whose object was put has the end of its compile, by whomever
-end-put : (j : Job) (acts : List Act) (by : By) (note : List ℕ) (o : Outcome) (x : Put) → Finished j acts o → o.status ≡ 0 → x.bytes ≡ o.object → KnownEnd j (acts ++ Did (put x) ∷ []) (Done 0 note o.err o.out by)
+end-put : (j : Job) (acts : List Act) (by : By) (note : List ℕ) (o : Outcome) (x : Put) → Finished j acts o → o.status ≡ 0
+    → x.bytes ≡ o.object → KnownEnd j (acts ++ Did (put x) ∷ []) (Done 0 note o.err o.out by)
 end-put j acts by note o x k zero_ bytes = go by
   where
     made : IsCompiledEnd j (acts ++ Did (put x) ∷ []) 0 o.err o.out
@@ -173,7 +182,8 @@ end-put j acts by note o x k zero_ bytes = go by
     go InPlace = tt
 
 -- a job whose compile failed has the end of its compile, by whomever
-end-failed : (j : Job) (acts : List Act) (by : By) (note : List ℕ) (o : Outcome) → Finished j acts o → o.status ≢ 0 → KnownEnd j acts (Done o.status note o.err o.out by)
+end-failed : (j : Job) (acts : List Act) (by : By) (note : List ℕ) (o : Outcome) → Finished j acts o → o.status ≢ 0
+    → KnownEnd j acts (Done o.status note o.err o.out by)
 end-failed j acts by note o k nonzero = go by
   where
     made : IsCompiledEnd j acts o.status o.err o.out
@@ -193,31 +203,55 @@ end-failed j acts by note o k nonzero = go by
     go Cpp = tt
     go InPlace = tt
 
-ran-now : (j : Job) (acts : List Act) (source : List ℕ) (x : Run) → IsSource acts source → IsRunOf x (compile_command j) source → Compiled j (acts ++ Did (ran x) ∷ []) x.ran
-ran-now j acts source x h is = record { source = source; source_is = more-source acts (Did (ran x)) source h; run = x; among = among-last acts (Did (ran x)); is_run = is; left = refl }
+ran-now : (j : Job) (acts : List Act) (source : List ℕ) (x : Run) → IsSource acts source → IsRunOf x (compile_command j) source
+    → Compiled j (acts ++ Did (ran x) ∷ []) x.ran
+ran-now j acts source x h is =
+    record {
+      source = source;
+      source_is = more-source acts (Did (ran x)) source h;
+      run = x;
+      among =
+          among-last acts (Did (ran x));
+      is_run = is;
+      left = refl;
+    }
 
 one-of : (j : Job) (acts : List Act) (c a b : At) → (c ≡ a) ⊎ (c ≡ b) → KnownAt j acts a → KnownAt j acts b → KnownAt j acts c
 one-of j acts c a b (inl e) ka kb = known-at j acts c a e ka
 one-of j acts c a b (inr e) ka kb = known-at j acts c b e kb
 
-known-next : (j : Job) (acts : List Act) (at c : At) (a : Act) → Next j at a c → SourceAt acts at → KnownAt j acts at → KnownAt j (acts ++ a ∷ []) c
+known-next : (j : Job) (acts : List Act) (at c : At) (a : Act) → Next j at a c → SourceAt acts at → KnownAt j acts at
+    → KnownAt j (acts ++ a ∷ []) c
 known-next j acts Start c (Met TakesLocal) h s k = known-at j (acts ++ Met TakesLocal ∷ []) c LentInPlace h.1 tt
 known-next j acts Start c (Did (fetched x)) h s k = known-at j (acts ++ Did (fetched x) ∷ []) c (Send x.bytes [] []) h.3 tt
-known-next j acts Start c (Did (ran x)) h s k = known-at j (acts ++ Did (ran x) ∷ []) c (after_preprocessor x.ran) h.3 (known-preprocessed j (acts ++ Did (ran x) ∷ []) x.ran)
+known-next j acts Start c (Did (ran x)) h s k =
+    known-at j (acts ++ Did (ran x) ∷ []) c (after_preprocessor x.ran) h.3 (known-preprocessed j (acts ++ Did (ran x) ∷ []) x.ran)
 known-next j acts LentInPlace c (Did (ran x)) h s k = known-at j (acts ++ Did (ran x) ∷ []) c (RanInPlace x.ran) h.1 tt
-known-next j acts LentInPlace c (Met GivesLocal) h s k = one-of j (acts ++ Met GivesLocal ∷ []) c (Over (Failed Station)) (Over (Failed Memory)) h tt tt
-known-next j acts (RanInPlace r) c (Met GivesLocal) h s k = one-of j (acts ++ Met GivesLocal ∷ []) c (Over (Done r.status [] r.err r.out InPlace)) (Over (Failed Memory)) h tt tt
+known-next j acts LentInPlace c (Met GivesLocal) h s k =
+    one-of j (acts ++ Met GivesLocal ∷ []) c (Over (Failed Station)) (Over (Failed Memory)) h tt tt
+known-next j acts (RanInPlace r) c (Met GivesLocal) h s k =
+    one-of j (acts ++ Met GivesLocal ∷ []) c (Over (Done r.status [] r.err r.out InPlace)) (Over (Failed Memory)) h tt tt
 known-next j acts (Send source note tried) c (Met FindsDown) h s k =
-    known-at j (acts ++ Met FindsDown ∷ []) c (or_here j source note (Failed (no_host tried))) h.1 (known-or_here j (acts ++ Met FindsDown ∷ []) source note (no_host tried))
-known-next j acts (Send source note tried) c (Met (Takes host)) h s k = known-at j (acts ++ Met (Takes host) ∷ []) c (Lent host source note tried) h.3 h.0
-known-next j acts (Send source note tried) c (Met TakesLocal) h s k = known-at j (acts ++ Met TakesLocal ∷ []) c (LentHere source note) h.1 tt
-known-next j acts (Lent host source note tried) c (Did (ran x)) h s k = known-at j (acts ++ Did (ran x) ∷ []) c (RanThere host note x.ran) h.2 (ran-now j acts source x s h.1)
+    known-at j (acts ++ Met FindsDown ∷ []) c (or_here j source note (Failed (no_host tried))) h.1
+    (known-or_here j (acts ++ Met FindsDown ∷ []) source note (no_host tried))
+known-next j acts (Send source note tried) c (Met (Takes host)) h s k =
+    known-at j (acts ++ Met (Takes host) ∷ []) c (Lent host source note tried) h.3 h.0
+known-next j acts (Send source note tried) c (Met TakesLocal) h s k =
+    known-at j (acts ++ Met TakesLocal ∷ []) c (LentHere source note) h.1 tt
+known-next j acts (Lent host source note tried) c (Did (ran x)) h s k =
+    known-at j (acts ++ Did (ran x) ∷ []) c (RanThere host note x.ran) h.2 (ran-now j acts source x s h.1)
 known-next j acts (Lent host source note tried) c (Did (exchanged x)) h s k =
-    known-at j (acts ++ Did (exchanged x) ∷ []) c (Sent host source note tried x) h.2 (more-source acts (Did (exchanged x)) source s, among-last acts (Did (exchanged x)), k)
+    known-at j (acts ++ Did (exchanged x) ∷ []) c (Sent host source note tried x) h.2
+    (more-source acts (Did (exchanged x)) source s, among-last acts (Did (exchanged x)), k)
 known-next j acts (Lent host source note tried) c (Met (Gives i)) h s k =
-    elim h.1 [ inl e ↦ known-at j (acts ++ Met (Gives i) ∷ []) c (Over (Failed Station)) e.1 tt | inr e ↦ known-at j (acts ++ Met (Gives i) ∷ []) c (Over (Failed Memory)) e tt ]
+    elim h.1 [
+      | inl e ↦ known-at j (acts ++ Met (Gives i) ∷ []) c (Over (Failed Station)) e.1 tt
+      | inr e ↦
+          known-at j (acts ++ Met (Gives i) ∷ []) c (Over (Failed Memory)) e tt
+    ]
 known-next j acts (RanThere host note r) c (Met (Gives i)) h s k =
-    one-of j (acts ++ Met (Gives i) ∷ []) c (Finish Here note (outcome_of r)) (Over (Failed Memory)) h.1 (compiled-here j acts (Met (Gives i)) r k) tt
+    one-of j (acts ++ Met (Gives i) ∷ []) c (Finish Here note (outcome_of r)) (Over (Failed Memory)) h.1
+    (compiled-here j acts (Met (Gives i)) r k) tt
 known-next j acts (Sent host source note tried x) c (Met (Gives i)) h s k =
     elim h.1 [
       | inl w ↦ known-at j (acts ++ Met (Gives i) ∷ []) c (after_whole j host source note w.0) w.2
@@ -227,18 +261,24 @@ known-next j acts (Sent host source note tried x) c (Met (Gives i)) h s k =
             compile = inl (x, host, among-more (Did (exchanged x)) acts (Met (Gives i)) k.1, k.2, w.1);
           })
       | inr other ↦ elim other [
-        | inl b ↦ known-at j (acts ++ Met (Gives i) ∷ []) c (after_broken j host b.0 source note tried) b.3 (known-broken j (acts ++ Met (Gives i) ∷ []) host b.0 source note tried)
+        | inl b ↦ known-at j (acts ++ Met (Gives i) ∷ []) c (after_broken j host b.0 source note tried) b.3
+            (known-broken j (acts ++ Met (Gives i) ∷ []) host b.0 source note tried)
         | inr e ↦ known-at j (acts ++ Met (Gives i) ∷ []) c (Over (Failed Memory)) e tt
       ]
     ]
 known-next j acts (Sent host source note tried x) c (Met (GivesBad i until)) h s k =
-    known-at j (acts ++ Met (GivesBad i until) ∷ []) c (after_broken j host h.2.0 source note tried) h.2.4 (known-broken j (acts ++ Met (GivesBad i until) ∷ []) host h.2.0 source note tried)
+    known-at j (acts ++ Met (GivesBad i until) ∷ []) c (after_broken j host h.2.0 source note tried) h.2.4
+    (known-broken j (acts ++ Met (GivesBad i until) ∷ []) host h.2.0 source note tried)
 known-next j acts (Locally source note) c (Met TakesLocal) h s k = known-at j (acts ++ Met TakesLocal ∷ []) c (LentHere source note) h tt
-known-next j acts (LentHere source note) c (Did (ran x)) h s k = known-at j (acts ++ Did (ran x) ∷ []) c (RanHere note x.ran) h.1 (ran-now j acts source x s h.0)
-known-next j acts (LentHere source note) c (Met GivesLocal) h s k = one-of j (acts ++ Met GivesLocal ∷ []) c (Over (Failed Station)) (Over (Failed Memory)) h tt tt
+known-next j acts (LentHere source note) c (Did (ran x)) h s k =
+    known-at j (acts ++ Did (ran x) ∷ []) c (RanHere note x.ran) h.1 (ran-now j acts source x s h.0)
+known-next j acts (LentHere source note) c (Met GivesLocal) h s k =
+    one-of j (acts ++ Met GivesLocal ∷ []) c (Over (Failed Station)) (Over (Failed Memory)) h tt tt
 known-next j acts (RanHere note r) c (Met GivesLocal) h s k =
-    one-of j (acts ++ Met GivesLocal ∷ []) c (Finish Here note (outcome_of r)) (Over (Failed Memory)) h (compiled-here j acts (Met GivesLocal) r k) tt
-known-next j acts (Finish by note o) c (Did (put x)) h s k = known-at j (acts ++ Did (put x) ∷ []) c (Over (Done 0 note o.err o.out by)) h.3 (end-put j acts by note o x k h.0 h.2)
+    one-of j (acts ++ Met GivesLocal ∷ []) c (Finish Here note (outcome_of r)) (Over (Failed Memory)) h
+    (compiled-here j acts (Met GivesLocal) r k) tt
+known-next j acts (Finish by note o) c (Did (put x)) h s k =
+    known-at j (acts ++ Did (put x) ∷ []) c (Over (Done 0 note o.err o.out by)) h.3 (end-put j acts by note o x k h.0 h.2)
 known-next j acts at c a h s k = absurd h
 
 reach-known : (j : Job) (xs acts : List Act) (at b : At) → SourceAt acts at → KnownAt j acts at → Reach j at xs b → KnownAt j (acts ++ xs) b
@@ -248,10 +288,20 @@ reach-known j (x ∷ xs) acts at b s k (c, next, more) =
     (reach-known j xs (acts ++ x ∷ []) c b (source-next j acts at c x next s) (known-next j acts at c x next s k) more)
 
 -- a put comes where a compile of status 0 is to be finished, and ends the course
-put-here : (j : Job) (before : List Act) (x : Put) (rest : List Act) (end : End) (b : At) → KnownAt j before b → From j b (Did (put x) ∷ rest) end → PutsLast j before x rest end
+put-here : (j : Job) (before : List Act) (x : Put) (rest : List Act) (end : End) (b : At) → KnownAt j before b
+    → From j b (Did (put x) ∷ rest) end → PutsLast j before x rest end
 put-here j before x rest end (Finish by note o) k (c, next, from) =
     let ended = over j (Done 0 note o.err o.out by) rest end (along j c (Over (Done 0 note o.err o.out by)) rest end next.3 from) in
-    record { last = ended.0; path = next.1; outcome = o; compiled = k.compiled; status = next.0; object = next.2; done = (note, by, ended.1) }
+    record {
+      last = ended.0;
+      path = next.1;
+      outcome = o;
+      compiled = k.compiled;
+      status = next.0;
+      object = next.2;
+      done =
+          (note, by, ended.1);
+    }
 put-here j before x rest end Start k (c, next, from) = absurd next
 put-here j before x rest end LentInPlace k (c, next, from) = absurd next
 put-here j before x rest end (RanInPlace r) k (c, next, from) = absurd next
@@ -282,7 +332,11 @@ known-ends j acts (Send source note tried) end k h = subst (λ (x : End). KnownE
 known-ends j acts (Locally source note) end k h = subst (λ (x : End). KnownEnd j acts x) (sym h) tt
 known-ends j acts (Finish by note o) end k h =
     elim h [
-      | inl zero_ ↦ elim zero_.1 [ inl e ↦ subst (λ (x : End). KnownEnd j acts x) (sym e) tt | inr e ↦ subst (λ (x : End). KnownEnd j acts x) (sym e) tt ]
+      | inl zero_ ↦ elim zero_.1 [
+        | inl e ↦ subst (λ (x : End). KnownEnd j acts x) (sym e) tt
+        | inr e ↦
+            subst (λ (x : End). KnownEnd j acts x) (sym e) tt
+      ]
       | inr done ↦ subst (λ (x : End). KnownEnd j acts x) (sym done.1) (end-failed j acts by note o k done.0)
     ]
 known-ends j acts (Over e) end k h = subst (λ (x : End). KnownEnd j acts x) (sym h) k

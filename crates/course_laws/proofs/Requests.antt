@@ -44,7 +44,13 @@ fits-or-not words source =
             | inr more ↦ inr (λ h. more h.words_fit.together)
             | inl together ↦ elim (at-most (length source) source_max) [
               | inr big ↦ inr (λ h. big h.source_fits)
-              | inl fits ↦ inl record { some = some; count = count; words_fit = record { each = each; together = together }; source_fits = fits }
+              | inl fits ↦ inl record {
+                some = some;
+                count = count;
+                words_fit =
+                    record { each = each; together = together };
+                source_fits = fits;
+              }
             ]
           ]
         ]

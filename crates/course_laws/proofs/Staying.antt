@@ -18,7 +18,8 @@ none-over j e acts end from = ap (λ (xs : List Act). exchanges_in (deeds_of xs)
 none-ran : (j : Job) (r : Ran) (acts : List Act) (end : End) → From j (RanInPlace r) acts end → exchanges_in (deeds_of acts) ≡ []
 none-ran j r [] end from = refl
 none-ran j r (Met GivesLocal ∷ acts) end (c, next, from) = elim next [
-  | inl is ↦ none-over j (Done r.status [] r.err r.out InPlace) acts end (along j c (Over (Done r.status [] r.err r.out InPlace)) acts end is from)
+  | inl is ↦ none-over j (Done r.status [] r.err r.out InPlace) acts end
+      (along j c (Over (Done r.status [] r.err r.out InPlace)) acts end is from)
   | inr is ↦ none-over j (Failed Memory) acts end (along j c (Over (Failed Memory)) acts end is from)
 ]
 none-ran j r (act ∷ acts) end (c, next, from) = absurd next

@@ -23,7 +23,8 @@ AllGiven peers [] = Unit {0}
 AllGiven peers (Did (exchanged x) ∷ acts) = (x.dialed ≡ true → peers x.sent x.given) × AllGiven peers acts
 AllGiven peers (act ∷ acts) = AllGiven peers acts
 
--- Peers are fully honest to a job: where they were sent its own request, and begin what they give with an outcome of any status, it is one that a
+-- Peers are fully honest to a job: where they were sent its own request, and begin what they give with an outcome of any status, it
+-- is one that a
 -- compiler may answer. Of other requests nothing is asked.
 abbrev pub IsFullyHonestTo : Peers → Programs → Job → Type 0
 IsFullyHonestTo peers programs j = (source sent given : List ℕ) (o : Outcome) (used : ℕ)
@@ -76,14 +77,17 @@ IsAnswered programs j acts end = Unit {0}
 
 -- peers are honest where a host's failure is compiled here once more, or fully honest to the job
 abbrev pub AreHonestFor : Peers → Programs → Job → Type 0
-AreHonestFor peers programs j = (IsHonest peers programs × (j.config.fallback ≡ true) × (j.config.retry ≡ true)) ⊎ IsFullyHonestTo peers programs j
+AreHonestFor peers programs j = (IsHonest peers programs × (j.config.fallback ≡ true) × (j.config.retry ≡ true))
+    ⊎ IsFullyHonestTo peers programs j
 
 -- over such peers each job that was compiled ends with an outcome that a compiler may answer
 abbrev pub EndAnswerLaw : Peers → Programs → Type 0
 EndAnswerLaw peers programs = (j : Job) (acts : List Act) (end : End)
     → AreHonestFor peers programs j → AllGiven peers acts → AllRan programs acts → Course j acts end → IsAnswered programs j acts end
 
--- Where the exchanges are told and a host's failure is compiled here once more over honest peers, or over peers fully honest to the job: a job that
+-- Where the exchanges are told and a host's failure is compiled here once more over honest peers, or over peers fully honest to the
+-- job: a job that
 -- was compiled ends with an outcome that a compiler may answer.
 abbrev pub AnswersBy : Peers → Programs → KitView → Job → List Act → End → Type 0
-AnswersBy peers programs kit job acts end = IsTrue kit.dialer.exchanges.known → AreHonestFor peers programs job → IsAnswered programs job acts end
+AnswersBy peers programs kit job acts end = IsTrue kit.dialer.exchanges.known → AreHonestFor peers programs job
+    → IsAnswered programs job acts end

@@ -54,7 +54,8 @@ pub record PutsLast (j : Job) (before : List Act) (x : Put) (rest : List Act) (e
   pub done : (note : List ℕ) × (by : By) × (end ≡ Done 0 note outcome.err outcome.out by)
 
 abbrev pub PutLaw : Type 0
-PutLaw = (j : Job) (before : List Act) (x : Put) (rest : List Act) (end : End) → Course j (before ++ Did (put x) ∷ rest) end → PutsLast j before x rest end
+PutLaw = (j : Job) (before : List Act) (x : Put) (rest : List Act) (end : End) → Course j (before ++ Did (put x) ∷ rest) end
+    → PutsLast j before x rest end
 
 -- a course is so long at most: three acts for each try, and five for all else
 abbrev pub LengthLaw : Type 0

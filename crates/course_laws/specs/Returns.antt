@@ -28,9 +28,11 @@ is_done_or_wanted (Done status note err out by) = true
 is_done_or_wanted (Failed Memory) = true
 is_done_or_wanted end = false
 
--- An end that is no host's fault, of a job whose station and keeper did nothing wrong, is that of a job that was done, or memory was wanting.
+-- An end that is no host's fault, of a job whose station and keeper did nothing wrong, is that of a job that was done, or memory
+-- was wanting.
 abbrev pub OwnEndLaw : Type 0
-OwnEndLaw = (end : End) (old new : KitView) → HasEndCause end old new → IsCalm old new → is_own_end end ≡ true → is_done_or_wanted end ≡ true
+OwnEndLaw = (end : End) (old new : KitView) → HasEndCause end old new → IsCalm old new → is_own_end end ≡ true
+    → is_done_or_wanted end ≡ true
 
 -- No exchange of the job broke: none among these acts is broken by any cause, for the job's own source and a host of its list.
 abbrev pub NoneBroke : Job → List Act → Type 0
@@ -50,7 +52,8 @@ asks_once (Takes host ∷ events) = not (finds_down events) && asks_once events
 asks_once (GivesBad host until ∷ events) = false
 asks_once (e ∷ events) = asks_once events
 
--- What a job does and how it ends where none of its exchanges broke: it leaves no host alone, and finds hosts down, if at all, before it took
+-- What a job does and how it ends where none of its exchanges broke: it leaves no host alone, and finds hosts down, if at all,
+-- before it took
 -- one; and where it didn't find them down, no host is the cause of its end, whether fallback is on or off.
 pub record IsUnbroken (acts : List Act) (end : End) : Type 0 where
   pub asks : asks_once (slots_of acts) ≡ true

@@ -1,5 +1,6 @@
 -- Words ask for one thing, and name one list of rules.
-use Rattle.std.proofs.Common.{◌≡◌, ℕ, ◌+◌, ◌-◌, ◌<◌, ◌≤◌, Bool, true, false, List, [], ◌∷◌, ◌++◌, length, map, take, drop, get_or, refl, sym, ◌∙◌, ap, subst, append_assoc, length-append, arith}
+use Rattle.std.proofs.Common.{◌≡◌, ℕ, ◌+◌, ◌-◌, ◌<◌, ◌≤◌, Bool, true, false, List, [], ◌∷◌, ◌++◌, length, map, take, drop, get_or, refl}
+use Rattle.std.proofs.Common.{sym, ◌∙◌, ap, subst, append_assoc, length-append, arith}
 use Rattle.std.specs.Prelude.{◌&&◌, ◌||◌, codes, bytes_eq, Option, Some, None, is_some, Result, Ok, Err, All, IfSome, IfNone, if◌then◌else◌}
 use Rattle.std.specs.Option.{option_to_list}
 use Rattle.std.proofs.lemmas.List.Elements.{All-nil, All-cons, All-append}
@@ -25,7 +26,8 @@ use Rattle.daemon_words.specs.declared.options.Options.{Options}
 use Rattle.daemon_words.specs.declared.command.Command.{Command}
 use Rattle.daemon_words.specs.declared.command.Command.TheVariants.{Help, Version, Serve}
 use Rattle.daemon_words.specs.Names.{option_named}
-use Rattle.daemon_words.specs.Options.{row_of, is_of, count_in, name_in, named_in, IsWithin, AreWithin, IsSpelled, ValueFits, GivenBy, Says, Reads, options}
+use Rattle.daemon_words.specs.Options.{row_of, is_of, count_in, name_in, named_in, IsWithin, AreWithin, IsSpelled, ValueFits, GivenBy}
+use Rattle.daemon_words.specs.Options.{Says, Reads, options}
 use Rattle.daemon_words.specs.Commands.{asked, served, trusts, settings_of, placed, ByFirst, ReadWords}
 use Rattle.daemon_words.specs.Tables.{SaysRule, RuleIn, AreRules, compilers_of}
 
@@ -62,12 +64,14 @@ one_saying words items a b p q = λ i. record {
 
 one_reading : (words : List (List ℕ)) (r s : Result Options ℕ) → Reads words r → Reads words s → r ≡ s
 one_reading words (Ok a) (Ok b) p q =
-    let same = one_items options words p.0 q.0 p.1 q.1 in ap Ok (one_saying words q.0 a b (subst (λ items. Says words items a) same p.2) q.2)
+    let same = one_items options words p.0 q.0 p.1 q.1 in
+    ap Ok (one_saying words q.0 a b (subst (λ items. Says words items a) same p.2) q.2)
 one_reading words (Ok a) (Err place) p q = absurd (not_both options words p.0 place p.1 q)
 one_reading words (Err place) (Ok b) p q = absurd (not_both options words q.0 place q.1 p)
 one_reading words (Err place) (Err there) p q = ap Err (one_place options words place there p q)
 
-one_first : (words : List (List ℕ)) (first : Option Command) (r s : Result Command ℕ) → ByFirst words r first → ByFirst words s first → r ≡ s
+one_first : (words : List (List ℕ)) (first : Option Command) (r s : Result Command ℕ) → ByFirst words r first
+    → ByFirst words s first → r ≡ s
 one_first words (Some command) r s p q = p ∙ sym q
 one_first words None r s p q = p.2 ∙ ap served (one_reading words p.0 q.0 p.1 q.1) ∙ sym q.2
 
@@ -75,7 +79,8 @@ pub once : (words : List (List ℕ)) (r s : Result Command ℕ) → ReadWords wo
 once words r s p q = p.2 ∙ ap (placed (trusts words)) (one_first (settings_of words) (asked (settings_of words)) p.0 q.0 p.1 q.1) ∙ sym q.2
 
 -- a command is that of the words without `--trust-options`
-unplaced : (trusting : Bool) (command : Command) (read : Result Command ℕ) → as_command command ≡ placed trusting read → as_command command ≡ read
+unplaced : (trusting : Bool) (command : Command) (read : Result Command ℕ) → as_command command ≡ placed trusting read
+    → as_command command ≡ read
 unplaced trusting command (Ok other) is = is
 unplaced trusting command (Err place) is = absurd (cc is)
 
@@ -116,7 +121,8 @@ IsSmall rule = rule.bits ≤ 32
 rule_small : (allow : Bool) (value : List ℕ) (rule : Rule) → RuleOf allow value rule → rule.bits ≤ 32
 rule_small allow value rule is = bits_small (bits_part value) rule.bits is.bits
 
-found_small : (value : List ℕ) (found : Option Rule) (name : Option OptionName) → RuleIn value found name → All IsSmall (option_to_list found)
+found_small : (value : List ℕ) (found : Option Rule) (name : Option OptionName) → RuleIn value found name
+    → All IsSmall (option_to_list found)
 found_small value None name is = All-nil IsSmall
 found_small value (Some rule) (Some option.Allow) is = All-cons IsSmall rule [] (rule_small true value rule is) (All-nil IsSmall)
 found_small value (Some rule) (Some option.Deny) is = All-cons IsSmall rule [] (rule_small false value rule is) (All-nil IsSmall)
@@ -132,7 +138,8 @@ all_small : (words : List (List ℕ)) (rules : List Rule) → AreRules words rul
 all_small [] rules are = subst (All IsSmall) (sym are) (All-nil IsSmall)
 all_small (word ∷ []) rules are = subst (All IsSmall) (sym are) (All-nil IsSmall)
 all_small (word ∷ value ∷ more) rules are =
-    subst (All IsSmall) (sym are.3) (All-append IsSmall (option_to_list are.0) are.2 (found_small value are.0 (option_named word) are.1) (all_small more are.2 are.4))
+    subst (All IsSmall) (sym are.3)
+    (All-append IsSmall (option_to_list are.0) are.2 (found_small value are.0 (option_named word) are.1) (all_small more are.2 are.4))
 
 -- ---- how many
 
@@ -152,17 +159,21 @@ never_plain : (option : Option OptionName) (stood : Bool) → may_stand (row_of 
 never_plain None stood follows plain = cc follows
 never_plain (Some name) stood follows plain = cc plain
 
-count_valued : (kind : Kind) (before : List Item) (name : List ℕ) (value : Option (List ℕ)) (more : List (List ℕ)) (n : ℕ) → follows options before name ≡ true → HasValue options before name value
+count_valued : (kind : Kind) (before : List Item) (name : List ℕ) (value : Option (List ℕ)) (more : List (List ℕ)) (n : ℕ)
+    → follows options before name ≡ true → HasValue options before name value
     → count_in kind more ≡ n → count_in kind (name ∷ value_words value more) ≡ one kind name + n
 unfolding one
-count_valued kind before name None more n follows plain rest = absurd (never_plain (option_named name) (stands_in name before) follows plain)
+count_valued kind before name None more n follows plain rest =
+    absurd (never_plain (option_named name) (stands_in name before) follows plain)
 count_valued kind before name (Some value) more n follows has rest = ap (λ m. (if is_of kind (option_named name) then 1 else 0) + m) rest
 
-counted : (kind : Kind) (before items : List Item) → StandBehind options before items → count_in kind (items_words items) ≡ count_items kind items
+counted : (kind : Kind) (before items : List Item) → StandBehind options before items
+    → count_in kind (items_words items) ≡ count_items kind items
 unfolding count_items
 counted kind before [] stand = refl
 counted kind before (item ∷ items) stand =
-    count_valued kind before item.name item.value (items_words items) (count_items kind items) stand.0.follows_on stand.0.value (counted kind (before ++ item ∷ []) items stand.1)
+    count_valued kind before item.name item.value (items_words items) (count_items kind items) stand.0.follows_on stand.0.value
+    (counted kind (before ++ item ∷ []) items stand.1)
 
 -- how many of a kind there may be
 abbrev pub most_of : Kind → ℕ
@@ -189,7 +200,8 @@ room_by kind.Rule (Some option.Deny) before value holds fits = fits.room
 room_by kind.Compiler (Some option.Cache) before value holds fits = absurd (cc holds)
 room_by kind.Rule (Some option.Cache) before value holds fits = absurd (cc holds)
 
-room : (kind : Kind) (before : List Item) (name : List ℕ) (value : Option (List ℕ)) → follows options before name ≡ true → HasValue options before name value → is_of kind (option_named name) ≡ true
+room : (kind : Kind) (before : List Item) (name : List ℕ) (value : Option (List ℕ)) → follows options before name ≡ true
+    → HasValue options before name value → is_of kind (option_named name) ≡ true
     → count_in kind (items_words before) < most_of kind
 room kind before name None follows plain holds = absurd (never_plain (option_named name) (stands_in name before) follows plain)
 room kind before name (Some value) follows has holds = room_by kind (option_named name) (items_words before) value holds has.1
@@ -217,7 +229,8 @@ few_counted kind words items are =
     let few : count_items kind items ≤ most_of kind = few_items kind [] items tt are.right (omega arith) in
     omega (arith, ap (count_in kind) are.are, counted kind [] items are.right, few)
 
-found_few : (value : List ℕ) (found : Option Rule) (name : Option OptionName) → RuleIn value found name → length (option_to_list found) ≤ (if is_of kind.Rule name then 1 else 0)
+found_few : (value : List ℕ) (found : Option Rule) (name : Option OptionName) → RuleIn value found name
+    → length (option_to_list found) ≤ (if is_of kind.Rule name then 1 else 0)
 found_few value None name is = omega arith
 found_few value (Some rule) (Some option.Allow) is = omega arith
 found_few value (Some rule) (Some option.Deny) is = omega arith
@@ -236,7 +249,8 @@ rules_few (word ∷ value ∷ more) rules are =
     let all : length rules ≡ length (option_to_list are.0) + length are.2 = ap length are.3 ∙ length-append (option_to_list are.0) are.2 in
     omega (arith, all, found_few value are.0 (option_named word) are.1, rules_few more are.2 are.4)
 
-right_read : (words : List (List ℕ)) (given : Options) (rules : List Rule) (read : Result Options ℕ) → Reads words read → Ok (Serve given) ≡ served read → AreRules words rules → AreRight rules
+right_read : (words : List (List ℕ)) (given : Options) (rules : List Rule) (read : Result Options ℕ) → Reads words read
+    → Ok (Serve given) ≡ served read → AreRules words rules → AreRight rules
 right_read words given rules (Ok final) reads same are =
     record { few = omega (arith, rules_few words rules are, few_counted kind.Rule words reads.0 reads.1); bits = all_small words rules are }
 right_read words given rules (Err place) reads same are = absurd (cc same)
@@ -260,12 +274,14 @@ never_asked : (words : List (List ℕ)) (options : Options) → asked words ≡ 
 never_asked [] options is = cc is
 never_asked (word ∷ words) options is = never_by _ _ options is
 
-right_first : (words : List (List ℕ)) (options : Options) (rules : List Rule) (first : Option Command) → asked words ≡ first → ByFirst words (Ok (Serve options)) first → AreRules words rules → AreRight rules
+right_first : (words : List (List ℕ)) (options : Options) (rules : List Rule) (first : Option Command) → asked words ≡ first
+    → ByFirst words (Ok (Serve options)) first → AreRules words rules → AreRight rules
 right_first words options rules (Some command) is read are =
     absurd (never_asked words options (is ∙ ap Some (served_alone _ command options read)))
 right_first words options rules None is read are = right_read words options rules read.0 read.1 read.2 are
 
-pub right_rules : (words : List (List ℕ)) (options : Options) (rules : List Rule) → ReadWords words (Ok (Serve options)) → AreRules (settings_of words) rules → AreRight rules
+pub right_rules : (words : List (List ℕ)) (options : Options) (rules : List Rule) → ReadWords words (Ok (Serve options))
+    → AreRules (settings_of words) rules → AreRight rules
 right_rules words options rules read are =
     let settings = settings_of words in
     let same = unplaced (trusts words) (Serve options) read.0 read.2 in
@@ -273,7 +289,8 @@ right_rules words options rules read are =
 
 -- ---- the numbers that are given
 
-pub given_read : (name : OptionName) (value text : List ℕ) (n : Option ℕ) → text ≡ value → IfSome n (IsSpelled name text) → IfNone n ((m : ℕ) → IsSpelled name text m → ⊥) → GivenBy name (Some value) n
+pub given_read : (name : OptionName) (value text : List ℕ) (n : Option ℕ) → text ≡ value → IfSome n (IsSpelled name text)
+    → IfNone n ((m : ℕ) → IsSpelled name text m → ⊥) → GivenBy name (Some value) n
 given_read name value text None same found none = λ m is. none m (subst (λ t. IsSpelled name t m) (sym same) is)
 given_read name value text (Some n) same found none = subst (λ t. IsSpelled name t n) same found
 
@@ -284,7 +301,8 @@ none_read (Some n) none is = absurd (cc is)
 positive_within : (most greatest : ℕ) (value : List ℕ) (n : ℕ) → IsPlainDecimal most 1 greatest value n → (1 ≤ n) × (n ≤ greatest)
 positive_within most greatest value n is = (is.number.low, is.number.high)
 
-within_by : (low high : ℕ) (name : OptionName) → ((value : List ℕ) (n : ℕ) → IsSpelled name value n → (low ≤ n) × (n ≤ high)) → (value : Option (List ℕ)) (n : Option ℕ) → GivenBy name value n → IsWithin low high n
+within_by : (low high : ℕ) (name : OptionName) → ((value : List ℕ) (n : ℕ) → IsSpelled name value n → (low ≤ n) × (n ≤ high))
+    → (value : Option (List ℕ)) (n : Option ℕ) → GivenBy name value n → IsWithin low high n
 within_by low high name each None n is = subst (IsWithin low high) (sym is) tt
 within_by low high name each (Some value) None is = tt
 within_by low high name each (Some value) (Some n) is = each value n is
@@ -298,11 +316,14 @@ says_within words items given says = record {
   cache = within_by 1 cache_max option.Cache (positive_within 3 cache_max) (value_in (codes "--cache") items) given.cache says.cache;
 }
 
-served_within : (words : List (List ℕ)) (given : Options) (read : Result Options ℕ) → Reads words read → Ok (Serve given) ≡ served read → AreWithin given
-served_within words given (Ok final) reads same = let is : final ≡ given = cc same in subst AreWithin is (says_within words reads.0 final reads.2)
+served_within : (words : List (List ℕ)) (given : Options) (read : Result Options ℕ) → Reads words read
+    → Ok (Serve given) ≡ served read → AreWithin given
+served_within words given (Ok final) reads same = let is : final ≡ given = cc same in
+    subst AreWithin is (says_within words reads.0 final reads.2)
 served_within words given (Err place) reads same = absurd (cc same)
 
-first_within : (words : List (List ℕ)) (options : Options) (first : Option Command) → asked words ≡ first → ByFirst words (Ok (Serve options)) first → AreWithin options
+first_within : (words : List (List ℕ)) (options : Options) (first : Option Command) → asked words ≡ first
+    → ByFirst words (Ok (Serve options)) first → AreWithin options
 first_within words options (Some command) is read = absurd (never_asked words options (is ∙ ap Some (served_alone _ command options read)))
 first_within words options None is read = served_within words options read.0 read.1 read.2
 
@@ -314,22 +335,28 @@ right_numbers words options read =
 
 -- ---- the code that looks for names, and that gathers
 
-two_parts : {A : Type 0} (rest : List A) (x y : A) → 2 ≤ length rest → x ≡ get_or rest 0 x → y ≡ get_or rest 1 y → rest ≡ x ∷ y ∷ take (length rest - 2) (drop 2 rest)
+two_parts : {A : Type 0} (rest : List A) (x y : A) → 2 ≤ length rest → x ≡ get_or rest 0 x → y ≡ get_or rest 1 y
+    → rest ≡ x ∷ y ∷ take (length rest - 2) (drop 2 rest)
 two_parts [] x y some is also = absurd (omega (arith, some))
 two_parts (a ∷ []) x y some is also = absurd (omega (arith, some))
 two_parts (a ∷ b ∷ more) x y some is also =
     let left : length more ≡ length (a ∷ b ∷ more) - 2 = omega arith in
-    ap (λ c. c ∷ b ∷ more) (sym is) ∙ ap (λ c. x ∷ c ∷ more) (sym also) ∙ ap (λ l. x ∷ y ∷ l) (sym (take-length more) ∙ ap (λ n. take n more) left)
+    ap (λ c. c ∷ b ∷ more) (sym is) ∙ ap (λ c. x ∷ c ∷ more) (sym also)
+    ∙ ap (λ l. x ∷ y ∷ l) (sym (take-length more) ∙ ap (λ n. take n more) left)
 
 pub count_none : {A : Type 0} (f : A → List ℕ) (kind : Kind) (rest : List A) → length rest < 2 → count_in kind (map f rest) ≡ 0
 count_none f kind [] few = refl
 count_none f kind (x ∷ []) few = refl
 count_none f kind (x ∷ y ∷ rest) few = absurd (omega (arith, few))
 
-pub named_more : {A : Type 0} (f : A → List ℕ) (rest : List A) (x y : A) (word value name : List ℕ) → 2 ≤ length rest → x ≡ get_or rest 0 x → y ≡ get_or rest 1 y → word ≡ f x → value ≡ f y
-    → (bytes_eq word (codes "--compiler") && bytes_eq (name_in value) name) ≡ false → named_in (map f rest) name ≡ named_in (map f (take (length rest - 2) (drop 2 rest))) name
+pub named_more : {A : Type 0} (f : A → List ℕ) (rest : List A) (x y : A) (word value name : List ℕ) → 2 ≤ length rest
+    → x ≡ get_or rest 0 x → y ≡ get_or rest 1 y → word ≡ f x → value ≡ f y
+    → (bytes_eq word (codes "--compiler") && bytes_eq (name_in value) name) ≡ false
+    → named_in (map f rest) name ≡ named_in (map f (take (length rest - 2) (drop 2 rest))) name
 named_more f rest x y word value name some x_is y_is word_is value_is other =
-    let not_here : (bytes_eq (f x) (codes "--compiler") && bytes_eq (name_in (f y)) name) ≡ false = subst (λ w. (bytes_eq w (codes "--compiler") && bytes_eq (name_in (f y)) name) ≡ false) word_is (subst (λ v. (bytes_eq word (codes "--compiler") && bytes_eq (name_in v) name) ≡ false) value_is other) in
+    let not_here : (bytes_eq (f x) (codes "--compiler") && bytes_eq (name_in (f y)) name) ≡ false =
+    subst (λ w. (bytes_eq w (codes "--compiler") && bytes_eq (name_in (f y)) name) ≡ false) word_is
+    (subst (λ v. (bytes_eq word (codes "--compiler") && bytes_eq (name_in v) name) ≡ false) value_is other) in
     ap (λ l. named_in (map f l) name) (two_parts rest x y some x_is y_is)
     ∙ ap (λ b. b || named_in (map f (take (length rest - 2) (drop 2 rest))) name) not_here
 
@@ -338,22 +365,28 @@ rules_none f [] few = refl
 rules_none f (x ∷ []) few = refl
 rules_none f (x ∷ y ∷ rest) few = absurd (omega (arith, few))
 
-pub all_rules : {A : Type 0} (f : A → List ℕ) (words rest : List A) (found : List Rule) → length rest < 2 → ((more : List Rule) → AreRules (map f rest) more → AreRules (map f words) (found ++ more)) → AreRules (map f words) found
+pub all_rules : {A : Type 0} (f : A → List ℕ) (words rest : List A) (found : List Rule) → length rest < 2
+    → ((more : List Rule) → AreRules (map f rest) more → AreRules (map f words) (found ++ more)) → AreRules (map f words) found
 all_rules f words rest found few on = subst (AreRules (map f words)) (append-nil found) (on [] (rules_none f rest few))
 
-pub more_rules : {A : Type 0} (f : A → List ℕ) (words rest : List A) (x y : A) (word value : List ℕ) (before after : List Rule) (found : Option Rule)
-    → 2 ≤ length rest → x ≡ get_or rest 0 x → y ≡ get_or rest 1 y → word ≡ f x → value ≡ f y → RuleIn value found (option_named word) → after ≡ before ++ option_to_list found
+pub more_rules : {A : Type 0} (f : A → List ℕ) (words rest : List A) (x y : A) (word value : List ℕ) (before after : List Rule)
+    (found : Option Rule)
+    → 2 ≤ length rest → x ≡ get_or rest 0 x → y ≡ get_or rest 1 y → word ≡ f x → value ≡ f y
+    → RuleIn value found (option_named word) → after ≡ before ++ option_to_list found
     → ((more : List Rule) → AreRules (map f rest) more → AreRules (map f words) (before ++ more))
     → (more : List Rule) → AreRules (map f (take (length rest - 2) (drop 2 rest))) more → AreRules (map f words) (after ++ more)
 more_rules f words rest x y word value before after found some x_is y_is word_is value_is is grown on more are =
     let says = subst (λ w. RuleIn (f y) found (option_named w)) word_is (subst (λ v. RuleIn v found (option_named word)) value_is is) in
-    let all = subst (λ l. AreRules (map f l) (option_to_list found ++ more)) (sym (two_parts rest x y some x_is y_is)) (found, says, more, refl, are) in
-    subst (AreRules (map f words)) (sym (append_assoc before (option_to_list found) more) ∙ ap (λ l. l ++ more) (sym grown)) (on (option_to_list found ++ more) all)
+    let all = subst (λ l. AreRules (map f l) (option_to_list found ++ more)) (sym (two_parts rest x y some x_is y_is))
+    (found, says, more, refl, are) in
+    subst (AreRules (map f words)) (sym (append_assoc before (option_to_list found) more) ∙ ap (λ l. l ++ more) (sym grown))
+    (on (option_to_list found ++ more) all)
 
 compilers_none : {A : Type 0} (f : A → List ℕ) (rest : List A) → length rest < 2 → compilers_of (map f rest) ≡ []
 compilers_none f [] few = refl
 compilers_none f (x ∷ []) few = refl
 compilers_none f (x ∷ y ∷ rest) few = absurd (omega (arith, few))
 
-pub all_compilers : {A : Type 0} (f : A → List ℕ) (rest : List A) (found all : List Compiler) → length rest < 2 → found ++ compilers_of (map f rest) ≡ all → found ≡ all
+pub all_compilers : {A : Type 0} (f : A → List ℕ) (rest : List A) (found all : List Compiler) → length rest < 2
+    → found ++ compilers_of (map f rest) ≡ all → found ≡ all
 all_compilers f rest found all few is = sym (append-nil found) ∙ ap (λ l. found ++ l) (sym (compilers_none f rest few)) ∙ is

@@ -1,5 +1,6 @@
 -- What the words of `farmd` ask for.
-use Rattle.std.specs.Prelude.{◌≡◌, ℕ, ◌+◌, ◌==◌, Bool, false, List, [], ◌∷◌, length, codes, bytes_eq, Option, Some, None, unwrap_or, Result, Ok, Err, if◌then◌else◌}
+use Rattle.std.specs.Prelude.{◌≡◌, ℕ, ◌+◌, ◌==◌, Bool, false, List, [], ◌∷◌, length, codes, bytes_eq, Option, Some, None, unwrap_or}
+use Rattle.std.specs.Prelude.{Result, Ok, Err, if◌then◌else◌}
 use Rattle.farm_types.specs.Limits.{port_default, workers_default}
 use Rattle.daemon_words.specs.declared.options.Options.{Options}
 use Rattle.daemon_words.specs.declared.command.Command.{Command}
@@ -41,7 +42,8 @@ placed trusting (Err place) = Err (if trusting then place + 1 else place)
 
 -- what the words ask for, or the place of the first that isn't right; that of a missing word is their number
 abbrev pub ReadWords : List (List ℕ) → Result Command ℕ → Type 0
-ReadWords words read = (read_behind : Result Command ℕ) × ByFirst (settings_of words) read_behind (asked (settings_of words)) × (read ≡ placed (trusts words) read_behind)
+ReadWords words read = (read_behind : Result Command ℕ) × ByFirst (settings_of words) read_behind (asked (settings_of words))
+    × (read ≡ placed (trusts words) read_behind)
 
 abbrev pub IsCommand : List (List ℕ) → Command → Type 0
 IsCommand words command = ReadWords words (Ok command)

@@ -34,4 +34,5 @@ abbrev pub AreRules : List (List ℕ) → List Rule → Type 0
 AreRules [] rules = rules ≡ []
 AreRules (word ∷ []) rules = rules ≡ []
 AreRules (word ∷ value ∷ more) rules =
-    (found : Option Rule) × RuleIn value found (option_named word) × (rest : List Rule) × (rules ≡ option_to_list found ++ rest) × AreRules more rest
+    (found : Option Rule) × RuleIn value found (option_named word) × (rest : List Rule) × (rules ≡ option_to_list found ++ rest)
+    × AreRules more rest

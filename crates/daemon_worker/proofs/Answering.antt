@@ -38,21 +38,25 @@ idle_cause StationFault other = absurd (cc other)
 idle_cause Memory other = record { faults = refl; overruns = refl }
 
 module _ (table : List Compiler) (rules : List Rule) (ran : List Word → List ℕ → Ran → Type 0) where
-  right_answer : (served : Served) (c : Connection) (is : IsServed table rules ran served c) → is.visit.faults ≡ 0 → is.visit.stopped ≡ false → is_station_fault (met.Served served) ≡ false → IsRightAnswer is.visit.given served
+  right_answer : (served : Served) (c : Connection) (is : IsServed table rules ran served c) → is.visit.faults ≡ 0
+      → is.visit.stopped ≡ false → is_station_fault (met.Served served) ≡ false → IsRightAnswer is.visit.given served
   right_answer served c is calm going other =
       let link : LinkCause served 0 0 = subst (λ n. LinkCause served 0 n) calm is.faults in
       record {
-        whole = λ used q begins. services.whole table served c.runs is.visit used q 0 0 idle idle is.is is.ends link (idle_cause served other) begins no_rise_of_none no_rise_of_none no_rise_of_none going;
+        whole = λ used q begins. services.whole table served c.runs is.visit used q 0 0 idle idle is.is is.ends link
+            (idle_cause served other) begins no_rise_of_none no_rise_of_none no_rise_of_none going;
         fault = λ at fault stands. services.refused table served c.runs is.visit at fault is.is stands;
         short = λ short. services.short table served c.runs is.visit 0 0 is.is link short no_rise_of_none;
       }
 
-  right_served : (served : Served) (c : Connection) → IsServed table rules ran served c → AreCalm c.visits → is_station_fault (met.Served served) ≡ false → AreRightAnswers c.visits served
+  right_served : (served : Served) (c : Connection) → IsServed table rules ran served c → AreCalm c.visits
+      → is_station_fault (met.Served served) ≡ false → AreRightAnswers c.visits served
   right_served served c is calm other =
       let alone = subst AreCalm is.visits calm in
       subst (λ visits. AreRightAnswers visits served) (sym is.visits) (right_answer served c is alone.0 alone.1 other, tt)
 
-  right_met : (what : Met) (c : Connection) → IsMet table rules ran c what → AreCalm c.visits → is_door_fault what ≡ false → is_station_fault what ≡ false → IsRight what c.visits
+  right_met : (what : Met) (c : Connection) → IsMet table rules ran c what → AreCalm c.visits → is_door_fault what ≡ false
+      → is_station_fault what ≡ false → IsRight what c.visits
   right_met (met.Served served) c is calm door other = right_served served c is calm other
   right_met (met.Denied addr rule) c is calm door other = tt
   right_met met.DoorFault c is calm door other = absurd (cc door)
@@ -66,10 +70,12 @@ module _ (table : List Compiler) (rules : List Rule) (ran : List Word → List �
   tested true n is none = absurd (omega (arith, is, none))
   tested false n is none = refl
 
-  none_first : (test : Met → Bool) (c : Connection) (cs : List Connection) → count test (c ∷ cs) ≡ 0 → (test c.what ≡ false) × (count test cs ≡ 0)
+  none_first : (test : Met → Bool) (c : Connection) (cs : List Connection) → count test (c ∷ cs) ≡ 0
+      → (test c.what ≡ false) × (count test cs ≡ 0)
   none_first test c cs none = (tested (test c.what) (if test c.what then 1 else 0) refl (omega (arith, none)), omega (arith, none))
 
-  all_right : (cs : List Connection) → AreConnections table rules ran cs → AreCalm (flat_map (λ c. c.visits) cs) → count is_door_fault cs ≡ 0 → count is_station_fault cs ≡ 0 → AllRight cs
+  all_right : (cs : List Connection) → AreConnections table rules ran cs → AreCalm (flat_map (λ c. c.visits) cs)
+      → count is_door_fault cs ≡ 0 → count is_station_fault cs ≡ 0 → AllRight cs
   all_right [] each calm doors stations = tt
   all_right (c ∷ cs) each calm doors stations =
       let visits = calm_first c.visits (flat_map (λ c. c.visits) cs) calm in
@@ -81,10 +87,18 @@ module _ (table : List Compiler) (rules : List Rule) (ran : List Word → List �
   rose_by_none zero before now rose none = refl
   rose_by_none (suc n) before now rose none = absurd (none (omega (arith, rose)))
 
-  together_none : (n : ℕ) (before after : StationView) → RoseTogether n before after → (Rose before.faults after.faults → ⊥) → (Rose before.overruns after.overruns → ⊥) → n ≡ 0
+  together_none : (n : ℕ) (before after : StationView) → RoseTogether n before after → (Rose before.faults after.faults → ⊥)
+      → (Rose before.overruns after.overruns → ⊥) → n ≡ 0
   together_none n before after rose faults overruns =
-      omega (arith, rose.sum, rose_by_none rose.faults before.faults after.faults rose.faults_rose faults, rose_by_none rose.overruns before.overruns after.overruns rose.overruns_rose overruns)
+      omega (
+        arith,
+        rose.sum,
+        rose_by_none rose.faults before.faults after.faults rose.faults_rose faults,
+        rose_by_none rose.overruns before.overruns after.overruns rose.overruns_rose overruns,
+      )
 
-  pub rightly : (old new : DoorView) (before after : StationView) (cs : List Connection) → Did table rules ran old new before after cs → NoneFailed old new before after → AreCalm (flat_map (λ c. c.visits) cs) → AllRight cs
+  pub rightly : (old new : DoorView) (before after : StationView) (cs : List Connection)
+      → Did table rules ran old new before after cs → NoneFailed old new before after → AreCalm (flat_map (λ c. c.visits) cs) → AllRight cs
   rightly old new before after cs did none calm =
-      all_right cs did.each calm (rose_by_none (count is_door_fault cs) old.faults new.faults did.door_rise none.door) (together_none (count is_station_fault cs) before after did.station_rise none.station none.overruns)
+      all_right cs did.each calm (rose_by_none (count is_door_fault cs) old.faults new.faults did.door_rise none.door)
+      (together_none (count is_station_fault cs) before after did.station_rise none.station none.overruns)

@@ -22,18 +22,26 @@ still_station : (station : StationView) → StationStill station station
 still_station station = record { faults = refl; overruns = refl }
 
 -- all that a list tells that had nothing in it
-all_told : {old new : Told (List ℕ)} {more : List ℕ} → (IsTrue old.known → old.value ≡ []) → Grew old new more → IsTrue new.known → new.value ≡ more
+all_told : {old new : Told (List ℕ)} {more : List ℕ} → (IsTrue old.known → old.value ≡ []) → Grew old new more → IsTrue new.known
+    → new.value ≡ more
 all_told {old = old} {more = more} none grew k = grew.grew k ∙ ap (λ xs. xs ++ more) (none (grew.known k))
 
-module _ (table : List Compiler) (rules : List Rule) (ran : List Word → List ℕ → Ran → Type 0) (old mid new : DoorView) (addr : ℕ) (first last : LinkView)
-    (came : Grew old.peers mid.peers (addr ∷ [])) (no_more : Grew mid.peers new.peers []) (none : Grew old.visits mid.visits []) (one : Grew mid.visits new.visits (visited last ∷ []))
+module _ (table : List Compiler) (rules : List Rule) (ran : List Word → List ℕ → Ran → Type 0) (old mid new : DoorView) (addr : ℕ)
+    (first last : LinkView)
+    (came : Grew old.peers mid.peers (addr ∷ [])) (no_more : Grew mid.peers new.peers []) (none : Grew old.visits mid.visits [])
+    (one : Grew mid.visits new.visits (visited last ∷ []))
     (told : IsVisitTold new.visits last) (fresh : IsNew first) (still : Still old.faults new.faults) where
-  visits_are : (given sent : List ℕ) → Grew first.given last.given given → Grew first.sent last.sent sent → Grew old.visits new.visits (visit_of last given sent ∷ [])
+  visits_are : (given sent : List ℕ) → Grew first.given last.given given → Grew first.sent last.sent sent
+      → Grew old.visits new.visits (visit_of last given sent ∷ [])
   visits_are given sent grew_given grew_sent =
-      let is_entry = λ (k : IsTrue new.visits.known). ap (λ g. visit_of last g last.sent.value) (all_told fresh.given grew_given (told.given k)) ∙ ap (λ s. visit_of last given s) (all_told fresh.sent grew_sent (told.sent k)) in
+      let is_entry = λ (k : IsTrue new.visits.known). ap (λ g. visit_of last g last.sent.value)
+      (all_told fresh.given grew_given (told.given k))
+      ∙ ap (λ s. visit_of last given s) (all_told fresh.sent grew_sent (told.sent k)) in
       Grew-join none (record { known = one.known; grew = λ k. one.grew k ∙ ap (λ x. mid.visits.value ++ x ∷ []) (is_entry k) }) refl
 
-  pub met_served : (rule : Option ℕ) (before after : StationView) (served : Served) → AccessDecision rules addr (Admitted rule) → Service table ran first last before after served → LinkCause served first.faults last.faults → StationCause served before after → Meets table rules ran old new before after (met.Served served)
+  pub met_served : (rule : Option ℕ) (before after : StationView) (served : Served) → AccessDecision rules addr (Admitted rule)
+      → Service table ran first last before after served → LinkCause served first.faults last.faults
+      → StationCause served before after → Meets table rules ran old new before after (met.Served served)
   met_served rule before after served admitted service link cause = record {
     c = record { what = met.Served served; peers = addr ∷ []; visits = visit_of last service.given service.sent ∷ []; runs = service.runs };
     is_what = refl;
@@ -56,21 +64,26 @@ module _ (table : List Compiler) (rules : List Rule) (ran : List Word → List �
   }
 
 -- a link that was left at once
-pub met_denied : (table : List Compiler) (rules : List Rule) (ran : List Word → List ℕ → Ran → Type 0) (old mid new : DoorView) (addr : ℕ) (link : LinkView)
-    → Grew old.peers mid.peers (addr ∷ []) → Grew mid.peers new.peers [] → Grew old.visits mid.visits [] → Grew mid.visits new.visits (visited link ∷ []) → IsVisitTold new.visits link → IsNew link → Still old.faults new.faults
-    → (rule : Option ℕ) (station : StationView) → AccessDecision rules addr (Denied rule) → Meets table rules ran old new station station (met.Denied addr rule)
+pub met_denied : (table : List Compiler) (rules : List Rule) (ran : List Word → List ℕ → Ran → Type 0) (old mid new : DoorView)
+    (addr : ℕ) (link : LinkView)
+    → Grew old.peers mid.peers (addr ∷ []) → Grew mid.peers new.peers [] → Grew old.visits mid.visits []
+    → Grew mid.visits new.visits (visited link ∷ []) → IsVisitTold new.visits link → IsNew link → Still old.faults new.faults
+    → (rule : Option ℕ) (station : StationView) → AccessDecision rules addr (Denied rule)
+    → Meets table rules ran old new station station (met.Denied addr rule)
 met_denied table rules ran old mid new addr link came no_more none one told fresh still rule station denied = record {
   c = record { what = met.Denied addr rule; peers = addr ∷ []; visits = visit_of link [] [] ∷ []; runs = [] };
   is_what = refl;
   is = record { visit = visit_of link [] []; peers = refl; visits = refl; denied = denied; given = refl; sent = refl; no_run = refl };
   peers = Grew-still came no_more;
-  visits = visits_are table rules ran old mid new addr link link came no_more none one told fresh still [] [] (Grew-refl link.given) (Grew-refl link.sent);
+  visits = visits_are table rules ran old mid new addr link link came no_more none one told fresh still [] [] (Grew-refl link.given)
+      (Grew-refl link.sent);
   runs = Grew-refl station.runs;
   cause = (still, still_station station);
 }
 
 -- there was no link
-module _ (table : List Compiler) (rules : List Rule) (ran : List Word → List ℕ → Ran → Type 0) (old new : DoorView) (station : StationView) (no_peer : Grew old.peers new.peers []) (no_visit : Grew old.visits new.visits []) where
+module _ (table : List Compiler) (rules : List Rule) (ran : List Word → List ℕ → Ran → Type 0) (old new : DoorView)
+    (station : StationView) (no_peer : Grew old.peers new.peers []) (no_visit : Grew old.visits new.visits []) where
   pub met_fault : Rose old.faults new.faults → Meets table rules ran old new station station met.DoorFault
   met_fault rose = record {
     c = record { what = met.DoorFault; peers = []; visits = []; runs = [] };

@@ -19,8 +19,10 @@ pub record Connection : Type 0 where
   pub visits : List Visit
   pub runs : List Run
 
--- The peer was let in, and its one visit and its runs show the service by its answer. The visit tells a fault of the link exactly where the answer does.
-pub record IsServed (table : List Compiler) (rules : List Rule) (ran : List Word → List ℕ → Ran → Type 0) (served : Served) (c : Connection) : Type 0 where
+-- The peer was let in, and its one visit and its runs show the service by its answer. The visit tells a fault of the link exactly
+-- where the answer does.
+pub record IsServed (table : List Compiler) (rules : List Rule) (ran : List Word → List ℕ → Ran → Type 0) (served : Served)
+    (c : Connection) : Type 0 where
   pub addr : ℕ
   pub rule : Option ℕ
   pub visit : Visit

@@ -66,7 +66,8 @@ pub record RoseTogether (number : ℕ) (before after : StationView) : Type 0 whe
   pub overruns_rose : RoseBy overruns before.overruns after.overruns
 
 -- These connections are all that the door and the station did, in order, and the faults among them are no more than their counts rose by.
-pub record Did (table : List Compiler) (rules : List Rule) (ran : List Word → List ℕ → Ran → Type 0) (old new : DoorView) (before after : StationView) (cs : List Connection) : Type 0 where
+pub record Did (table : List Compiler) (rules : List Rule) (ran : List Word → List ℕ → Ran → Type 0) (old new : DoorView)
+    (before after : StationView) (cs : List Connection) : Type 0 where
   pub each : AreConnections table rules ran cs
   pub peers : Grew old.peers new.peers (flat_map (λ c. c.peers) cs)
   pub visits : Grew old.visits new.visits (flat_map (λ c. c.visits) cs)
@@ -75,20 +76,23 @@ pub record Did (table : List Compiler) (rules : List Rule) (ran : List Word → 
   pub station_rise : RoseTogether (count is_station_fault cs) before after
 
 -- The entries of one door are those of its connections, numbered from 1.
-pub record DoorServed (table : List Compiler) (rules : List Rule) (serve door : ℕ) (ran : List Word → List ℕ → Ran → Type 0) (old new : DoorView) (before after : StationView) (entries : List Entry) : Type 0 where
+pub record DoorServed (table : List Compiler) (rules : List Rule) (serve door : ℕ) (ran : List Word → List ℕ → Ran → Type 0)
+    (old new : DoorView) (before after : StationView) (entries : List Entry) : Type 0 where
   pub cs : List Connection
   pub did : Did table rules ran old new before after cs
   pub entries_are : entries ≡ numbered door 1 cs
   pub ends : Ends serve cs
 
 -- a log grew by the entries of one door
-pub record LogGrew (table : List Compiler) (rules : List Rule) (serve door : ℕ) (ran : List Word → List ℕ → Ran → Type 0) (old new : DoorView) (before after : StationView) (log_before log_after : List Entry) : Type 0 where
+pub record LogGrew (table : List Compiler) (rules : List Rule) (serve door : ℕ) (ran : List Word → List ℕ → Ran → Type 0)
+    (old new : DoorView) (before after : StationView) (log_before log_after : List Entry) : Type 0 where
   pub entries : List Entry
   pub served : DoorServed table rules serve door ran old new before after entries
   pub grew : log_after ≡ log_before ++ entries
 
 -- The log is that of the doors one after the other, where their numbers go on from this one.
-abbrev pub DoorsServed : {A S : Type 0} → List Compiler → List Rule → ℕ → (A → DoorView) → (S → StationView) → (S → List Word → List ℕ → Ran → Type 0) → ℕ → List (DoorKit A S) → List (DoorKit A S) → List Entry → Type 0
+abbrev pub DoorsServed : {A S : Type 0} → List Compiler → List Rule → ℕ → (A → DoorView) → (S → StationView)
+    → (S → List Word → List ℕ → Ran → Type 0) → ℕ → List (DoorKit A S) → List (DoorKit A S) → List Entry → Type 0
 DoorsServed table rules serve door station ran number [] [] log = log ≡ []
 DoorsServed table rules serve door station ran number [] (new ∷ news) log = ⊥
 DoorsServed table rules serve door station ran number (old ∷ olds) [] log = ⊥
@@ -98,7 +102,8 @@ DoorsServed table rules serve door station ran number (old ∷ olds) (new ∷ ne
     × DoorsServed table rules serve door station ran (suc number) olds news more
 
 -- what a door's loop has done so far, which goes on
-pub record SoFar (table : List Compiler) (rules : List Rule) (door number : ℕ) (ran : List Word → List ℕ → Ran → Type 0) (old new : DoorView) (before after : StationView) (log_before log_after : List Entry) : Type 0 where
+pub record SoFar (table : List Compiler) (rules : List Rule) (door number : ℕ) (ran : List Word → List ℕ → Ran → Type 0)
+    (old new : DoorView) (before after : StationView) (log_before log_after : List Entry) : Type 0 where
   pub cs : List Connection
   pub did : Did table rules ran old new before after cs
   pub grew : log_after ≡ log_before ++ numbered door 1 cs

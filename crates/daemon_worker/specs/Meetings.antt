@@ -21,7 +21,8 @@ MetCause met.DoorFault old new before after = Rose old.faults new.faults × Stat
 MetCause met.DoorMemory old new before after = Still old.faults new.faults × StationStill before after
 
 -- There was one connection, which the answer describes; where the door and the station tell their lists, it is all that they grew by.
-pub record Meets (table : List Compiler) (rules : List Rule) (ran : List Word → List ℕ → Ran → Type 0) (old new : DoorView) (before after : StationView) (what : Met) : Type 0 where
+pub record Meets (table : List Compiler) (rules : List Rule) (ran : List Word → List ℕ → Ran → Type 0) (old new : DoorView)
+    (before after : StationView) (what : Met) : Type 0 where
   pub c : Connection
   pub is_what : c.what ≡ what
   pub is : IsConnection table rules ran c

@@ -41,4 +41,5 @@ module _ {S : Type 0} (goes : S → List Word → List ℕ → Bounds → Result
   DoorsPaths number [] (new ∷ news) log = ⊥
   DoorsPaths number (old ∷ olds) [] log = ⊥
   DoorsPaths number (old ∷ olds) (new ∷ news) log =
-      (mine : List Entry) × (more : List Entry) × (log ≡ mine ++ more) × DoorPath number old.station new.station mine × DoorsPaths (suc number) olds news more
+      (mine : List Entry) × (more : List Entry) × (log ≡ mine ++ more) × DoorPath number old.station new.station mine
+      × DoorsPaths (suc number) olds news more

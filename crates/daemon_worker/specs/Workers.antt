@@ -30,7 +30,10 @@ abbrev pub IsReady : {A S : Type 0} → ℕ → Worker A S → Type 0
 IsReady serve worker = IsRoom serve worker.log.items (vec_len worker.log) (vec_capacity worker.log)
 
 -- A worker served its door, of this number, and its log has just the entries of that; and this was the way of its station.
-abbrev pub Worked : {A S : Type 0} → List Compiler → List Rule → ℕ → (A → DoorView) → (S → StationView) → (S → List Word → List ℕ → Ran → Type 0) → (S → List Word → List ℕ → Bounds → Result Ran StationFault → S → Type 0) → ℕ → Worker A S → Worker A S → Type 0
+abbrev pub Worked : {A S : Type 0} → List Compiler → List Rule → ℕ → (A → DoorView) → (S → StationView)
+    → (S → List Word → List ℕ → Ran → Type 0) → (S → List Word → List ℕ → Bounds → Result Ran StationFault → S → Type 0) → ℕ
+    → Worker A S → Worker A S → Type 0
 Worked table rules serve door station ran goes number old new =
-    DoorServed table rules serve number (ran new.kit.station) (door old.kit.door) (door new.kit.door) (station old.kit.station) (station new.kit.station) new.log.items
+    DoorServed table rules serve number (ran new.kit.station) (door old.kit.door) (door new.kit.door) (station old.kit.station)
+    (station new.kit.station) new.log.items
     × DoorPath goes table number old.kit.station new.kit.station new.log.items

@@ -5,7 +5,8 @@ use Rattle.edge_traits.specs.Causes.{Rose}
 use Rattle.edge_traits.specs.Calls.{is_in, failed_calls, names_next, one_more, greatest}
 
 -- one call more, whose number is in the list or isn't
-pub failed_more : (fails : List ℕ) (made : ℕ) → failed_calls fails (made + 1) ≡ (if is_in (made + 1) fails then 1 else 0) + failed_calls fails made
+pub failed_more : (fails : List ℕ) (made : ℕ)
+    → failed_calls fails (made + 1) ≡ (if is_in (made + 1) fails then 1 else 0) + failed_calls fails made
 failed_more fails made = rw add-one refl
 
 one_or_none : (b : Bool) → (if b then 1 else 0) ≤ 1
@@ -18,14 +19,17 @@ failed_within fails zero = omega arith
 failed_within fails (suc made) = omega (arith, failed_within fails made, one_or_none (is_in (suc made) fails))
 
 -- a call whose number is in the list is one failed call more
-pub one_failed : (fails : List ℕ) (made faults : ℕ) (test : Bool) → test ≡ true → test ≡ is_in (made + 1) fails → faults ≡ failed_calls fails made → faults + 1 ≡ failed_calls fails (made + 1)
+pub one_failed : (fails : List ℕ) (made faults : ℕ) (test : Bool) → test ≡ true → test ≡ is_in (made + 1) fails
+    → faults ≡ failed_calls fails made → faults + 1 ≡ failed_calls fails (made + 1)
 one_failed fails made faults test named is counted = rw (failed_more, ← is, named) (omega arith)
 
 -- and another call is none
-pub none_failed : (fails : List ℕ) (made faults : ℕ) (test : Bool) → test ≡ false → test ≡ is_in (made + 1) fails → faults ≡ failed_calls fails made → faults ≡ failed_calls fails (made + 1)
+pub none_failed : (fails : List ℕ) (made faults : ℕ) (test : Bool) → test ≡ false → test ≡ is_in (made + 1) fails
+    → faults ≡ failed_calls fails made → faults ≡ failed_calls fails (made + 1)
 none_failed fails made faults test unnamed is counted = rw (failed_more, ← is, unnamed) (omega arith)
 
-rises : (fails : List ℕ) (made : ℕ) (below : Bool) → below && is_in (made + 1) fails ≡ true → Rose (failed_calls fails made) (failed_calls fails (if below then made + 1 else made))
+rises : (fails : List ℕ) (made : ℕ) (below : Bool) → below && is_in (made + 1) fails ≡ true
+    → Rose (failed_calls fails made) (failed_calls fails (if below then made + 1 else made))
 rises fails made true named = rw (failed_more, named) (omega arith)
 rises fails made false named = cc
 
@@ -34,14 +38,16 @@ stays fails made true = rw failed_more (omega arith)
 stays fails made false = omega arith
 
 -- A call that is one of those that fail raises their number.
-pub failed_rises : (fails : List ℕ) (made : ℕ) → names_next fails made ≡ true → Rose (failed_calls fails made) (failed_calls fails (one_more made))
+pub failed_rises : (fails : List ℕ) (made : ℕ) → names_next fails made ≡ true
+    → Rose (failed_calls fails made) (failed_calls fails (one_more made))
 failed_rises fails made named = rises fails made (nat_lt made greatest) named
 
 -- no call lowers the number of those that failed
 pub failed_stays : (fails : List ℕ) (made : ℕ) → failed_calls fails made ≤ failed_calls fails (one_more made)
 failed_stays fails made = stays fails made (nat_lt made greatest)
 
-same : (fails : List ℕ) (made : ℕ) (below : Bool) → below && is_in (made + 1) fails ≡ false → failed_calls fails (if below then made + 1 else made) ≡ failed_calls fails made
+same : (fails : List ℕ) (made : ℕ) (below : Bool) → below && is_in (made + 1) fails ≡ false
+    → failed_calls fails (if below then made + 1 else made) ≡ failed_calls fails made
 same fails made true unnamed = rw (failed_more, unnamed) (omega arith)
 same fails made false unnamed = refl
 

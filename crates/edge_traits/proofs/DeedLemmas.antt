@@ -22,7 +22,9 @@ DidIn-join {a = a} {x = x} {y = y} first second = record {
   moments = Grew-join first.moments second.moments (sym (flat_map-append moment_of x y));
   files = record {
     known = λ k. first.files.known (second.files.known k);
-    became = λ k. second.files.became k ∙ ap (λ files. files_put files (puts_in y)) (first.files.became (second.files.known k)) ∙ files_put-append a.keeper.files.value (puts_in x) (puts_in y) ∙ ap (λ puts. files_put a.keeper.files.value puts) (sym (flat_map-append put_of x y));
+    became = λ k. second.files.became k ∙ ap (λ files. files_put files (puts_in y)) (first.files.became (second.files.known k))
+        ∙ files_put-append a.keeper.files.value (puts_in x) (puts_in y)
+        ∙ ap (λ puts. files_put a.keeper.files.value puts) (sym (flat_map-append put_of x y));
   };
 }
 

@@ -9,7 +9,8 @@ rest_left : (n : ℕ) (bytes : List ℕ) → n < length bytes → drop n bytes �
 rest_left n bytes less none = omega (arith, less, length-drop n bytes, ap length none)
 
 -- a front was sent, shorter than the whole, and nothing more
-pub sent_part : (n : ℕ) (bytes : List ℕ) {old mid new : Told (List ℕ)} → n < length bytes → Grew old mid (take n bytes) → Grew mid new [] → SentPart bytes old new
+pub sent_part : (n : ℕ) (bytes : List ℕ) {old mid new : Told (List ℕ)} → n < length bytes → Grew old mid (take n bytes)
+    → Grew mid new [] → SentPart bytes old new
 sent_part n bytes less front still = record {
   sent = take n bytes;
   unsent = drop n bytes;

@@ -13,7 +13,11 @@ ending = 46 ∷ 102 ∷ 97 ∷ 114 ∷ 109 ∷ 126 ∷ []
 
 -- what a test of the end says of the path
 pub staged_from : (path : List ℕ) → ends_with nat_eq path ending ≡ true → IsStaged path
-staged_from path same = (take (length path - 6) path, sym (take-append-drop (length path - 6) path) ∙ ap (λ rest. take (length path - 6) path ++ rest) (sym (same_text ending (drop (length path - 6) path) (sym same))))
+staged_from path same = (
+  take (length path - 6) path,
+  sym (take-append-drop (length path - 6) path)
+      ∙ ap (λ rest. take (length path - 6) path ++ rest) (sym (same_text ending (drop (length path - 6) path) (sym same))),
+)
 
 -- and the path of the test
 pub staged_to : (path : List ℕ) → IsStaged path → ends_with nat_eq path ending ≡ true

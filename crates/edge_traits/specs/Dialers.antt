@@ -18,7 +18,17 @@ undialed host port = record { host = host; port = port; dialed = false; sent = [
 
 -- the entry of a link that is hung up
 abbrev pub hung : LinkView → Exchange
-hung link = record { host = link.origin.host; port = link.origin.port; dialed = true; sent = link.sent.value; given = link.given.value; ended = link.ended; stopped = link.stopped; faults = link.faults }
+hung link = record {
+  host = link.origin.host;
+  port = link.origin.port;
+  dialed = true;
+  sent = link.sent.value;
+  given =
+      link.given.value;
+  ended = link.ended;
+  stopped = link.stopped;
+  faults = link.faults;
+}
 
 -- the entries that a dial adds: one where it failed, and else none
 abbrev pub dial_entries : {L : Type 0} → HostName → ℕ → Result L EdgeFault → List Exchange

@@ -13,4 +13,5 @@ pub record KitView : Type 0 where
 
 -- what a kit shows, by what its devices show
 abbrev pub kit_view : {D S K C : Type 0} → (D → DialerView) → (S → StationView) → (K → KeeperView) → (C → ClockView) → Kit D S K C → KitView
-kit_view dialer station keeper clock kit = record { dialer = dialer kit.dialer; station = station kit.station; keeper = keeper kit.keeper; clock = clock kit.clock }
+kit_view dialer station keeper clock kit =
+    record { dialer = dialer kit.dialer; station = station kit.station; keeper = keeper kit.keeper; clock = clock kit.clock }

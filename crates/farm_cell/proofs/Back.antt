@@ -1,5 +1,6 @@
 -- The words tell the state.
-use Rattle.std.proofs.Common.{◌≡◌, ℕ, zero, suc, ◌<◌, Bool, true, false, ◌&&◌, cond, List, [], ◌∷◌, ◌++◌, length, get_or, refl, sym, ap, ◌∙◌, subst, arith}
+use Rattle.std.proofs.Common.{◌≡◌, ℕ, zero, suc, ◌<◌, Bool, true, false, ◌&&◌, cond, List, [], ◌∷◌, ◌++◌, length, get_or, refl, sym, ap}
+use Rattle.std.proofs.Common.{◌∙◌, subst, arith}
 use Rattle.std.proofs.lemmas.Bool.{eqb-true, ltb-true, lt-ltb, eq-eqb, and_parts}
 use Rattle.std.proofs.lemmas.List.{append-nil}
 use Rattle.slot_table.specs.declared.state.SlotState.{SlotState}
@@ -37,7 +38,8 @@ record Parts (s : SlotState 16) (bits : List ℕ) : Type 0 where
 parts : (x : SlotWords 16) (bits : List ℕ) → length bits ≡ 34 → bits ≡ words_of x → Parts x.state bits
 parts x bits len e = go (is_state x.state) refl e
   where
-    go : (b : Bool) → is_state x.state ≡ b → bits ≡ cond b (x.state.next ∷ (x.state.local_held ∷ (x.state.held ++ x.state.until))) [] → Parts x.state bits
+    go : (b : Bool) → is_state x.state ≡ b
+        → bits ≡ cond b (x.state.next ∷ (x.state.local_held ∷ (x.state.held ++ x.state.until))) [] → Parts x.state bits
     go false is e = absurd (let n = ap length e in omega arith)
     go true is e =
         let a = and_parts _ _ is in
@@ -57,7 +59,8 @@ byte x bits len e k below =
     let long = p.held in subst (λ l. get_or l (suc (suc k)) 0 < 256) (sym p.all) (all-at x.state.held x.state.until k (omega arith) p.bytes)
 
 pub back : (x : SlotWords 16) (bits : List ℕ) → length bits ≡ 34 → bits ≡ words_of x
-    → ◌≡◌ {A = SlotWords 16} record { state = record { next = get_or bits 0 0; local_held = get_or bits 1 0; held = places bits 2 16; until = places bits 18 16 } } x
+    → ◌≡◌ {A = SlotWords 16} record
+    { state = record { next = get_or bits 0 0; local_held = get_or bits 1 0; held = places bits 2 16; until = places bits 18 16 } } x
 back x bits len e =
     let p = parts x bits len e in
     let s = x.state in
@@ -67,7 +70,8 @@ back x bits len e =
     let n : get_or bits 0 0 ≡ s.next = ap (λ l. get_or l 0 0) p.all in
     let m : get_or bits 1 0 ≡ s.local_held = ap (λ l. get_or l 1 0) p.all in
     let h : places bits 2 16 ≡ s.held = tail 0 16 ∙ ap (places rest 0) (sym p.held) ∙ front s.held s.until in
-    let u : places bits 18 16 ≡ s.until = tail 16 16 ∙ ap (λ i. places rest i 16) (sym p.held) ∙ behind s.held s.until 16 ∙ whole s.until 16 p.until in
+    let u : places bits 18 16 ≡ s.until = tail 16 16 ∙ ap (λ i. places rest i 16) (sym p.held) ∙ behind s.held s.until 16
+    ∙ whole s.until 16 p.until in
     λ i. record { state = record { next = n i; local_held = m i; held = h i; until = u i } }
 
 bytes-true : (l : List ℕ) → ((k : ℕ) → get_or l k 0 < 256) → all_bytes l ≡ true
@@ -75,12 +79,14 @@ bytes-true [] f = refl
 bytes-true (x ∷ xs) f = let a = lt-ltb x 256 (f 0) in let b = bytes-true xs (λ k. f (suc k)) in ap (λ c. c && all_bytes xs) a ∙ b
 
 -- and a state of a program has words
-pub forth : (x : SlotWords 16) → x.state.next < 4294967296 → x.state.local_held < 256 → length x.state.held ≡ 16 → length x.state.until ≡ 16 → ((k : ℕ) → get_or x.state.held k 0 < 256)
+pub forth : (x : SlotWords 16) → x.state.next < 4294967296 → x.state.local_held < 256 → length x.state.held ≡ 16
+    → length x.state.until ≡ 16 → ((k : ℕ) → get_or x.state.held k 0 < 256)
     → x.state.next ∷ (x.state.local_held ∷ (places x.state.held 0 16 ++ places x.state.until 0 16)) ≡ words_of x
 forth x a b c d f =
     let s = x.state in
     let is : is_state s ≡ true = all-true _ _ _ _ _ (lt-ltb _ _ a) (lt-ltb _ _ b) (eq-eqb _ _ c) (eq-eqb _ _ d) (bytes-true s.held f) in
-    ap (λ h. s.next ∷ (s.local_held ∷ (h ++ places s.until 0 16))) (whole s.held 16 c) ∙ ap (λ u. s.next ∷ (s.local_held ∷ (s.held ++ u))) (whole s.until 16 d)
+    ap (λ h. s.next ∷ (s.local_held ∷ (h ++ places s.until 0 16))) (whole s.held 16 c)
+    ∙ ap (λ u. s.next ∷ (s.local_held ∷ (s.held ++ u))) (whole s.until 16 d)
     ∙ sym (ap (λ t. cond t (s.next ∷ (s.local_held ∷ (s.held ++ s.until))) []) is)
   where
     all-true : (p q r s t : Bool) → p ≡ true → q ≡ true → r ≡ true → s ≡ true → t ≡ true → (p && (q && (r && (s && t)))) ≡ true

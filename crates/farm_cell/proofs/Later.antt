@@ -25,7 +25,10 @@ made-later c p q (Some job) m =
     let n : ℕ = number_of p in
     let xs : List CallEntry = seen_of p ++ m.between in
     let e : CallEntry = entry n Draw (Drawn (Some job)) in
-    let legal : IsLegal (limits_of c) xs = legal-front (limits_of c) (opening 16) [] xs (e ∷ []) (subst (IsLegal (limits_of c)) m.seen m.legal) in
+    let legal : IsLegal (limits_of c) xs =
+    legal-front (limits_of c) (opening 16) [] xs (e ∷ []) (subst (IsLegal (limits_of c)) m.seen m.legal) in
     let own : calls_by n xs ++ e ∷ [] ≡ mine_of p ++ e ∷ [] =
-    ap (λ t. calls_by n xs ++ t) (sym (own-last n e refl)) ∙ sym (calls_by-append n xs (e ∷ [])) ∙ ap (calls_by n) (sym m.seen) ∙ m.own ∙ m.mine in
-    subst (λ (calls : List CallEntry). IsLater calls job) (append_cancel_right (calls_by n xs) (mine_of p) (e ∷ []) own) (drawn-by-all (λ k. k < job) n xs (drawn-later (limits_of c) xs (Some job) legal m.answered))
+    ap (λ t. calls_by n xs ++ t) (sym (own-last n e refl)) ∙ sym (calls_by-append n xs (e ∷ [])) ∙ ap (calls_by n) (sym m.seen)
+    ∙ m.own ∙ m.mine in
+    subst (λ (calls : List CallEntry). IsLater calls job) (append_cancel_right (calls_by n xs) (mine_of p) (e ∷ []) own)
+    (drawn-by-all (λ k. k < job) n xs (drawn-later (limits_of c) xs (Some job) legal m.answered))

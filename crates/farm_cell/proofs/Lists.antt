@@ -1,5 +1,6 @@
 -- Lists of passes.
-use Rattle.std.proofs.Common.{◌≡◌, ◌≢◌, ℕ, zero, suc, ◌+◌, ◌<◌, Bool, true, false, cond, List, [], ◌∷◌, ◌++◌, length, get_or, nat_eq, refl, sym, ap, ◌∙◌, subst, arith, eq-eqb, ne_eqb, lt_of_not-le}
+use Rattle.std.proofs.Common.{◌≡◌, ◌≢◌, ℕ, zero, suc, ◌+◌, ◌<◌, Bool, true, false, cond, List, [], ◌∷◌, ◌++◌, length, get_or, nat_eq}
+use Rattle.std.proofs.Common.{refl, sym, ap, ◌∙◌, subst, arith, eq-eqb, ne_eqb, lt_of_not-le}
 use mathlib.Core.Logic.{dite}
 use native.Mathlib.Decide.{dec_le}
 use Rattle.std.proofs.lemmas.Bool.{eqb-true}
@@ -28,7 +29,8 @@ abbrev pub AreBlank : List Pass → Type 0
 AreBlank [] = Unit {0}
 AreBlank (p ∷ ps) = ((seen_of p ≡ []) × (mine_of p ≡ [])) × AreBlank ps
 
-pub are-snoc : (t : TableId) (l : Limits 16) (n k : ℕ) (ps : List Pass) (p : Pass) → AreAt t l n k ps → IsAt t l n (k + length ps) p → AreAt t l n k (ps ++ p ∷ [])
+pub are-snoc : (t : TableId) (l : Limits 16) (n k : ℕ) (ps : List Pass) (p : Pass) → AreAt t l n k ps → IsAt t l n (k + length ps) p
+    → AreAt t l n k (ps ++ p ∷ [])
 are-snoc t l n k [] p all one = (subst (λ m. IsAt t l n m p) (omega arith) one, tt)
 are-snoc t l n k (q ∷ ps) p all one = (all.0, are-snoc t l n (k + 1) ps p all.1 (subst (λ m. IsAt t l n m p) (omega arith) one))
 
@@ -37,21 +39,32 @@ blank-snoc [] p all one = (one, tt)
 blank-snoc (q ∷ ps) p all one = (all.0, blank-snoc ps p all.1 one)
 
 -- by place, and back
-are-each : (c : Cell 16 34) (k : ℕ) (ps : List Pass) → AreAt (name_of c) (limits_of c) (callers_of c) k ps → (i : ℕ) (d : Pass) → i < length ps → IsNumbered c (k + i) (get_or ps i d)
+are-each : (c : Cell 16 34) (k : ℕ) (ps : List Pass) → AreAt (name_of c) (limits_of c) (callers_of c) k ps → (i : ℕ) (d : Pass)
+    → i < length ps → IsNumbered c (k + i) (get_or ps i d)
 are-each c k [] all i d below = absurd (omega arith)
 are-each c k (p ∷ ps) all zero d below = record { pass = all.0.pass; number = all.0.number ∙ omega arith }
-are-each c k (p ∷ ps) all (suc i) d below = subst (λ m. IsNumbered c m (get_or ps i d)) (omega arith) (are-each c (k + 1) ps all.1 i d (omega arith))
+are-each c k (p ∷ ps) all (suc i) d below =
+    subst (λ m. IsNumbered c m (get_or ps i d)) (omega arith) (are-each c (k + 1) ps all.1 i d (omega arith))
 
-pub are-all : (c : Cell 16 34) (ps : List Pass) → length ps ≡ callers_of c → AreAt (name_of c) (limits_of c) (callers_of c) 0 ps → AreAllOf c ps
-are-all c ps len all = record { len = len; each = λ k d below. subst (λ m. IsNumbered c m (get_or ps k d)) (omega arith) (are-each c 0 ps all k d below) }
+pub are-all : (c : Cell 16 34) (ps : List Pass) → length ps ≡ callers_of c → AreAt (name_of c) (limits_of c) (callers_of c) 0 ps
+    → AreAllOf c ps
+are-all c ps len all = record {
+  len = len;
+  each =
+      λ k d below. subst (λ m. IsNumbered c m (get_or ps k d)) (omega arith) (are-each c 0 ps all k d below);
+}
 
-pub are-at : (c : Cell 16 34) (k : ℕ) (ps : List Pass) → ((i : ℕ) (d : Pass) → i < length ps → IsNumbered c (k + i) (get_or ps i d)) → AreAt (name_of c) (limits_of c) (callers_of c) k ps
+pub are-at : (c : Cell 16 34) (k : ℕ) (ps : List Pass) → ((i : ℕ) (d : Pass) → i < length ps → IsNumbered c (k + i) (get_or ps i d))
+    → AreAt (name_of c) (limits_of c) (callers_of c) k ps
 are-at c k [] each = tt
 are-at c k (p ∷ ps) each =
-    let one = each zero p (omega arith) in
-    (record { pass = one.pass; number = one.number ∙ omega arith }, are-at c (k + 1) ps (λ i d below. subst (λ m. IsNumbered c m (get_or ps i d)) (omega arith) (each (suc i) d (omega arith))))
+    let one = each zero p (omega arith) in (
+      record { pass = one.pass; number = one.number ∙ omega arith },
+      are-at c (k + 1) ps (λ i d below. subst (λ m. IsNumbered c m (get_or ps i d)) (omega arith) (each (suc i) d (omega arith))),
+    )
 
-pub blank-each : (ps : List Pass) → AreBlank ps → (i : ℕ) (d : Pass) → i < length ps → (seen_of (get_or ps i d) ≡ []) × (mine_of (get_or ps i d) ≡ [])
+pub blank-each : (ps : List Pass) → AreBlank ps → (i : ℕ) (d : Pass) → i < length ps
+    → (seen_of (get_or ps i d) ≡ []) × (mine_of (get_or ps i d) ≡ [])
 blank-each [] all i d below = absurd (omega arith)
 blank-each (p ∷ ps) all zero d below = all.0
 blank-each (p ∷ ps) all (suc i) d below = blank-each ps all.1 i d (omega arith)
@@ -62,7 +75,8 @@ other-none n k [] apart = refl
 other-none n k (x ∷ xs) apart = go (nat_eq x.caller n) refl (other-none n k xs apart)
   where
     go : (b : Bool) → nat_eq x.caller n ≡ b → calls_by k (calls_by n xs) ≡ [] → calls_by k (cond b (x ∷ calls_by n xs) (calls_by n xs)) ≡ []
-    go true is ih = ap (λ c. cond c (x ∷ calls_by k (calls_by n xs)) (calls_by k (calls_by n xs))) (ne_eqb x.caller k (λ e. apart (sym (eqb-true x.caller n is) ∙ e))) ∙ ih
+    go true is ih = ap (λ c. cond c (x ∷ calls_by k (calls_by n xs)) (calls_by k (calls_by n xs)))
+        (ne_eqb x.caller k (λ e. apart (sym (eqb-true x.caller n is) ∙ e))) ∙ ih
     go false is ih = ih
 
 none-by : (t : TableId) (l : Limits 16) (n k m : ℕ) (p : Pass) → IsAt t l n k p → k ≢ m → calls_by m (mine_of p) ≡ []
@@ -72,10 +86,13 @@ none-by t l n k m p at apart = sym (ap (calls_by m) at.pass.own) ∙ other-none 
 none-before : (t : TableId) (l : Limits 16) (n k m : ℕ) (ps : List Pass) → AreAt t l n k ps → m < k → calls_by m (all_mine ps) ≡ []
 none-before t l n k m [] all below = refl
 none-before t l n k m (p ∷ ps) all below =
-    calls_by-append m (mine_of p) (all_mine ps) ∙ ap (λ xs. xs ++ calls_by m (all_mine ps)) (none-by t l n k m p all.0 (λ e. omega arith)) ∙ none-before t l n (k + 1) m ps all.1 (omega arith)
+    calls_by-append m (mine_of p) (all_mine ps)
+    ∙ ap (λ xs. xs ++ calls_by m (all_mine ps)) (none-by t l n k m p all.0 (λ e. omega arith))
+    ∙ none-before t l n (k + 1) m ps all.1 (omega arith)
 
 -- of each caller all own calls together have just its own
-pub own-mines : (t : TableId) (l : Limits 16) (n k : ℕ) (ps : List Pass) → AreAt t l n k ps → (i : ℕ) (d : Pass) → i < length ps → calls_by (k + i) (all_mine ps) ≡ mine_of (get_or ps i d)
+pub own-mines : (t : TableId) (l : Limits 16) (n k : ℕ) (ps : List Pass) → AreAt t l n k ps → (i : ℕ) (d : Pass) → i < length ps
+    → calls_by (k + i) (all_mine ps) ≡ mine_of (get_or ps i d)
 own-mines t l n k [] all i d below = absurd (omega arith)
 own-mines t l n k (p ∷ ps) all zero d below =
     calls_by-append (k + 0) (mine_of p) (all_mine ps)
@@ -95,11 +112,17 @@ own-mines t l n k (p ∷ ps) all (suc i) d below =
 -- grants of which no caller has any are none
 none-held : (held : List Holding) → ((n : ℕ) → held_by n held ≡ []) → held ≡ []
 none-held [] none = refl
-none-held (a ∷ held) none = absurd (some (held_by a.caller held) (sym (ap (λ b. cond b (a ∷ held_by a.caller held) (held_by a.caller held)) (eq-eqb a.caller a.caller refl)) ∙ none a.caller))
+none-held (a ∷ held) none =
+    absurd (some (held_by a.caller held)
+    (sym (ap (λ b. cond b (a ∷ held_by a.caller held) (held_by a.caller held)) (eq-eqb a.caller a.caller refl)) ∙ none a.caller))
   where
     some : (xs : List Holding) → a ∷ xs ≡ [] → ⊥
     some xs e = let n = ap length e in omega arith
 
 -- nothing is outstanding where each caller has given back what it took
-pub all-back : (es : List CallEntry) (ps : List Pass) (n : ℕ) → length ps ≡ n → AreByCallersBelow n es → HasEachMine es ps → ((i : ℕ) (d : Pass) → i < length ps → outstanding (mine_of (get_or ps i d)) ≡ []) → Pass → outstanding es ≡ []
-all-back es ps n len below each back d = none-held (outstanding es) (λ k. holds-by-own-calls k es ∙ dite (dec_le n k) (λ far. ap outstanding (below k far)) (λ near. let i = lt_of_not-le near in ap outstanding (each k d (omega arith)) ∙ back k d (omega arith)))
+pub all-back : (es : List CallEntry) (ps : List Pass) (n : ℕ) → length ps ≡ n → AreByCallersBelow n es → HasEachMine es ps
+    → ((i : ℕ) (d : Pass) → i < length ps → outstanding (mine_of (get_or ps i d)) ≡ []) → Pass → outstanding es ≡ []
+all-back es ps n len below each back d =
+    none-held (outstanding es)
+    (λ k. holds-by-own-calls k es ∙ dite (dec_le n k) (λ far. ap outstanding (below k far)) (λ near. let i = lt_of_not-le near in
+    ap outstanding (each k d (omega arith)) ∙ back k d (omega arith)))

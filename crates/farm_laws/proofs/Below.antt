@@ -1,7 +1,8 @@
 -- A host that a job has taken is an entry of its list.
 use Rattle.std.proofs.Common.{◌≡◌, ℕ, ◌<◌, List, [], ◌∷◌, ◌++◌, Some, None, subst}
 use Rattle.farm_machine.specs.declared.reports.End.{End}
-use Rattle.farm_machine.specs.Acts.{SlotEvent, Takes, Gives, GivesBad, FindsDown, TakesLocal, GivesLocal, Act, Did, Met, slots_of, Loan, loan_after, loan_of}
+use Rattle.farm_machine.specs.Acts.{SlotEvent, Takes, Gives, GivesBad, FindsDown, TakesLocal, GivesLocal, Act, Did, Met, slots_of, Loan}
+use Rattle.farm_machine.specs.Acts.{loan_after, loan_of}
 use Rattle.farm_machine.specs.Jobs.{Job, host_count}
 use Rattle.farm_machine.specs.Course.{At, Start, Send, Next, From, Course}
 
@@ -22,7 +23,8 @@ next-below j at c FindsDown h = tt
 next-below j at c TakesLocal h = tt
 next-below j at c GivesLocal h = tt
 
-front-below : (j : Job) (at : At) (acts rest : List Act) (end : End) → From j at (acts ++ rest) end → AreBelow (host_count j) (slots_of acts)
+front-below : (j : Job) (at : At) (acts rest : List Act) (end : End) → From j at (acts ++ rest) end
+    → AreBelow (host_count j) (slots_of acts)
 front-below j at [] rest end from = tt
 front-below j at (Did d ∷ acts) rest end (c, next, from) = front-below j c acts rest end from
 front-below j at (Met x ∷ acts) rest end (c, next, from) = (next-below j at c x next, front-below j c acts rest end from)
@@ -44,5 +46,7 @@ loan-below n (x ∷ xs) loan h below = loan-below n xs (loan_after loan x) (one 
     one TakesLocal h below = tt
     one GivesLocal h below = tt
 
-pub lent-below : (j : Job) (acts rest : List Act) (end : End) (host : ℕ) → Course j (acts ++ rest) end → loan_of None (slots_of acts) ≡ Some (Some host) → host < host_count j
-lent-below j acts rest end host course is = subst (LoanBelow (host_count j)) is (loan-below (host_count j) (slots_of acts) None tt (front-below j Start acts rest end course))
+pub lent-below : (j : Job) (acts rest : List Act) (end : End) (host : ℕ) → Course j (acts ++ rest) end
+    → loan_of None (slots_of acts) ≡ Some (Some host) → host < host_count j
+lent-below j acts rest end host course is =
+    subst (LoanBelow (host_count j)) is (loan-below (host_count j) (slots_of acts) None tt (front-below j Start acts rest end course))

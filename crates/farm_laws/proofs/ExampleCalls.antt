@@ -25,8 +25,41 @@ used (suc (suc (suc j))) h = absurd (omega arith)
 
 pub agrees : Agrees limits reports (wanted limits) calls
 agrees = record {
-  legal = (record { reply = refl; may = refl }, (record { reply = refl; may = refl }, (record { reply = refl; may = refl }, (record { reply = refl; may = refl }, (record { reply = refl; may = refl }, (record { reply = refl; may = refl }, (record { reply = refl; may = refl }, (record { reply = refl; may = refl }, (record { reply = refl; may = refl }, (record { reply = refl; may = refl }, tt))))))))));
-  follow = (refl, (refl, ((refl, mask-is, refl), ((refl, mask-is, (Takes 0, refl, inr (0, refl))), ((refl, tt, refl), ((refl, mask-is, refl), (refl, ((refl, tt, refl), (tt, (tt, tt))))))))));
+  legal = (
+    record { reply = refl; may = refl },
+    (
+      record { reply = refl; may = refl },
+      (
+        record { reply = refl; may = refl },
+        (
+          record { reply = refl; may = refl },
+          (
+            record { reply = refl; may = refl },
+            (
+              record { reply = refl; may = refl },
+              (
+                record { reply = refl; may = refl },
+                (record { reply = refl; may = refl }, (record { reply = refl; may = refl }, (record { reply = refl; may = refl }, tt))),
+              ),
+            ),
+          ),
+        ),
+      ),
+    ),
+  );
+  follow = (
+    refl,
+    (
+      refl,
+      (
+        (refl, mask-is, refl),
+        (
+          (refl, mask-is, (Takes 0, refl, inr (0, refl))),
+          ((refl, tt, refl), ((refl, mask-is, refl), (refl, ((refl, tt, refl), (tt, (tt, tt)))))),
+        ),
+      ),
+    ),
+  );
   drawn = refl;
   used = used;
 }

@@ -39,11 +39,13 @@ record Says (j : Job) (first words : List (List ℕ)) (name : List ℕ) : Type 0
   sent : stripped j.words ≡ words
   output : name ≡ output_name j
 
-first-says : Says (jobs 0) (codes "cc" ∷ codes "-E" ∷ codes "a.c" ∷ []) (codes "cc" ∷ codes "-c" ∷ codes "a.c" ∷ codes "-o" ∷ codes "a.o" ∷ []) (codes "a.o")
+first-says : Says (jobs 0) (codes "cc" ∷ codes "-E" ∷ codes "a.c" ∷ [])
+    (codes "cc" ∷ codes "-c" ∷ codes "a.c" ∷ codes "-o" ∷ codes "a.o" ∷ []) (codes "a.o")
 unfolding role_of gcc_rows
 first-says = record { may = refl; ready = refl; preprocessing = refl; sent = refl; output = refl }
 
-last-says : Says (jobs 2) (codes "cc" ∷ codes "-E" ∷ codes "b.c" ∷ []) (codes "cc" ∷ codes "-c" ∷ codes "b.c" ∷ codes "-o" ∷ codes "b.o" ∷ []) (codes "b.o")
+last-says : Says (jobs 2) (codes "cc" ∷ codes "-E" ∷ codes "b.c" ∷ [])
+    (codes "cc" ∷ codes "-c" ∷ codes "b.c" ∷ codes "-o" ∷ codes "b.o" ∷ []) (codes "b.o")
 unfolding role_of gcc_rows
 last-says = record { may = refl; ready = refl; preprocessing = refl; sent = refl; output = refl }
 
@@ -52,7 +54,9 @@ fits = record {
   some = omega arith;
   count = omega arith;
   words_fit = record {
-    each = All-from_recursion (λ (word : List ℕ). length word ≤ 65536) (codes "cc" ∷ codes "-c" ∷ codes "a.c" ∷ codes "-o" ∷ codes "a.o" ∷ []) (omega arith, (omega arith, (omega arith, (omega arith, (omega arith, tt)))));
+    each = All-from_recursion (λ (word : List ℕ). length word ≤ 65536)
+        (codes "cc" ∷ codes "-c" ∷ codes "a.c" ∷ codes "-o" ∷ codes "a.o" ∷ [])
+        (omega arith, (omega arith, (omega arith, (omega arith, (omega arith, tt)))));
     together = omega arith;
   };
   source_fits = omega arith;
@@ -67,7 +71,14 @@ begun = record { host = refl; port = refl; unsent = []; prefix = sym (append-nil
 spelled : BeginsReply answered.given (length answered.given) outcome
 spelled =
     let P : List ℕ → Type 0 = λ text. BeginsReply text (length (reply_text outcome)) outcome in
-    subst P (append-nil (reply_text outcome)) (written_again outcome [] record { err_fits = omega arith; out_fits = omega arith; object_fits = omega arith; failure = λ failed. absurd (failed refl) } (omega arith))
+    subst P (append-nil (reply_text outcome))
+    (written_again outcome [] record {
+      err_fits = omega arith;
+      out_fits = omega arith;
+      object_fits = omega arith;
+      failure =
+          λ failed. absurd (failed refl);
+    } (omega arith))
 
 whole : IsWholeWith (jobs 0) answered (codes "int a;") 0 outcome
 whole = record { begun = begun; dialed = refl; sent = refl; used = length answered.given; spelled = spelled }
@@ -92,7 +103,11 @@ compiled-course = (
 )
 
 failed-course : Course (jobs 2) (Did (ran not_preprocessed) ∷ []) (Done 256 [] (codes "b.c: none") [] Cpp)
-failed-course = (Over (Done 256 [] (codes "b.c: none") [] Cpp), (last-says.may, last-says.ready, (last-says.preprocessing, refl), refl), refl)
+failed-course = (
+  Over (Done 256 [] (codes "b.c: none") [] Cpp),
+  (last-says.may, last-says.ready, (last-says.preprocessing, refl), refl),
+  refl,
+)
 
 pub courses : (j : ℕ) → j < 3 → Course (jobs j) (acts_of j) (end_of j)
 courses zero below = compiled-course

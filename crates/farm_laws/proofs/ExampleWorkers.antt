@@ -26,7 +26,8 @@ worked zero below = (
   refl,
 )
 worked (suc zero) below = (
-  entry 1 Draw (Drawn (Some 1)) ∷ entry 1 (Take 1 all_hosts 100) Full ∷ entry 1 (Take 1 all_hosts 101) (Got 0) ∷ entry 1 (Give 0 1) Given ∷ [],
+  entry 1 Draw (Drawn (Some 1)) ∷ entry 1 (Take 1 all_hosts 100) Full ∷ entry 1 (Take 1 all_hosts 101) (Got 0) ∷ entry 1 (Give 0 1)
+      Given ∷ [],
   (
     entry 1 (Take 1 all_hosts 100) Full ∷ entry 1 (Take 1 all_hosts 101) (Got 0) ∷ entry 1 (Give 0 1) Given ∷ [],
     [],
@@ -47,13 +48,20 @@ none-by : (n worker : ℕ) (es : List CallEntry) → AreBelow n es → n ≤ wor
 none-by n worker [] below above = refl
 none-by n worker (e ∷ es) below above =
     let caller = below.0 in
-    ap (λ (b : Bool). cond b (e ∷ calls_by worker es) (calls_by worker es)) (ne_eqb e.caller worker (λ same. absurd (omega (arith, caller, above, same)))) ∙ none-by n worker es below.1 above
+    ap (λ (b : Bool). cond b (e ∷ calls_by worker es) (calls_by worker es))
+    (ne_eqb e.caller worker (λ same. absurd (omega (arith, caller, above, same)))) ∙ none-by n worker es below.1 above
 
 pub all-worked : AllWorked (wanted limits) 2 done_by calls
 all-worked = record {
   some = omega arith;
   each = worked;
-  others = λ worker above. none-by 2 worker calls (omega arith, (omega arith, (omega arith, (omega arith, (omega arith, (omega arith, (omega arith, (omega arith, (omega arith, (omega arith, tt)))))))))) above;
+  others = λ worker above. none-by 2 worker calls (
+    omega arith,
+    (
+      omega arith,
+      (omega arith, (omega arith, (omega arith, (omega arith, (omega arith, (omega arith, (omega arith, (omega arith, tt)))))))),
+    ),
+  ) above;
 }
 
 did-courses : DidCourses jobs 2 done_by

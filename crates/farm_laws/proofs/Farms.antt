@@ -13,7 +13,7 @@ use Rattle.farm_machine.specs.Weave.{no_progress, weave}
 use Rattle.farm_machine.specs.Farm.{is_as_wanted, farm_of, IsOf, WeaveLaw, AllBackLaw}
 use Rattle.course_laws.proofs.Courses.{take-where-down}
 use Rattle.farm_laws.proofs.NothingLost.{calls-from}
-use Rattle.farm_laws.proofs.Kept.{run-law}
+use Rattle.farm_laws.proofs.KeptByAll.{run-law}
 use Rattle.farm_laws.proofs.Woven.{TakesWhereDown, woven}
 
 -- what all of a range pass, each of it does
@@ -34,11 +34,18 @@ fresh false is e h = refl
 
 takes-where-down : {h : ℕ} (l : Limits h) (jobs : ℕ → Job) → IsOf l jobs → TakesWhereDown l (farm_of l jobs)
 takes-where-down l jobs of j acts host mask inside below is_in is_wanted may =
-    let new : took host (slots_of acts) ≡ false = fresh (took host (slots_of acts)) (in_mask mask host) is_in (all-range (is_as_wanted (slots_of acts) mask) 0 l.count is_wanted host (omega arith) (omega (arith, below))) in
-    (Met (Gives host) ∷ [], Failed Memory, take-where-down (jobs j) host acts may.0 may.1 (let e = of.count j inside in omega (arith, e, below)) new may.2)
+    let new : took host (slots_of acts) ≡ false =
+    fresh (took host (slots_of acts)) (in_mask mask host) is_in
+    (all-range (is_as_wanted (slots_of acts) mask) 0 l.count is_wanted host (omega arith) (omega (arith, below))) in (
+      Met (Gives host) ∷ [],
+      Failed Memory,
+      take-where-down (jobs j) host acts may.0 may.1 (let e = of.count j inside in
+          omega (arith, e, below)) new may.2,
+    )
 
 pub weave-law : WeaveLaw
 weave-law h l jobs r calls of courses agrees = woven (farm_of l jobs) l r calls (takes-where-down l jobs of) courses agrees
 
 pub all-back : AllBackLaw
-all-back h l jobs r calls of courses agrees = ap outstanding (sym (calls-from r calls (no_progress r))) ∙ run-law h l jobs (weave calls r) of (weave-law h l jobs r calls of courses agrees)
+all-back h l jobs r calls of courses agrees = ap outstanding (sym (calls-from r calls (no_progress r)))
+    ∙ run-law h l jobs (weave calls r) of (weave-law h l jobs r calls of courses agrees)

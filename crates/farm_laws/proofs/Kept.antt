@@ -1,6 +1,6 @@
 -- What each step of the machine keeps.
-use Rattle.std.proofs.Common.{◌≡◌, ◌≢◌, inl, inr, ℕ, ◌+◌, ◌<◌, ◌≤◌, Bool, true, false, ◌&&◌, not, cond, List, [], ◌∷◌, ◌++◌, Option, Some, None, nat_eq, refl, sym, ap, ◌∙◌, subst, arith, append_assoc, eq-eqb}
-use Rattle.std.specs.List.{range_with_len}
+use Rattle.std.proofs.Common.{◌≡◌, ◌≢◌, inl, inr, ℕ, ◌+◌, ◌<◌, ◌≤◌, Bool, true, false, ◌&&◌, not, cond, List, [], ◌∷◌, ◌++◌, Option, Some}
+use Rattle.std.proofs.Common.{None, nat_eq, refl, sym, ap, ◌∙◌, subst, arith, append_assoc, eq-eqb}
 use Rattle.std.proofs.lemmas.Bool.{cases_lt}
 use Rattle.slot_table.specs.declared.limits.Limits.{Limits}
 use Rattle.slot_table.specs.declared.state.SlotState.{SlotState}
@@ -10,23 +10,23 @@ use Rattle.slot_table.specs.declared.calls.SlotCall.TheVariants.{Draw, Take, Giv
 use Rattle.slot_table.specs.declared.calls.SlotReply.{SlotReply}
 use Rattle.slot_table.specs.declared.calls.SlotReply.TheVariants.{Drawn, Got, Full, Down, Local, Given}
 use Rattle.slot_table.specs.Limits.{is_local}
-use Rattle.slot_table.specs.Step.{slot_step}
-use Rattle.slot_table.specs.History.{Holding, holding, host_eq, without, has, Change, Keeps, Takes as Taking, Gives as Giving, change, changed, outstanding_then, outstanding_from, outstanding, state_from, may_call, IsLegalFrom}
-use Rattle.slot_table.specs.Laws.{SlotsAgree}
-use Rattle.slot_table.proofs.Keeps.{state-agrees}
-use Rattle.slot_table.proofs.Draws.{draws-in-order}
+use Rattle.slot_table.specs.History.{Holding, holding, host_eq, without, has, Change, Keeps, Takes as Taking, Gives as Giving, change}
+use Rattle.slot_table.specs.History.{changed, outstanding, may_call}
 use Rattle.slot_table.proofs.Holdings.{host_eq-refl}
 use Rattle.farm_machine.specs.declared.reports.End.{End}
-use Rattle.farm_machine.specs.Acts.{SlotEvent, Takes, Gives, GivesBad, FindsDown, TakesLocal, GivesLocal, Act, Did, Met, slots_of, Loan, loan_of, IsTurn}
+use Rattle.farm_machine.specs.Acts.{SlotEvent, Takes, Gives, GivesBad, FindsDown, TakesLocal, GivesLocal, Act, Met, slots_of, Loan}
+use Rattle.farm_machine.specs.Acts.{loan_of, IsTurn}
 use Rattle.farm_machine.specs.Jobs.{Job, host_count, is_local_host}
 use Rattle.farm_machine.specs.Course.{Course}
-use Rattle.farm_machine.specs.Machine.{JobCall, Draws, Adds, Waits, Mismatched, job_call, job_call_of, set_at, JobState, NotBegun, Begun, Returned, FarmState, start, FarmStep, Calls, Does, Returns, with_act, jobs_after, after, after_steps, calls_in, Farm, MayCall, IsAllowedFrom}
-use Rattle.farm_machine.specs.Farm.{farm_of, IsOf, times, is_loan, lent, Kept, KeptLaw, PrefixLaw, RunLaw}
-use Rattle.course_laws.proofs.Courses.{turn-at, nothing-out, loan-met, loan-did}
+use Rattle.farm_machine.specs.Machine.{JobCall, Draws, Adds, Waits, Mismatched, job_call, set_at, JobState, NotBegun, Begun}
+use Rattle.farm_machine.specs.Machine.{FarmState, with_act, jobs_after, after}
+use Rattle.farm_machine.specs.Machine.{Farm, MayCall}
+use Rattle.farm_machine.specs.Farm.{farm_of, IsOf, times, is_loan, lent, Kept}
+use Rattle.course_laws.proofs.Courses.{turn-at, loan-met}
 use Rattle.farm_laws.proofs.Below.{lent-below}
 use Rattle.farm_laws.proofs.SetAt.{set_at-elim, set_at-other}
-use Rattle.farm_laws.proofs.Draws.{NextIs, next_is}
-use Rattle.farm_laws.proofs.Grants.{times-without, times-has, none-outstanding, other-job, same-job, and-false}
+use Rattle.farm_laws.proofs.Draws.{NextIs}
+use Rattle.farm_laws.proofs.Grants.{times-without, times-has, other-job, same-job, and-false}
 
 -- what a call does to the grants, by what it is for its job
 abbrev pub effect : JobCall → Change
@@ -45,7 +45,7 @@ abbrev IsRemoteCall : {h : ℕ} → Limits h → JobCall → Type 0
 IsRemoteCall l (Adds j mask (GivesBad host until)) = is_local l host ≡ false
 IsRemoteCall l a = Unit {0}
 
-change-is : (call : SlotCall) (reply : SlotReply) → IsMatched (job_call call reply) → change call reply ≡ effect (job_call call reply)
+pub change-is : (call : SlotCall) (reply : SlotReply) → IsMatched (job_call call reply) → change call reply ≡ effect (job_call call reply)
 change-is Draw (Drawn o) h = refl
 change-is (Take job mask now) (Got host) h = refl
 change-is (Take job mask now) Down h = refl
@@ -63,7 +63,8 @@ IsOut caller out Keeps = Unit {0}
 IsOut caller out (Taking job host) = Unit {0}
 IsOut caller out (Giving job host) = has (holding caller job host) out ≡ true
 
-may-call : {h : ℕ} (l : Limits h) (v : ℕ) (o : List Holding) (call : SlotCall) (reply : SlotReply) → IsMatched (job_call call reply) → IsOut v o (effect (job_call call reply)) → IsRemoteCall l (job_call call reply) → may_call l v o call ≡ true
+pub may-call : {h : ℕ} (l : Limits h) (v : ℕ) (o : List Holding) (call : SlotCall) (reply : SlotReply) → IsMatched (job_call call reply)
+    → IsOut v o (effect (job_call call reply)) → IsRemoteCall l (job_call call reply) → may_call l v o call ≡ true
 may-call l v o Draw (Drawn job) h out r = refl
 may-call l v o (Take job mask now) (Got host) h out r = refl
 may-call l v o (Take job mask now) Down h out r = refl
@@ -76,31 +77,38 @@ may-call l v o (GiveLocal job) Given h out r = out
 may-call l v o call reply h out r = absurd h
 
 -- A begun job goes on to another state, in which it is begun by the same worker or no longer begun.
-moved : {h : ℕ} (f : Farm) (l : Limits h) (o o' : List Holding) (w : FarmState h) (s : SlotState h) (j v : ℕ) (acts : List Act) (state : JobState) → Kept f l o w → s.next ≡ w.slots.next → w.jobs j ≡ Begun v acts → state ≢ NotBegun
+pub moved : {h : ℕ} (f : Farm) (l : Limits h) (o o' : List Holding) (w : FarmState h) (s : SlotState h) (j v : ℕ) (acts : List Act)
+    (state : JobState) → Kept f l o w → s.next ≡ w.slots.next → w.jobs j ≡ Begun v acts → state ≢ NotBegun
     → ((u : ℕ) (a : List Act) → state ≡ Begun u a → (u ≡ v) × ((rest : List Act) × (end : End) × f.Course j (a ++ rest) end))
     → ((x : Holding) → x.job ≡ j → times x o' ≡ lent state x) → ((x : Holding) → x.job ≢ j → times x o' ≡ times x o)
     → Kept f l o' (record { slots = s; jobs = set_at w.jobs j state })
 moved f l o o' w s j v acts state kept next begun not_waiting goes here there = record {
-  ahead = λ k above. let apart : k ≢ j = λ e. let is : Begun v acts ≡ NotBegun = sym begun ∙ ap w.jobs (sym e) ∙ kept.ahead k (omega arith) in cc in set_at-other w.jobs j state k apart ∙ kept.ahead k (omega arith);
+  ahead = λ k above. let apart : k ≢ j = λ e. let is : Begun v acts ≡ NotBegun = sym begun ∙ ap w.jobs (sym e)
+      ∙ kept.ahead k (omega arith) in cc in set_at-other w.jobs j state k apart ∙ kept.ahead k (omega arith);
   drawn = λ k below. set_at-elim (λ st. st ≢ NotBegun) w.jobs j state k (λ e. not_waiting) (λ n. kept.drawn k (omega arith));
   below = let top : w.slots.next ≤ l.jobs = kept.below in omega arith;
   one = λ u i k a b. set_at-elim (λ st. st ≡ Begun u a → set_at w.jobs j state k ≡ Begun u b → i ≡ k) w.jobs j state i
-      (λ at is. set_at-elim (λ st. st ≡ Begun u b → i ≡ k) w.jobs j state k (λ at' is'. at ∙ sym at') (λ n is'. let e : u ≡ v = (goes u a is).0 in at ∙ kept.one u j k acts b (begun ∙ ap (λ (z : ℕ). Begun z acts) (sym e)) is'))
-      (λ n is. set_at-elim (λ st. st ≡ Begun u b → i ≡ k) w.jobs j state k (λ at' is'. let e : u ≡ v = (goes u b is').0 in kept.one u i j a acts is (begun ∙ ap (λ (z : ℕ). Begun z acts) (sym e)) ∙ sym at') (λ n' is'. kept.one u i k a b is is'));
+      (λ at is. set_at-elim (λ st. st ≡ Begun u b → i ≡ k) w.jobs j state k (λ at' is'. at ∙ sym at') (λ n is'. let e : u ≡ v =
+      (goes u a is).0 in at ∙ kept.one u j k acts b (begun ∙ ap (λ (z : ℕ). Begun z acts) (sym e)) is'))
+      (λ n is. set_at-elim (λ st. st ≡ Begun u b → i ≡ k) w.jobs j state k (λ at' is'. let e : u ≡ v = (goes u b is').0 in
+      kept.one u i j a acts is (begun ∙ ap (λ (z : ℕ). Begun z acts) (sym e)) ∙ sym at') (λ n' is'. kept.one u i k a b is is'));
   course = λ k u a. set_at-elim (λ st. st ≡ Begun u a → (rest : List Act) × (end : End) × f.Course k (a ++ rest) end) w.jobs j state k
       (λ at is. subst (λ (i : ℕ). (rest : List Act) × (end : End) × f.Course i (a ++ rest) end) (sym at) (goes u a is).1)
       (λ n is. kept.course k u a is);
   lent = λ x. set_at-elim (λ st. times x o' ≡ lent st x) w.jobs j state x.job (λ at. here x at) (λ n. there x n ∙ kept.lent x);
 }
 
-lent-none : (by : ℕ) (acts : List Act) (x : Holding) → loan_of None (slots_of acts) ≡ None → lent (Begun by acts) x ≡ 0
-lent-none by acts x e = ap (λ (loan : Loan). cond (nat_eq x.caller by && is_loan loan x.host) 1 0) e ∙ ap (λ (b : Bool). cond b 1 0) (and-false (nat_eq x.caller by))
+pub lent-none : (by : ℕ) (acts : List Act) (x : Holding) → loan_of None (slots_of acts) ≡ None → lent (Begun by acts) x ≡ 0
+lent-none by acts x e = ap (λ (loan : Loan). cond (nat_eq x.caller by && is_loan loan x.host) 1 0) e
+    ∙ ap (λ (b : Bool). cond b 1 0) (and-false (nat_eq x.caller by))
 
-lent-some : (by : ℕ) (acts : List Act) (x : Holding) (host : Option ℕ) → loan_of None (slots_of acts) ≡ Some host → lent (Begun by acts) x ≡ cond (nat_eq x.caller by && host_eq x.host host) 1 0
+lent-some : (by : ℕ) (acts : List Act) (x : Holding) (host : Option ℕ) → loan_of None (slots_of acts) ≡ Some host
+    → lent (Begun by acts) x ≡ cond (nat_eq x.caller by && host_eq x.host host) 1 0
 lent-some by acts x host e = ap (λ (loan : Loan). cond (nat_eq x.caller by && is_loan loan x.host) 1 0) e
 
 -- the grants after a take
-took-here : (o : List Holding) (v j : ℕ) (host : Option ℕ) (acts acts' : List Act) (x : Holding) → times x o ≡ lent (Begun v acts) x → loan_of None (slots_of acts) ≡ None → loan_of None (slots_of acts') ≡ Some host → x.job ≡ j
+took-here : (o : List Holding) (v j : ℕ) (host : Option ℕ) (acts acts' : List Act) (x : Holding) → times x o ≡ lent (Begun v acts) x
+    → loan_of None (slots_of acts) ≡ None → loan_of None (slots_of acts') ≡ Some host → x.job ≡ j
     → times x (holding v j host ∷ o) ≡ lent (Begun v acts') x
 took-here o v j host acts acts' x was none some at =
     ap (λ (b : Bool). cond b (times x o + 1) (times x o)) (same-job x v j host at)
@@ -111,70 +119,89 @@ took-there : (o : List Holding) (v j : ℕ) (host : Option ℕ) (x : Holding) �
 took-there o v j host x apart = ap (λ (b : Bool). cond b (times x o + 1) (times x o)) (other-job x v j host apart)
 
 -- what is to be given is out
-gave-out : (o : List Holding) (v j : ℕ) (host : Option ℕ) (acts : List Act) → times (holding v j host) o ≡ lent (Begun v acts) (holding v j host) → loan_of None (slots_of acts) ≡ Some host → has (holding v j host) o ≡ true
+gave-out : (o : List Holding) (v j : ℕ) (host : Option ℕ) (acts : List Act)
+    → times (holding v j host) o ≡ lent (Begun v acts) (holding v j host) → loan_of None (slots_of acts) ≡ Some host
+    → has (holding v j host) o ≡ true
 gave-out o v j host acts was some =
-    let e : lent (Begun v acts) (holding v j host) ≡ 1 = lent-some v acts (holding v j host) host some ∙ ap (λ (b : Bool). cond (b && host_eq host host) 1 0) (eq-eqb v v refl) ∙ ap (λ (b : Bool). cond b 1 0) (host_eq-refl host) in
+    let e : lent (Begun v acts) (holding v j host) ≡ 1 = lent-some v acts (holding v j host) host some
+    ∙ ap (λ (b : Bool). cond (b && host_eq host host) 1 0) (eq-eqb v v refl) ∙ ap (λ (b : Bool). cond b 1 0) (host_eq-refl host) in
     times-has (holding v j host) o (omega arith)
 
-gave-here : (o : List Holding) (v j : ℕ) (host : Option ℕ) (acts acts' : List Act) (x : Holding) → has (holding v j host) o ≡ true → times x o ≡ lent (Begun v acts) x → loan_of None (slots_of acts) ≡ Some host → loan_of None (slots_of acts') ≡ None → x.job ≡ j
+gave-here : (o : List Holding) (v j : ℕ) (host : Option ℕ) (acts acts' : List Act) (x : Holding) → has (holding v j host) o ≡ true
+    → times x o ≡ lent (Begun v acts) x → loan_of None (slots_of acts) ≡ Some host → loan_of None (slots_of acts') ≡ None → x.job ≡ j
     → times x (without (holding v j host) o) ≡ lent (Begun v acts') x
-gave-here o v j host acts acts' x is_in was some none at = go (nat_eq x.caller v && host_eq x.host host) refl ∙ sym (lent-none v acts' x none)
+gave-here o v j host acts acts' x is_in was some none at = go (nat_eq x.caller v && host_eq x.host host) refl
+    ∙ sym (lent-none v acts' x none)
   where
     less : (n : ℕ) → n + 1 ≡ 1 → n ≡ 0
     less n e = omega arith
 
     go : (b : Bool) → (nat_eq x.caller v && host_eq x.host host) ≡ b → times x (without (holding v j host) o) ≡ 0
-    go true is = less (times x (without (holding v j host) o)) (ap (λ (b : Bool). cond b (times x (without (holding v j host) o) + 1) (times x (without (holding v j host) o))) (sym (same-job x v j host at ∙ is)) ∙ sym (times-without x (holding v j host) o is_in) ∙ was ∙ lent-some v acts x host some ∙ ap (λ (b : Bool). cond b 1 0) is)
-    go false is = ap (λ (b : Bool). cond b (times x (without (holding v j host) o) + 1) (times x (without (holding v j host) o))) (sym (same-job x v j host at ∙ is)) ∙ sym (times-without x (holding v j host) o is_in) ∙ was ∙ lent-some v acts x host some ∙ ap (λ (b : Bool). cond b 1 0) is
+    go true is = less (times x (without (holding v j host) o))
+        (ap (λ (b : Bool). cond b (times x (without (holding v j host) o) + 1) (times x (without (holding v j host) o)))
+        (sym (same-job x v j host at ∙ is)) ∙ sym (times-without x (holding v j host) o is_in) ∙ was ∙ lent-some v acts x host some
+        ∙ ap (λ (b : Bool). cond b 1 0) is)
+    go false is = ap (λ (b : Bool). cond b (times x (without (holding v j host) o) + 1) (times x (without (holding v j host) o)))
+        (sym (same-job x v j host at ∙ is)) ∙ sym (times-without x (holding v j host) o is_in) ∙ was ∙ lent-some v acts x host some
+        ∙ ap (λ (b : Bool). cond b 1 0) is
 
-gave-there : (o : List Holding) (v j : ℕ) (host : Option ℕ) (x : Holding) → has (holding v j host) o ≡ true → x.job ≢ j → times x (without (holding v j host) o) ≡ times x o
-gave-there o v j host x is_in apart = sym (times-without x (holding v j host) o is_in ∙ ap (λ (b : Bool). cond b (times x (without (holding v j host) o) + 1) (times x (without (holding v j host) o))) (other-job x v j host apart))
+gave-there : (o : List Holding) (v j : ℕ) (host : Option ℕ) (x : Holding) → has (holding v j host) o ≡ true → x.job ≢ j
+    → times x (without (holding v j host) o) ≡ times x o
+gave-there o v j host x is_in apart =
+    sym (times-without x (holding v j host) o is_in
+    ∙ ap (λ (b : Bool). cond b (times x (without (holding v j host) o) + 1) (times x (without (holding v j host) o)))
+    (other-job x v j host apart))
 
--- the grants after an matchedt of a job
+-- the grants after an event of a job
 record After (o : List Holding) (v j : ℕ) (acts : List Act) (x : SlotEvent) : Type 0 where
   is_out : IsOut v o (effect (Adds j None x))
   here : (y : Holding) → y.job ≡ j → times y (changed v o (effect (Adds j None x))) ≡ lent (Begun v (acts ++ Met x ∷ [])) y
   there : (y : Holding) → y.job ≢ j → times y (changed v o (effect (Adds j None x))) ≡ times y o
 
-after-matchedt : (local : ℕ → Bool) (o : List Holding) (v j : ℕ) (acts : List Act) (x : SlotEvent) → ((y : Holding) → y.job ≡ j → times y o ≡ lent (Begun v acts) y) → IsTurn local (loan_of None (slots_of acts)) x → After o v j acts x
-after-matchedt local o v j acts (Takes host) was turn = record {
+after-event : (local : ℕ → Bool) (o : List Holding) (v j : ℕ) (acts : List Act) (x : SlotEvent)
+    → ((y : Holding) → y.job ≡ j → times y o ≡ lent (Begun v acts) y) → IsTurn local (loan_of None (slots_of acts)) x → After o v j acts x
+after-event local o v j acts (Takes host) was turn = record {
   is_out = tt;
   here = λ y at. took-here o v j (Some host) acts (acts ++ Met (Takes host) ∷ []) y (was y at) turn (loan-met acts (Takes host)) at;
   there = λ y apart. took-there o v j (Some host) y apart;
 }
-after-matchedt local o v j acts TakesLocal was turn = record {
+after-event local o v j acts TakesLocal was turn = record {
   is_out = tt;
   here = λ y at. took-here o v j None acts (acts ++ Met TakesLocal ∷ []) y (was y at) turn (loan-met acts TakesLocal) at;
   there = λ y apart. took-there o v j None y apart;
 }
-after-matchedt local o v j acts (Gives host) was turn =
+after-event local o v j acts (Gives host) was turn =
     let is_in = gave-out o v j (Some host) acts (was (holding v j (Some host)) refl) turn in
     record {
       is_out = is_in;
-      here = λ y at. gave-here o v j (Some host) acts (acts ++ Met (Gives host) ∷ []) y is_in (was y at) turn (loan-met acts (Gives host)) at;
+      here = λ y at. gave-here o v j (Some host) acts (acts ++ Met (Gives host) ∷ []) y is_in (was y at) turn
+          (loan-met acts (Gives host)) at;
       there = λ y apart. gave-there o v j (Some host) y is_in apart;
     }
-after-matchedt local o v j acts (GivesBad host until) was turn =
+after-event local o v j acts (GivesBad host until) was turn =
     let is_in = gave-out o v j (Some host) acts (was (holding v j (Some host)) refl) turn.0 in
     record {
       is_out = is_in;
-      here = λ y at. gave-here o v j (Some host) acts (acts ++ Met (GivesBad host until) ∷ []) y is_in (was y at) turn.0 (loan-met acts (GivesBad host until)) at;
+      here = λ y at. gave-here o v j (Some host) acts (acts ++ Met (GivesBad host until) ∷ []) y is_in (was y at) turn.0
+          (loan-met acts (GivesBad host until)) at;
       there = λ y apart. gave-there o v j (Some host) y is_in apart;
     }
-after-matchedt local o v j acts GivesLocal was turn =
+after-event local o v j acts GivesLocal was turn =
     let is_in = gave-out o v j None acts (was (holding v j None) refl) turn in
     record {
       is_out = is_in;
       here = λ y at. gave-here o v j None acts (acts ++ Met GivesLocal ∷ []) y is_in (was y at) turn (loan-met acts GivesLocal) at;
       there = λ y apart. gave-there o v j None y is_in apart;
     }
-after-matchedt local o v j acts FindsDown was turn = record {
+after-event local o v j acts FindsDown was turn = record {
   is_out = tt;
   here = λ y at. was y at ∙ lent-none v acts y turn ∙ sym (lent-none v (acts ++ Met FindsDown ∷ []) y (loan-met acts FindsDown ∙ turn));
   there = λ y apart. refl;
 }
 
-remote-turn : {h : ℕ} (l : Limits h) (jobs : ℕ → Job) → IsOf l jobs → (j : ℕ) (mask : Option Mask) (acts rest : List Act) (end : End) (x : SlotEvent) → j < l.jobs → Course (jobs j) (acts ++ Met x ∷ rest) end → IsTurn (is_local_host (jobs j)) (loan_of None (slots_of acts)) x
+remote-turn : {h : ℕ} (l : Limits h) (jobs : ℕ → Job) → IsOf l jobs
+    → (j : ℕ) (mask : Option Mask) (acts rest : List Act) (end : End) (x : SlotEvent) → j < l.jobs
+    → Course (jobs j) (acts ++ Met x ∷ rest) end → IsTurn (is_local_host (jobs j)) (loan_of None (slots_of acts)) x
     → IsRemoteCall l (Adds j mask x)
 remote-turn l jobs of j mask acts rest end (GivesBad host until) inside course turn =
     let below : host < host_count (jobs j) = lent-below (jobs j) acts (Met (GivesBad host until) ∷ rest) end host course turn.0 in
@@ -194,20 +221,24 @@ same-effect j mask TakesLocal = refl
 same-effect j mask GivesLocal = refl
 
 -- a begun job is one of the limits
-begun-inside : {h : ℕ} (f : Farm) (l : Limits h) (o : List Holding) (w : FarmState h) (j v : ℕ) (acts : List Act) → Kept f l o w → w.jobs j ≡ Begun v acts → j < l.jobs
+begun-inside : {h : ℕ} (f : Farm) (l : Limits h) (o : List Holding) (w : FarmState h) (j v : ℕ) (acts : List Act) → Kept f l o w
+    → w.jobs j ≡ Begun v acts → j < l.jobs
 begun-inside f l o w j v acts kept begun = elim (cases_lt j w.slots.next) [
   | inl below ↦ let top = kept.below in omega (arith, below, top)
   | inr above ↦ let e : Begun v acts ≡ NotBegun = sym begun ∙ kept.ahead j above in cc
 ]
 
 -- what a call keeps, and that it is legal
-record Called {h : ℕ} (l : Limits h) (jobs : ℕ → Job) (o : List Holding) (w : FarmState h) (s : SlotState h) (v : ℕ) (a : JobCall) : Type 0 where
+pub record Called {h : ℕ} (l : Limits h) (jobs : ℕ → Job) (o : List Holding) (w : FarmState h) (s : SlotState h) (v : ℕ)
+    (a : JobCall) : Type 0 where
   matched : IsMatched a
   is_out : IsOut v o (effect a)
   remote : IsRemoteCall l a
   kept : Kept (farm_of l jobs) l (changed v o (effect a)) (record { slots = s; jobs = jobs_after w.jobs v a })
 
-called : {h : ℕ} (l : Limits h) (jobs : ℕ → Job) → IsOf l jobs → (o : List Holding) (w : FarmState h) (s : SlotState h) (v : ℕ) (a : JobCall) → Kept (farm_of l jobs) l o w → NextIs l a w.slots.next s.next → MayCall (farm_of l jobs) w.jobs v a → Called l jobs o w s v a
+pub called : {h : ℕ} (l : Limits h) (jobs : ℕ → Job) → IsOf l jobs
+    → (o : List Holding) (w : FarmState h) (s : SlotState h) (v : ℕ) (a : JobCall) → Kept (farm_of l jobs) l o w
+    → NextIs l a w.slots.next s.next → MayCall (farm_of l jobs) w.jobs v a → Called l jobs o w s v a
 called l jobs of o w s v (Draws None) kept next may = record {
   matched = tt;
   is_out = tt;
@@ -233,10 +264,14 @@ called l jobs of o w s v (Draws (Some j)) kept next may =
         drawn = λ k below. set_at-elim (λ st. st ≢ NotBegun) w.jobs j (Begun v []) k (λ at e. cc) (λ n. kept.drawn k (omega arith));
         below = let top : w.slots.next < l.jobs = next.1 in omega arith;
         one = λ u i k a b. set_at-elim (λ st. st ≡ Begun u a → set_at w.jobs j (Begun v []) k ≡ Begun u b → i ≡ k) w.jobs j (Begun v []) i
-            (λ at is. set_at-elim (λ st. st ≡ Begun u b → i ≡ k) w.jobs j (Begun v []) k (λ at' is'. at ∙ sym at') (λ n is'. let e : v ≡ u = cc in absurd (may k b (is' ∙ ap (λ (z : ℕ). Begun z b) (sym e)))))
-            (λ n is. set_at-elim (λ st. st ≡ Begun u b → i ≡ k) w.jobs j (Begun v []) k (λ at' is'. let e : v ≡ u = cc in absurd (may i a (is ∙ ap (λ (z : ℕ). Begun z a) (sym e)))) (λ n' is'. kept.one u i k a b is is'));
-        course = λ k u a. set_at-elim (λ st. st ≡ Begun u a → (rest : List Act) × (end : End) × Course (jobs k) (a ++ rest) end) w.jobs j (Begun v []) k
-            (λ at is. let e : [] ≡ a = cc in subst (λ (z : List Act). (rest : List Act) × (end : End) × Course (jobs k) (z ++ rest) end) e ([], _, inl refl))
+            (λ at is. set_at-elim (λ st. st ≡ Begun u b → i ≡ k) w.jobs j (Begun v []) k (λ at' is'. at ∙ sym at')
+            (λ n is'. let e : v ≡ u = cc in absurd (may k b (is' ∙ ap (λ (z : ℕ). Begun z b) (sym e)))))
+            (λ n is. set_at-elim (λ st. st ≡ Begun u b → i ≡ k) w.jobs j (Begun v []) k (λ at' is'. let e : v ≡ u = cc in
+            absurd (may i a (is ∙ ap (λ (z : ℕ). Begun z a) (sym e)))) (λ n' is'. kept.one u i k a b is is'));
+        course = λ k u a. set_at-elim (λ st. st ≡ Begun u a → (rest : List Act) × (end : End) × Course (jobs k) (a ++ rest) end)
+            w.jobs j (Begun v []) k
+            (λ at is. let e : [] ≡ a = cc in
+            subst (λ (z : List Act). (rest : List Act) × (end : End) × Course (jobs k) (z ++ rest) end) e ([], _, inl refl))
             (λ n is. kept.course k u a is);
         lent = λ x. set_at-elim (λ st. times x o ≡ lent st x) w.jobs j (Begun v []) x.job
             (λ at. kept.lent x ∙ ap (λ (st : JobState). lent st x) (ap w.jobs at ∙ free) ∙ sym (lent-none v [] x refl))
@@ -248,16 +283,28 @@ called l jobs of o w s v (Adds j mask x) kept next may =
     let begun : w.jobs j ≡ Begun v acts = may.1 in
     let turn = turn-at (jobs j) acts may.3.0 x may.3.1 may.3.2 in
     let is : with_act (w.jobs j) (Met x) ≡ Begun v (acts ++ Met x ∷ []) = ap (λ (st : JobState). with_act st (Met x)) begun in
-    let af : After o v j acts x = after-matchedt (is_local_host (jobs j)) o v j acts x (λ y at. kept.lent y ∙ ap (λ (st : JobState). lent st y) (ap w.jobs at ∙ begun)) turn in
+    let af : After o v j acts x =
+    after-event (is_local_host (jobs j)) o v j acts x
+    (λ y at. kept.lent y ∙ ap (λ (st : JobState). lent st y) (ap w.jobs at ∙ begun)) turn in
     let e : effect (Adds j mask x) ≡ effect (Adds j None x) = same-effect j mask x in
     record {
       matched = tt;
       is_out = subst (λ (c : Change). IsOut v o c) (sym e) af.is_out;
       remote = remote-turn l jobs of j mask acts may.3.0 may.3.1 x (begun-inside (farm_of l jobs) l o w j v acts kept begun) may.3.2 turn;
-      kept = subst (λ (c : Change). Kept (farm_of l jobs) l (changed v o c) (record { slots = s; jobs = set_at w.jobs j (with_act (w.jobs j) (Met x)) })) (sym e)
-          (moved (farm_of l jobs) l o (changed v o (effect (Adds j None x))) w s j v acts (with_act (w.jobs j) (Met x)) kept next begun (λ waiting. let k : Begun v (acts ++ Met x ∷ []) ≡ NotBegun = sym is ∙ waiting in cc)
-          (λ u a begins. let k : Begun v (acts ++ Met x ∷ []) ≡ Begun u a = sym is ∙ begins in let by : u ≡ v = cc in let same : acts ++ Met x ∷ [] ≡ a = cc in
-          (by, (may.3.0, may.3.1, subst (λ (z : List Act). Course (jobs j) (z ++ may.3.0) may.3.1) same (subst (λ (z : List Act). Course (jobs j) z may.3.1) (sym (append_assoc acts (Met x ∷ []) may.3.0)) may.3.2))))
+      kept = subst (λ (c : Change). Kept (farm_of l jobs) l (changed v o c)
+          (record { slots = s; jobs = set_at w.jobs j (with_act (w.jobs j) (Met x)) })) (sym e)
+          (moved (farm_of l jobs) l o (changed v o (effect (Adds j None x))) w s j v acts (with_act (w.jobs j) (Met x)) kept next
+          begun (λ waiting. let k : Begun v (acts ++ Met x ∷ []) ≡ NotBegun = sym is ∙ waiting in cc)
+          (λ u a begins. let k : Begun v (acts ++ Met x ∷ []) ≡ Begun u a = sym is ∙ begins in let by : u ≡ v = cc in
+          let same : acts ++ Met x ∷ [] ≡ a = cc in (
+            by,
+            (
+              may.3.0,
+              may.3.1,
+              subst (λ (z : List Act). Course (jobs j) (z ++ may.3.0) may.3.1) same
+                  (subst (λ (z : List Act). Course (jobs j) z may.3.1) (sym (append_assoc acts (Met x ∷ []) may.3.0)) may.3.2),
+            ),
+          ))
           (λ y at. af.here y at ∙ ap (λ (st : JobState). lent st y) (sym is))
           af.there);
     }
@@ -275,80 +322,3 @@ called l jobs of o w s v (Waits j mask kind) kept next may = record {
   };
 }
 called l jobs of o w s v Mismatched kept next may = absurd may
-
--- what all these steps keep
-record AllKept {h : ℕ} (l : Limits h) (jobs : ℕ → Job) (o : List Holding) (w : FarmState h) (ss : List FarmStep) : Type 0 where
-  legal : IsLegalFrom l w.slots o (calls_in ss)
-  slots : (after_steps l w ss).slots ≡ state_from l w.slots (calls_in ss)
-  kept : Kept (farm_of l jobs) l (outstanding_from o (calls_in ss)) (after_steps l w ss)
-
-steps : {h : ℕ} (l : Limits h) (jobs : ℕ → Job) → IsOf l jobs → (ss : List FarmStep) (o : List Holding) (w : FarmState h) → Kept (farm_of l jobs) l o w → IsAllowedFrom (farm_of l jobs) l w ss → AllKept l jobs o w ss
-steps l jobs of [] o w kept allowed = record { legal = tt; slots = refl; kept = kept }
-steps {h} l jobs of (Calls e ∷ ss) o w kept (may, allowed) =
-    let s : SlotState h = (slot_step l w.slots e.call).0 in
-    let c : Called l jobs o w s e.caller (job_call_of e) = called l jobs of o w s e.caller (job_call_of e) kept (next_is l w.slots e.call e.reply may.0) may.1 in
-    let is : change e.call e.reply ≡ effect (job_call_of e) = change-is e.call e.reply c.matched in
-    let k : Kept (farm_of l jobs) l (outstanding_then o e) (after l w (Calls e)) = subst (λ (z : Change). Kept (farm_of l jobs) l (changed e.caller o z) (after l w (Calls e))) (sym is) c.kept in
-    let more : AllKept l jobs (outstanding_then o e) (after l w (Calls e)) ss = steps l jobs of ss (outstanding_then o e) (after l w (Calls e)) k allowed in
-    record {
-      legal = (record { reply = may.0; may = may-call l e.caller o e.call e.reply c.matched c.is_out c.remote }, more.legal);
-      slots = more.slots;
-      kept = more.kept;
-    }
-steps l jobs of (Does j d ∷ ss) o w kept (may, allowed) =
-    let v = may.0 in
-    let acts = may.1 in
-    let begun : w.jobs j ≡ Begun v acts = may.2 in
-    let is : with_act (w.jobs j) (Did d) ≡ Begun v (acts ++ Did d ∷ []) = ap (λ (st : JobState). with_act st (Did d)) begun in
-    let k : Kept (farm_of l jobs) l o (after l w (Does j d)) = moved (farm_of l jobs) l o o w w.slots j v acts (with_act (w.jobs j) (Did d)) kept refl begun (λ waiting. let k : Begun v (acts ++ Did d ∷ []) ≡ NotBegun = sym is ∙ waiting in cc)
-    (λ u a begins. let k : Begun v (acts ++ Did d ∷ []) ≡ Begun u a = sym is ∙ begins in let by : u ≡ v = cc in let same : acts ++ Did d ∷ [] ≡ a = cc in
-    (by, (may.3.0, may.3.1, subst (λ (z : List Act). Course (jobs j) (z ++ may.3.0) may.3.1) same (subst (λ (z : List Act). Course (jobs j) z may.3.1) (sym (append_assoc acts (Did d ∷ []) may.3.0)) may.3.2))))
-    (λ y at. kept.lent y ∙ ap (λ (st : JobState). lent st y) (ap w.jobs at ∙ begun) ∙ ap (λ (loan : Loan). cond (nat_eq y.caller v && is_loan loan y.host) 1 0) (sym (loan-did acts d)) ∙ ap (λ (st : JobState). lent st y) (sym is))
-    (λ y apart. refl) in
-    let more : AllKept l jobs o (after l w (Does j d)) ss = steps l jobs of ss o (after l w (Does j d)) k allowed in
-    record { legal = more.legal; slots = more.slots; kept = more.kept }
-steps l jobs of (Returns j end ∷ ss) o w kept (may, allowed) =
-    let v = may.0 in
-    let acts = may.1 in
-    let begun : w.jobs j ≡ Begun v acts = may.2 in
-    let k : Kept (farm_of l jobs) l o (after l w (Returns j end)) = moved (farm_of l jobs) l o o w w.slots j v acts (Returned end) kept refl begun (λ waiting. cc) (λ u a begins. cc)
-    (λ y at. kept.lent y ∙ ap (λ (st : JobState). lent st y) (ap w.jobs at ∙ begun) ∙ lent-none v acts y (nothing-out (jobs j) acts end may.3))
-    (λ y apart. refl) in
-    let more : AllKept l jobs o (after l w (Returns j end)) ss = steps l jobs of ss o (after l w (Returns j end)) k allowed in
-    record { legal = more.legal; slots = more.slots; kept = more.kept }
-
-kept-start : {h : ℕ} (l : Limits h) (jobs : ℕ → Job) → Kept (farm_of l jobs) l [] (start h)
-kept-start l jobs = record {
-  ahead = λ j above. refl;
-  drawn = λ j below. absurd (omega arith);
-  below = omega arith;
-  one = λ v j k a b is is'. cc;
-  course = λ j v acts is. cc;
-  lent = λ x. refl;
-}
-
-pub kept-law : KeptLaw
-kept-law h l jobs ss of allowed =
-    let all : AllKept l jobs [] (start h) ss = steps l jobs of ss [] (start h) (kept-start l jobs) allowed in
-    let calls = calls_in ss in record {
-      legal = all.legal;
-      slots = all.slots;
-      order = draws-in-order h l calls all.legal ∙ ap (λ (s : SlotState h). range_with_len 0 s.next) (sym all.slots);
-      agree = λ fit. subst (λ (s : SlotState h). SlotsAgree l s (outstanding calls)) (sym all.slots) (state-agrees h l calls fit all.legal);
-      kept = all.kept;
-    }
-
-front-allowed : {h : ℕ} (f : Farm) (l : Limits h) (s : FarmState h) (front rest : List FarmStep) → IsAllowedFrom f l s (front ++ rest) → IsAllowedFrom f l s front
-front-allowed f l s [] rest allowed = tt
-front-allowed f l s (step ∷ front) rest allowed = (allowed.0, front-allowed f l (after l s step) front rest allowed.1)
-
-pub prefix-law : PrefixLaw
-prefix-law h l jobs front rest of allowed = let a = front-allowed (farm_of l jobs) l (start h) front rest allowed in (a, kept-law h l jobs front of a)
-
-pub run-law : RunLaw
-run-law h l jobs ss of run =
-    let kept = (kept-law h l jobs ss of run.allowed).kept in
-    none-outstanding (outstanding (calls_in ss)) (λ x. kept.lent x ∙ elim (cases_lt x.job l.jobs) [
-      | inl below ↦ ap (λ (st : JobState). lent st x) (run.returned x.job below).1
-      | inr above ↦ let top = kept.below in ap (λ (st : JobState). lent st x) (kept.ahead x.job (omega arith))
-    ])

@@ -7,6 +7,7 @@ pub mod NothingLost
 pub mod Below
 pub mod Grants
 pub mod Kept
+pub mod KeptByAll
 pub mod Farms
 pub mod Up
 pub mod Worker

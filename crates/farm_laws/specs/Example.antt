@@ -32,10 +32,20 @@ all_hosts = record { bits = 1 }
 
 -- a preprocessor's run that went well, and one that failed
 abbrev pub preprocessed : Run
-preprocessed = record { words = Text (codes "cc") ∷ Text (codes "-E") ∷ Text (codes "a.c") ∷ []; input = []; ran = record { status = 0; out = codes "int a;"; err = []; object = [] } }
+preprocessed = record {
+  words = Text (codes "cc") ∷ Text (codes "-E") ∷ Text (codes "a.c") ∷ [];
+  input = [];
+  ran =
+      record { status = 0; out = codes "int a;"; err = []; object = [] };
+}
 
 abbrev pub not_preprocessed : Run
-not_preprocessed = record { words = Text (codes "cc") ∷ Text (codes "-E") ∷ Text (codes "b.c") ∷ []; input = []; ran = record { status = 256; out = []; err = codes "b.c: none"; object = [] } }
+not_preprocessed = record {
+  words = Text (codes "cc") ∷ Text (codes "-E") ∷ Text (codes "b.c") ∷ [];
+  input = [];
+  ran =
+      record { status = 256; out = []; err = codes "b.c: none"; object = [] };
+}
 
 -- the commands of the jobs, of which the first two are the same
 abbrev pub words_of : ℕ → List (List ℕ)
@@ -46,7 +56,14 @@ abbrev pub host : Host
 host = record { name = record { text = codes "a" }; port = 3632; limit = 1; local = false }
 
 abbrev pub config : JobConfig
-config = record { hosts = record { list = host ∷ []; local_slots = 1; local_cpp = 1; randomize = false }; fallback = false; retry = false; period = 60; tries = 1 }
+config = record {
+  hosts = record { list = host ∷ []; local_slots = 1; local_cpp = 1; randomize = false };
+  fallback = false;
+  retry =
+      false;
+  period = 60;
+  tries = 1;
+}
 
 abbrev pub jobs : ℕ → Job
 jobs job = record { words = words_of job; config = config }
@@ -88,6 +105,7 @@ end_of job = if job == 2 then Done 256 [] (codes "b.c: none") [] Cpp else Done 0
 -- the calls, of which the fourth is refused
 abbrev pub calls : List CallEntry
 calls =
-    entry 0 Draw (Drawn (Some 0)) ∷ entry 1 Draw (Drawn (Some 1)) ∷ entry 0 (Take 0 all_hosts 100) (Got 0) ∷ entry 1 (Take 1 all_hosts 100) Full
+    entry 0 Draw (Drawn (Some 0)) ∷ entry 1 Draw (Drawn (Some 1)) ∷ entry 0 (Take 0 all_hosts 100) (Got 0)
+    ∷ entry 1 (Take 1 all_hosts 100) Full
     ∷ entry 0 (Give 0 0) Given ∷ entry 1 (Take 1 all_hosts 101) (Got 0) ∷ entry 0 Draw (Drawn (Some 2)) ∷ entry 1 (Give 0 1) Given
     ∷ entry 0 Draw (Drawn None) ∷ entry 1 Draw (Drawn None) ∷ []

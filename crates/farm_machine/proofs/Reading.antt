@@ -1,5 +1,6 @@
 -- What calls are in the words of the code, read back.
-use Rattle.std.proofs.Common.{◌≡◌, inl, inr, ℕ, Bool, true, false, ◌||◌, List, [], ◌∷◌, ◌++◌, Option, Some, None, refl, sym, ap, ◌∙◌, subst, eq-eqb}
+use Rattle.std.proofs.Common.{◌≡◌, inl, inr, ℕ, Bool, true, false, ◌||◌, List, [], ◌∷◌, ◌++◌, Option, Some, None, refl, sym, ap, ◌∙◌}
+use Rattle.std.proofs.Common.{subst, eq-eqb}
 use Rattle.std.proofs.lemmas.Bool.{false≢true}
 use Rattle.std.specs.Prelude.{◌↔◌, IsTrue}
 use Rattle.std.specs.Option.{option_map}
@@ -39,7 +40,8 @@ call-draws (Waits other mask HostSlot) job e = cc
 call-draws (Waits other mask LocalSlot) job e = cc
 call-draws Mismatched job e = cc
 
-pub call-adds : (a : JobCall) (job : ℕ) (mask : Option Mask) (event : Event) → kind.Adds job mask event ≡ kind_of a → (x : SlotEvent) × (event ≡ event_of x) × (a ≡ Adds job mask x)
+pub call-adds : (a : JobCall) (job : ℕ) (mask : Option Mask) (event : Event) → kind.Adds job mask event ≡ kind_of a
+    → (x : SlotEvent) × (event ≡ event_of x) × (a ≡ Adds job mask x)
 call-adds (Draws other) job mask event e = cc
 call-adds (Adds other mask' x) job mask event e = (x, cc, cc)
 call-adds (Waits other mask' HostSlot) job mask event e = cc
@@ -51,7 +53,8 @@ abbrev pub slot_kind : Bool → SlotKind
 slot_kind true = LocalSlot
 slot_kind false = HostSlot
 
-pub call-waits : (a : JobCall) (job : ℕ) (mask : Option Mask) (local : Bool) → kind.Waits job mask local ≡ kind_of a → a ≡ Waits job mask (slot_kind local)
+pub call-waits : (a : JobCall) (job : ℕ) (mask : Option Mask) (local : Bool) → kind.Waits job mask local ≡ kind_of a
+    → a ≡ Waits job mask (slot_kind local)
 call-waits (Draws other) job mask local e = cc
 call-waits (Adds other mask' x) job mask local e = cc
 call-waits (Waits other mask' HostSlot) job mask true e = cc
@@ -68,7 +71,8 @@ call-mismatched (Waits other mask LocalSlot) e = cc
 call-mismatched Mismatched e = refl
 
 -- what a refused take waits for
-pub awaits : (next : Option SlotEvent) (local : Bool) → is_awaited (option_map event_of next) local ≡ true → (x : SlotEvent) × (next ≡ Some x) × IsWaitedFor (slot_kind local) x
+pub awaits : (next : Option SlotEvent) (local : Bool) → is_awaited (option_map event_of next) local ≡ true
+    → (x : SlotEvent) × (next ≡ Some x) × IsWaitedFor (slot_kind local) x
 awaits None local is = cc
 awaits (Some (Takes host)) false is = (Takes host, refl, inr (host, refl))
 awaits (Some (Takes host)) true is = cc
@@ -80,13 +84,16 @@ awaits (Some TakesLocal) true is = (TakesLocal, refl, refl)
 awaits (Some TakesLocal) false is = cc
 awaits (Some GivesLocal) local is = cc
 
-pub is-awaited : (next : Option SlotEvent) (local : Bool) (x : SlotEvent) → next ≡ Some x → IsWaitedFor (slot_kind local) x → is_awaited (option_map event_of next) local ≡ true
+pub is-awaited : (next : Option SlotEvent) (local : Bool) (x : SlotEvent) → next ≡ Some x → IsWaitedFor (slot_kind local) x
+    → is_awaited (option_map event_of next) local ≡ true
 is-awaited next true x is waited = ap (λ (o : Option SlotEvent). is_awaited (option_map event_of o) true) (is ∙ ap Some waited)
 is-awaited next false x is (inl down) = ap (λ (o : Option SlotEvent). is_awaited (option_map event_of o) false) (is ∙ ap Some down)
-is-awaited next false x is (inr (host, takes)) = ap (λ (o : Option SlotEvent). is_awaited (option_map event_of o) false) (is ∙ ap Some takes)
+is-awaited next false x is (inr (host, takes)) =
+    ap (λ (o : Option SlotEvent). is_awaited (option_map event_of o) false) (is ∙ ap Some takes)
 
 -- a slot event is the take of this host where it is written as one
-taking : (x : SlotEvent) (event : Event) (host : ℕ) (same : Bool) → event ≡ event_of x → IsTrue same ↔ (event ≡ Took host) → took host (x ∷ []) ≡ same
+taking : (x : SlotEvent) (event : Event) (host : ℕ) (same : Bool) → event ≡ event_of x → IsTrue same ↔ (event ≡ Took host)
+    → took host (x ∷ []) ≡ same
 taking x event host true is means =
     let e : x ≡ Takes host = same-event x (Takes host) (sym is ∙ means.0 refl) in
     ap (λ (y : SlotEvent). took host (y ∷ [])) e ∙ ap (λ (b : Bool). b || false) (eq-eqb host host refl)
@@ -94,7 +101,8 @@ taking x event host false is means = unseen host x (λ e. false≢true (means.1 
 
 -- an event of a job more, where it is this job
 pub past-same : (p : Progress) (v : ℕ) (a : JobCall) (job taker host : ℕ) (mask : Option Mask) (event : Event) (same : Bool)
-    → kind.Adds taker mask event ≡ kind_of a → job ≡ taker → IsTrue same ↔ (event ≡ Took host) → took host ((progress_after p v a).past job) ≡ (took host (p.past job) || same)
+    → kind.Adds taker mask event ≡ kind_of a → job ≡ taker → IsTrue same ↔ (event ≡ Took host)
+    → took host ((progress_after p v a).past job) ≡ (took host (p.past job) || same)
 past-same p v a job taker host mask event same kind_is same_job means =
     let call = call-adds a taker mask event kind_is in
     ap (λ (b : JobCall). took host ((progress_after p v b).past job)) call.2
@@ -104,8 +112,10 @@ past-same p v a job taker host mask event same kind_is same_job means =
     ∙ ap (λ (b : Bool). took host (p.past job) || b) (taking call.0 event host same call.1 means)
 
 -- a call of which this holds follows exactly where its event is next
-pub follows-adds : (r : Reports) (wants : Wants) (p : Progress) (v : ℕ) (a : JobCall) (job : ℕ) (mask : Option Mask) (event : Event) (same : Bool)
-    → kind.Adds job mask event ≡ kind_of a → (p.current v ≡ Some job) × MaskIs mask (wants (p.past job)) → IsTrue same ↔ (option_map event_of (next_met (p.rest job)) ≡ Some event)
+pub follows-adds : (r : Reports) (wants : Wants) (p : Progress) (v : ℕ) (a : JobCall) (job : ℕ) (mask : Option Mask) (event : Event)
+    (same : Bool)
+    → kind.Adds job mask event ≡ kind_of a → (p.current v ≡ Some job) × MaskIs mask (wants (p.past job)) → IsTrue same
+    ↔ (option_map event_of (next_met (p.rest job)) ≡ Some event)
     → IsTrue same ↔ Follows r wants p v a
 follows-adds r wants p v a job mask event same kind_is may means =
     let call = call-adds a job mask event kind_is in
@@ -115,7 +125,8 @@ follows-adds r wants p v a job mask event same kind_is may means =
     )
 
 pub follows-waits : (r : Reports) (wants : Wants) (p : Progress) (v : ℕ) (a : JobCall) (job : ℕ) (mask : Option Mask) (local same : Bool)
-    → kind.Waits job mask local ≡ kind_of a → (p.current v ≡ Some job) × MaskIs mask (wants (p.past job)) → same ≡ is_awaited (option_map event_of (next_met (p.rest job))) local
+    → kind.Waits job mask local ≡ kind_of a → (p.current v ≡ Some job) × MaskIs mask (wants (p.past job))
+    → same ≡ is_awaited (option_map event_of (next_met (p.rest job))) local
     → IsTrue same ↔ Follows r wants p v a
 follows-waits r wants p v a job mask local same kind_is may is =
     subst (λ (b : JobCall). IsTrue same ↔ Follows r wants p v b) (sym (call-waits a job mask local kind_is)) (
@@ -124,18 +135,22 @@ follows-waits r wants p v a job mask local same kind_is may is =
     )
 
 -- and where it may not be made, it doesn't follow
-pub strays-adds : (r : Reports) (wants : Wants) (p : Progress) (v : ℕ) (a : JobCall) (job : ℕ) (mask : Option Mask) (event : Event) (may : Bool)
+pub strays-adds : (r : Reports) (wants : Wants) (p : Progress) (v : ℕ) (a : JobCall) (job : ℕ) (mask : Option Mask) (event : Event)
+    (may : Bool)
     → kind.Adds job mask event ≡ kind_of a → IsTrue may ↔ ((p.current v ≡ Some job) × MaskIs mask (wants (p.past job))) → may ≡ false
     → IsTrue may ↔ Follows r wants p v a
 strays-adds r wants p v a job mask event may kind_is means not_so =
     let call = call-adds a job mask event kind_is in
-    subst (λ (b : JobCall). IsTrue may ↔ Follows r wants p v b) (sym call.2) ((λ t. absurd (false≢true (sym not_so ∙ t))), (λ f. means.1 (f.0, f.1)))
+    subst (λ (b : JobCall). IsTrue may ↔ Follows r wants p v b) (sym call.2)
+    ((λ t. absurd (false≢true (sym not_so ∙ t))), (λ f. means.1 (f.0, f.1)))
 
 pub strays-waits : (r : Reports) (wants : Wants) (p : Progress) (v : ℕ) (a : JobCall) (job : ℕ) (mask : Option Mask) (local may : Bool)
     → kind.Waits job mask local ≡ kind_of a → IsTrue may ↔ ((p.current v ≡ Some job) × MaskIs mask (wants (p.past job))) → may ≡ false
     → IsTrue may ↔ Follows r wants p v a
 strays-waits r wants p v a job mask local may kind_is means not_so =
-    subst (λ (b : JobCall). IsTrue may ↔ Follows r wants p v b) (sym (call-waits a job mask local kind_is)) ((λ t. absurd (false≢true (sym not_so ∙ t))), (λ f. means.1 (f.0, f.1)))
+    subst (λ (b : JobCall). IsTrue may ↔ Follows r wants p v b) (sym (call-waits a job mask local kind_is))
+    ((λ t. absurd (false≢true (sym not_so ∙ t))), (λ f. means.1 (f.0, f.1)))
 
-pub same-as : (next other : Option Event) (event : Event) (same : Bool) → next ≡ other → IsTrue same ↔ (next ≡ Some event) → IsTrue same ↔ (other ≡ Some event)
+pub same-as : (next other : Option Event) (event : Event) (same : Bool) → next ≡ other → IsTrue same ↔ (next ≡ Some event)
+    → IsTrue same ↔ (other ≡ Some event)
 same-as next other event same is means = subst (λ (o : Option Event). IsTrue same ↔ (o ≡ Some event)) is means

@@ -6,7 +6,8 @@ use Rattle.edge_traits.specs.declared.entries.Exchange.{Exchange}
 use Rattle.edge_traits.specs.declared.entries.Put.{Put}
 use Rattle.edge_traits.specs.Deeds.{Deed, ran, fetched, exchanged, put}
 use Rattle.farm_machine.specs.declared.reports.Event.{Event}
-use Rattle.farm_machine.specs.declared.reports.Event.TheVariants.{Ran, Fetched, Exchanged, Put as PutAt, Took, Gave, GaveBad, Down, TookLocal, GaveLocal}
+use Rattle.farm_machine.specs.declared.reports.Event.TheVariants.{Ran, Fetched, Exchanged, Put as PutAt, Took, Gave, GaveBad, Down}
+use Rattle.farm_machine.specs.declared.reports.Event.TheVariants.{TookLocal, GaveLocal}
 
 -- One call on the slots that was answered for good: a slot of a host was taken, given back, or given back with the
 -- moment until which the host is left alone; all hosts were found down; a local slot was taken or given back. Answers

@@ -16,7 +16,8 @@ HasEndCause (Failed Fetch) old new = Rose old.keeper.faults new.keeper.faults �
 HasEndCause (Failed (Broke host Dial)) old new = Rose old.dialer.faults new.dialer.faults
 HasEndCause other old new = Unit {0}
 
--- Where a job ends otherwise than by a failed run, no count of its station rose: a run that fails, or gives too much, always fails the job so.
+-- Where a job ends otherwise than by a failed run, no count of its station rose: a run that fails, or gives too much, always fails
+-- the job so.
 abbrev pub StationStands : End → StationView → StationView → Type 0
 StationStands (Failed Station) old new = Unit {0}
 StationStands end old new = StationStill old new

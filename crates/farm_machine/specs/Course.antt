@@ -17,7 +17,8 @@ use Rattle.farm_machine.specs.declared.reports.Why5.TheVariants.{Station, Put as
 use Rattle.farm_machine.specs.declared.reports.End.{End}
 use Rattle.farm_machine.specs.declared.reports.End.TheVariants.{Done, Failed}
 use Rattle.farm_machine.specs.Acts.{Takes, Gives, GivesBad, FindsDown, TakesLocal, GivesLocal, Act, Did, Met}
-use Rattle.farm_machine.specs.Jobs.{Job, CanRequest, may_be_sent, is_source_ready, source_name, output_name, whole_command, preprocessing_command, compile_command, request_for, host_count, host_at, is_local_host}
+use Rattle.farm_machine.specs.Jobs.{Job, CanRequest, may_be_sent, is_source_ready, source_name, output_name, whole_command}
+use Rattle.farm_machine.specs.Jobs.{preprocessing_command, compile_command, request_for, host_count, host_at, is_local_host}
 
 -- the run is of these words on this input
 abbrev pub IsRunOf : Run → List Word → List ℕ → Type 0
@@ -90,7 +91,8 @@ no_host (t ∷ tried) = Broke t.host t.cause
 -- after a broken exchange the job asks another host, as long as it has tries left
 abbrev pub after_broken : Job → ℕ → Cause → List ℕ → List ℕ → List Tried → At
 after_broken j host cause source note tried =
-    cond (nat_lt (length tried + 1) j.config.tries) (Send source note (tried_too host cause tried)) (or_here j source note (Failed (Broke host cause)))
+    cond (nat_lt (length tried + 1) j.config.tries) (Send source note (tried_too host cause tried))
+    (or_here j source note (Failed (Broke host cause)))
 
 -- a host's outcome of status 0 is the job's; another ends the job, or with fallback and retry the job is compiled here
 -- once more
@@ -107,15 +109,19 @@ IsBackOff j until = (moment : ℕ) × (moment < 2 ^ 64) × (until ≡ bad_until 
 abbrev pub Next : Job → At → Act → At → Type 0
 Next j Start (Met TakesLocal) c = (may_be_sent j ≡ false) × (c ≡ LentInPlace)
 Next j Start (Did (fetched x)) c = (may_be_sent j ≡ true) × (is_source_ready j ≡ true) × (x.path ≡ source_name j) × (c ≡ Send x.bytes [] [])
-Next j Start (Did (ran x)) c = (may_be_sent j ≡ true) × (is_source_ready j ≡ false) × IsRunOf x (preprocessing_command j) [] × (c ≡ after_preprocessor x.ran)
+Next j Start (Did (ran x)) c = (may_be_sent j ≡ true) × (is_source_ready j ≡ false) × IsRunOf x (preprocessing_command j) []
+    × (c ≡ after_preprocessor x.ran)
 Next j LentInPlace (Did (ran x)) c = IsRunOf x (whole_command j) [] × (c ≡ RanInPlace x.ran)
 Next j LentInPlace (Met GivesLocal) c = (c ≡ Over (Failed Station)) ⊎ (c ≡ Over (Failed Memory))
 Next j (RanInPlace r) (Met GivesLocal) c = (c ≡ Over (Done r.status [] r.err r.out InPlace)) ⊎ (c ≡ Over (Failed Memory))
 Next j (Send source note tried) (Met FindsDown) c = CanRequest j source × (c ≡ or_here j source note (Failed (no_host tried)))
-Next j (Send source note tried) (Met (Takes host)) c = CanRequest j source × (host < host_count j) × (is_tried host tried ≡ false) × (c ≡ Lent host source note tried)
+Next j (Send source note tried) (Met (Takes host)) c = CanRequest j source × (host < host_count j) × (is_tried host tried ≡ false)
+    × (c ≡ Lent host source note tried)
 Next j (Send source note tried) (Met TakesLocal) c = (¬ (CanRequest j source)) × (c ≡ LentHere source note)
-Next j (Lent host source note tried) (Did (ran x)) c = (is_local_host j host ≡ true) × IsRunOf x (compile_command j) source × (c ≡ RanThere host note x.ran)
-Next j (Lent host source note tried) (Did (exchanged x)) c = (is_local_host j host ≡ false) × IsBegunWith j x source host × (c ≡ Sent host source note tried x)
+Next j (Lent host source note tried) (Did (ran x)) c = (is_local_host j host ≡ true) × IsRunOf x (compile_command j) source
+    × (c ≡ RanThere host note x.ran)
+Next j (Lent host source note tried) (Did (exchanged x)) c = (is_local_host j host ≡ false) × IsBegunWith j x source host
+    × (c ≡ Sent host source note tried x)
 Next j (Lent host source note tried) (Met (Gives k)) c =
     (k ≡ host)
     × (((is_local_host j host ≡ true) × (c ≡ Over (Failed Station)))
@@ -128,12 +134,14 @@ Next j (Sent host source note tried x) (Met (Gives k)) c =
     ⊎ (c ≡ Over (Failed Memory))))
 Next j (Sent host source note tried x) (Met (GivesBad k until)) c =
     (k ≡ host) × (is_local_host j host ≡ false)
-    × ((cause : Cause) × IsBrokenWith j x source host cause × (0 < j.config.period) × IsBackOff j until × (c ≡ after_broken j host cause source note tried))
+    × ((cause : Cause) × IsBrokenWith j x source host cause × (0 < j.config.period) × IsBackOff j until
+    × (c ≡ after_broken j host cause source note tried))
 Next j (Locally source note) (Met TakesLocal) c = c ≡ LentHere source note
 Next j (LentHere source note) (Did (ran x)) c = IsRunOf x (compile_command j) source × (c ≡ RanHere note x.ran)
 Next j (LentHere source note) (Met GivesLocal) c = (c ≡ Over (Failed Station)) ⊎ (c ≡ Over (Failed Memory))
 Next j (RanHere note r) (Met GivesLocal) c = (c ≡ Finish Here note (outcome_of r)) ⊎ (c ≡ Over (Failed Memory))
-Next j (Finish by note o) (Did (put x)) c = (o.status ≡ 0) × (x.path ≡ output_name j) × (x.bytes ≡ o.object) × (c ≡ Over (Done 0 note o.err o.out by))
+Next j (Finish by note o) (Did (put x)) c = (o.status ≡ 0) × (x.path ≡ output_name j) × (x.bytes ≡ o.object)
+    × (c ≡ Over (Done 0 note o.err o.out by))
 Next j at act c = ⊥
 
 -- A job may end here so. A run, a fetch or a put that could not be made is told by the end alone.

@@ -13,6 +13,7 @@ pub record Devices (K : Type 0) : Type 1 where
   pub peers : K → Peers
   pub programs : K → Programs
 
-abbrev pub devices : {D S K C : Type 0} → (D → DialerView) → (S → StationView) → (K → KeeperView) → (C → ClockView) → (D → Peers) → (S → Programs) → Devices (Kit D S K C)
+abbrev pub devices : {D S K C : Type 0} → (D → DialerView) → (S → StationView) → (K → KeeperView) → (C → ClockView) → (D → Peers)
+    → (S → Programs) → Devices (Kit D S K C)
 devices dialer station keeper clock peers programs =
     record { shows = kit_view dialer station keeper clock; peers = λ kit. peers kit.dialer; programs = λ kit. programs kit.station }

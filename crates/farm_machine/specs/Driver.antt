@@ -14,7 +14,8 @@ use Rattle.farm_machine.specs.Own.{DoneJob, Each, DoesJobs, IsReported, HasNumbe
 
 -- These calls of a worker are its jobs, one after another, and at last a draw that answered none.
 abbrev pub WorkedOff : Wants → ℕ → List DoneJob → List CallEntry → Type 0
-WorkedOff wants worker jobs mine = (es : List CallEntry) × DoesJobs wants worker jobs es × (mine ≡ es ++ entry worker Draw (Drawn None) ∷ [])
+WorkedOff wants worker jobs mine = (es : List CallEntry) × DoesJobs wants worker jobs es
+    × (mine ≡ es ++ entry worker Draw (Drawn None) ∷ [])
 
 -- Of these calls each of the n workers made those of its jobs, and no one else called.
 pub record AllWorked (wants : Wants) (n : ℕ) (done : ℕ → List DoneJob) (calls : List CallEntry) : Type 0 where

@@ -13,14 +13,16 @@ use Rattle.farm_machine.specs.declared.reports.End.{End}
 use Rattle.farm_machine.specs.Acts.{SlotEvent, Act, slots_of, took, Loan, loan_of}
 use Rattle.farm_machine.specs.Jobs.{Job, host_count, is_local_host}
 use Rattle.farm_machine.specs.Course.{Course}
-use Rattle.farm_machine.specs.Machine.{JobState, NotBegun, Begun, Returned, FarmState, start, FarmStep, calls_in, after_steps, Farm, IsAllowed, FarmRun}
+use Rattle.farm_machine.specs.Machine.{JobState, NotBegun, Begun, Returned, FarmState, start, FarmStep, calls_in, after_steps, Farm}
+use Rattle.farm_machine.specs.Machine.{IsAllowed, FarmRun}
 use Rattle.farm_machine.specs.Weave.{Reports, Agrees, weave}
 
 -- the entry at this place is in the mask exactly where the job took no slot of it before
 abbrev pub is_as_wanted : List SlotEvent → Mask → ℕ → Bool
 is_as_wanted past mask host = cond (took host past) (not (in_mask mask host)) (in_mask mask host)
 
--- Of the entries a take has in its mask all but those that the job took before. With one try that is all of them. What a mask says of places
+-- Of the entries a take has in its mask all but those that the job took before. With one try that is all of them. What a mask says
+-- of places
 -- behind the last entry doesn't matter.
 abbrev pub wanted : {h : ℕ} → Limits h → List SlotEvent → Mask → Bool
 wanted l past mask = list_all (is_as_wanted past mask) (entries l)

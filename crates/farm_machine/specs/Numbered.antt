@@ -3,7 +3,8 @@ use Rattle.std.specs.Prelude.{◌≡◌, ◌+◌, List, [], ◌∷◌, ◌++◌,
 use Rattle.edge_traits.specs.Deeds.{ran, fetched, exchanged, put, timed}
 use Rattle.farm_machine.specs.declared.reports.Places.{Places}
 use Rattle.farm_machine.specs.declared.reports.Event.{Event}
-use Rattle.farm_machine.specs.declared.reports.Event.TheVariants.{Ran, Fetched, Exchanged, Put, Took, Gave, GaveBad, Down, TookLocal, GaveLocal}
+use Rattle.farm_machine.specs.declared.reports.Event.TheVariants.{Ran, Fetched, Exchanged, Put, Took, Gave, GaveBad, Down, TookLocal}
+use Rattle.farm_machine.specs.declared.reports.Event.TheVariants.{GaveLocal}
 use Rattle.farm_machine.specs.Acts.{Takes, Gives, GivesBad, FindsDown, TakesLocal, GivesLocal, Act, Did, Met, Entries, ReadsAll}
 
 -- where the counting begins

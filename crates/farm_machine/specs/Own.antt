@@ -29,7 +29,8 @@ Serves wants worker j past (x ∷ xs) (e ∷ es) =
 -- these calls of a worker are refused takes of its job before this slot event
 abbrev pub AreRefused : Wants → ℕ → ℕ → List SlotEvent → SlotEvent → List CallEntry → Type 0
 AreRefused wants worker j past x [] = Unit {0}
-AreRefused wants worker j past x (e ∷ es) = (e.caller ≡ worker) × ServedBy wants j past x (job_call_of e) ⊥ (AreRefused wants worker j past x es)
+AreRefused wants worker j past x (e ∷ es) =
+    (e.caller ≡ worker) × ServedBy wants j past x (job_call_of e) ⊥ (AreRefused wants worker j past x es)
 
 -- a job that a worker did: its number, and its report as it is read
 pub record DoneJob : Type 0 where

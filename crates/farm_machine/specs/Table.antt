@@ -10,13 +10,16 @@ use Rattle.farm_machine.specs.declared.reports.Why5.TheVariants.{Station, Put as
 use Rattle.farm_machine.specs.declared.reports.End.{End}
 use Rattle.farm_machine.specs.declared.reports.End.TheVariants.{Done, Failed}
 use Rattle.farm_machine.specs.Acts.{Takes, Gives, GivesBad, FindsDown, TakesLocal, GivesLocal, Act, Did, Met, slots_of, Loan, loan_of}
-use Rattle.farm_machine.specs.Jobs.{Job, CanRequest, may_be_sent, is_source_ready, source_name, output_name, whole_command, preprocessing_command, compile_command, host_count, is_local_host}
-use Rattle.farm_machine.specs.Course.{IsRunOf, IsBegunWith, IsWholeWith, IsBrokenWith, Tried, is_tried, tried_too, no_host, outcome_of, IsBackOff, Course}
+use Rattle.farm_machine.specs.Jobs.{Job, CanRequest, may_be_sent, is_source_ready, source_name, output_name, whole_command}
+use Rattle.farm_machine.specs.Jobs.{preprocessing_command, compile_command, host_count, is_local_host}
+use Rattle.farm_machine.specs.Course.{IsRunOf, IsBegunWith, IsWholeWith, IsBrokenWith, Tried, is_tried, tried_too, no_host, outcome_of}
+use Rattle.farm_machine.specs.Course.{IsBackOff, Course}
 
 -- The end of a job by its compile: an object of status 0 is put, and is the job's; it may not be put; another status is
 -- the job's, with no put.
 abbrev pub EndPart : Job → By → List ℕ → Outcome → List Act → End → Type 0
-EndPart j by note o (Did (put x) ∷ []) end = (o.status ≡ 0) × (x.path ≡ output_name j) × (x.bytes ≡ o.object) × (end ≡ Done 0 note o.err o.out by)
+EndPart j by note o (Did (put x) ∷ []) end = (o.status ≡ 0) × (x.path ≡ output_name j) × (x.bytes ≡ o.object)
+    × (end ≡ Done 0 note o.err o.out by)
 EndPart j by note o [] end =
     ((o.status ≢ 0) × (end ≡ Done o.status note o.err o.out by))
     ⊎ ((o.status ≡ 0) × (end ≡ Failed NotPut))
@@ -24,7 +27,8 @@ EndPart j by note o acts end = ⊥
 
 -- the compile here, in a local slot: it ran, or it could not be run
 abbrev pub HerePart : Job → List ℕ → List ℕ → List Act → End → Type 0
-HerePart j source note (Met TakesLocal ∷ Did (ran x) ∷ Met GivesLocal ∷ acts) end = IsRunOf x (compile_command j) source × EndPart j Here note (outcome_of x.ran) acts end
+HerePart j source note (Met TakesLocal ∷ Did (ran x) ∷ Met GivesLocal ∷ acts) end =
+    IsRunOf x (compile_command j) source × EndPart j Here note (outcome_of x.ran) acts end
 HerePart j source note (Met TakesLocal ∷ Met GivesLocal ∷ []) end = end ≡ Failed Station
 HerePart j source note acts end = ⊥
 
@@ -44,7 +48,8 @@ abbrev pub WholeThen : Job → ℕ → List ℕ → List ℕ → Outcome → Lis
 WholeThen j host source note o acts end =
     ((o.status ≡ 0) × EndPart j (Remote host) note o acts end)
     ⊎ (((o.status ≢ 0) × (j.config.fallback ≡ true) × (j.config.retry ≡ true) × HerePart j source note acts end)
-    ⊎ ((o.status ≢ 0) × ((j.config.fallback ≡ false) ⊎ (j.config.retry ≡ false)) × (acts ≡ []) × (end ≡ Done o.status note o.err o.out (Remote host))))
+    ⊎ ((o.status ≢ 0) × ((j.config.fallback ≡ false) ⊎ (j.config.retry ≡ false)) × (acts ≡ [])
+    × (end ≡ Done o.status note o.err o.out (Remote host))))
 
 -- The compile elsewhere, of a request within its limits, after these tries: all hosts are down; or a local host
 -- compiled it, or could not run it; or the exchange with a host was whole; or it broke, the host is left alone for the
@@ -52,8 +57,10 @@ WholeThen j host source note o acts end =
 abbrev pub SendPart : Job → List ℕ → List ℕ → List Tried → List Act → End → Type 0
 SendPart j source note tried (Met FindsDown ∷ acts) end = CanRequest j source × HereOr j source note (Failed (no_host tried)) acts end
 SendPart j source note tried (Met (Takes host) ∷ Did (ran x) ∷ Met (Gives k) ∷ acts) end =
-    MayTake j source tried host × (k ≡ host) × (is_local_host j host ≡ true) × IsRunOf x (compile_command j) source × EndPart j Here note (outcome_of x.ran) acts end
-SendPart j source note tried (Met (Takes host) ∷ Met (Gives k) ∷ []) end = MayTake j source tried host × (k ≡ host) × (is_local_host j host ≡ true) × (end ≡ Failed Station)
+    MayTake j source tried host × (k ≡ host) × (is_local_host j host ≡ true) × IsRunOf x (compile_command j) source
+    × EndPart j Here note (outcome_of x.ran) acts end
+SendPart j source note tried (Met (Takes host) ∷ Met (Gives k) ∷ []) end =
+    MayTake j source tried host × (k ≡ host) × (is_local_host j host ≡ true) × (end ≡ Failed Station)
 SendPart j source note tried (Met (Takes host) ∷ Did (exchanged x) ∷ Met (Gives k) ∷ acts) end =
     MayTake j source tried host × (k ≡ host) × (is_local_host j host ≡ false)
     × (((o : Outcome) × IsWholeWith j x source host o × WholeThen j host source note o acts end)
@@ -76,9 +83,11 @@ CompilePart j source note acts end =
 -- A whole course, want of memory aside: a command that stays here is run as it stands; a preprocessed source is
 -- fetched; any other source is preprocessed, and a preprocessor that fails ends the job.
 abbrev pub Finished : Job → List Act → End → Type 0
-Finished j (Met TakesLocal ∷ Did (ran x) ∷ Met GivesLocal ∷ []) end = (may_be_sent j ≡ false) × IsRunOf x (whole_command j) [] × (end ≡ Done x.ran.status [] x.ran.err x.ran.out InPlace)
+Finished j (Met TakesLocal ∷ Did (ran x) ∷ Met GivesLocal ∷ []) end = (may_be_sent j ≡ false) × IsRunOf x (whole_command j) []
+    × (end ≡ Done x.ran.status [] x.ran.err x.ran.out InPlace)
 Finished j (Met TakesLocal ∷ Met GivesLocal ∷ []) end = (may_be_sent j ≡ false) × (end ≡ Failed Station)
-Finished j (Did (fetched x) ∷ acts) end = (may_be_sent j ≡ true) × (is_source_ready j ≡ true) × (x.path ≡ source_name j) × CompilePart j x.bytes [] acts end
+Finished j (Did (fetched x) ∷ acts) end = (may_be_sent j ≡ true) × (is_source_ready j ≡ true) × (x.path ≡ source_name j)
+    × CompilePart j x.bytes [] acts end
 Finished j (Did (ran x) ∷ acts) end =
     (may_be_sent j ≡ true) × (is_source_ready j ≡ false) × IsRunOf x (preprocessing_command j) []
     × (((x.ran.status ≢ 0) × (acts ≡ []) × (end ≡ Done x.ran.status [] x.ran.err [] Cpp))

@@ -6,7 +6,8 @@ use Rattle.slot_table.specs.declared.calls.CallEntry.{CallEntry}
 use Rattle.slot_table.specs.History.{IsLegal, calls_by, jobs_drawn}
 use Rattle.farm_machine.specs.declared.reports.End.{End}
 use Rattle.farm_machine.specs.Acts.{SlotEvent, Takes, FindsDown, TakesLocal, Act, Did, Met, slots_of, next_met, after_met}
-use Rattle.farm_machine.specs.Machine.{SlotKind, HostSlot, LocalSlot, JobCall, Draws, Adds, Waits, Mismatched, job_call_of, Wants, MaskIs, set_at, FarmStep, Calls, Does, Returns, calls_in, acts_in, ends_in}
+use Rattle.farm_machine.specs.Machine.{SlotKind, HostSlot, LocalSlot, JobCall, Draws, Adds, Waits, Mismatched, job_call_of, Wants, MaskIs}
+use Rattle.farm_machine.specs.Machine.{set_at, FarmStep, Calls, Does, Returns, calls_in, acts_in, ends_in}
 
 -- the reports of all jobs, as they are read: of each job its worker, its acts and its end
 pub record Reports : Type 0 where
@@ -45,7 +46,8 @@ IsWaitedFor HostSlot x = (x ≡ FindsDown) ⊎ ((host : ℕ) × (x ≡ Takes hos
 IsWaitedFor LocalSlot x = x ≡ TakesLocal
 
 -- The call of this worker follows: a draw that answers none; a draw that answers a job which this worker's report is of; the next slot
--- event of the job that this worker's latest draw answered; or a refused take before that event, where it is waited for. A take has the mask
+-- event of the job that this worker's latest draw answered; or a refused take before that event, where it is waited for. A take has
+-- the mask
 -- that is wanted after the job's slot events so far.
 abbrev pub Follows : Reports → Wants → Progress → ℕ → JobCall → Type 0
 Follows r wants p worker (Draws None) = Unit {0}

@@ -5,10 +5,12 @@ use Rattle.farm_words.specs.declared.name.CommandName.{CommandName}
 use Rattle.farm_words.specs.declared.command.Command.{Command}
 use Rattle.farm_words.specs.Numbers.{jobs_number}
 use Rattle.farm_words.specs.Names.{first_word_named}
-use Rattle.farm_words.specs.Commands.{Meaning, meaning, command_meant, counted, rehearse_words, is_help_first, asks_help, ByFirstWord, WordsRead, IsCommand, BadAt}
+use Rattle.farm_words.specs.Commands.{Meaning, meaning, command_meant, counted, rehearse_words, is_help_first, asks_help, ByFirstWord}
+use Rattle.farm_words.specs.Commands.{WordsRead, IsCommand, BadAt}
 
 -- what an answer means is its place in the contract
-pub answers : (result : Result Command ℕ) (words : List (List ℕ)) → WordsRead words (command_meant result) → MatchResult result (λ command. IsCommand words (meaning command)) (BadAt words)
+pub answers : (result : Result Command ℕ) (words : List (List ℕ)) → WordsRead words (command_meant result)
+    → MatchResult result (λ command. IsCommand words (meaning command)) (BadAt words)
 answers (Ok command) words is = is
 answers (Err place) words is = is
 
@@ -28,7 +30,8 @@ module _ {X : Type 0} (f : X → List ℕ) where
   module _ (words : List X) (word : X) (more : List X) (text : List ℕ) (are : words ≡ word ∷ more) (spelled : text ≡ f word) where
     pub first_read : (answer : Result Meaning ℕ) → ByFirstWord (first_word_named text) (map f more) answer → WordsRead (map f words) answer
     first_read answer read =
-        subst (λ (ws : List X). WordsRead (map f ws) answer) (sym are) (subst (λ t. ByFirstWord (first_word_named t) (map f more) answer) spelled read)
+        subst (λ (ws : List X). WordsRead (map f ws) answer) (sym are)
+        (subst (λ t. ByFirstWord (first_word_named t) (map f more) answer) spelled read)
 
     pub first_counted : counted (jobs_number text) (map f words) ≡ rehearse_words (map f words)
     first_counted =

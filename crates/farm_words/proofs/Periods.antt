@@ -7,15 +7,18 @@ use Rattle.farm_words.specs.Numbers.{IsPeriod}
 use Rattle.farm_words.specs.Environment.{value_of, PeriodOf, HasBadPeriod}
 use Rattle.farm_types.proofs.DecimalLemmas.{decimal_or_none}
 
-some_value : (value : Option (List ℕ)) → ((period : ℕ) × MatchOption value (period ≡ period_default) (λ v. IsPeriod v period)) ⊎ MatchOption value ⊥ (λ v. (n : ℕ) → ¬ (IsPeriod v n))
+some_value : (value : Option (List ℕ)) → ((period : ℕ) × MatchOption value (period ≡ period_default) (λ v. IsPeriod v period))
+    ⊎ MatchOption value ⊥ (λ v. (n : ℕ) → ¬ (IsPeriod v n))
 some_value None = inl (period_default, refl)
 some_value (Some value) = decimal_or_none period_digits 0 period_max value
 
-one_value : (value : Option (List ℕ)) (one other : ℕ) → MatchOption value (one ≡ period_default) (λ v. IsPeriod v one) → MatchOption value (other ≡ period_default) (λ v. IsPeriod v other) → one ≡ other
+one_value : (value : Option (List ℕ)) (one other : ℕ) → MatchOption value (one ≡ period_default) (λ v. IsPeriod v one)
+    → MatchOption value (other ≡ period_default) (λ v. IsPeriod v other) → one ≡ other
 one_value None one other h k = h ∙ sym k
 one_value (Some value) one other h k = sym h.value ∙ k.value
 
-apart_value : (value : Option (List ℕ)) (period : ℕ) → MatchOption value (period ≡ period_default) (λ v. IsPeriod v period) → MatchOption value ⊥ (λ v. (n : ℕ) → ¬ (IsPeriod v n)) → ⊥
+apart_value : (value : Option (List ℕ)) (period : ℕ) → MatchOption value (period ≡ period_default) (λ v. IsPeriod v period)
+    → MatchOption value ⊥ (λ v. (n : ℕ) → ¬ (IsPeriod v n)) → ⊥
 apart_value None period h bad = bad
 apart_value (Some value) period h bad = bad period h
 

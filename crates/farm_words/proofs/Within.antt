@@ -1,5 +1,6 @@
 -- What the words of a command say is within its limits.
-use Rattle.std.proofs.Common.{◌≡◌, ◌≤◌, ℕ, Bool, true, false, List, [], ◌∷◌, length, Option, Some, None, Result, Ok, Err, nat_le, refl, sym, subst, arith}
+use Rattle.std.proofs.Common.{◌≡◌, ◌≤◌, ℕ, Bool, true, false, List, [], ◌∷◌, length, Option, Some, None, Result, Ok, Err, nat_le, refl}
+use Rattle.std.proofs.Common.{sym, subst, arith}
 use Rattle.std.specs.Prelude.{unwrap_or, ◌==◌, if◌then◌else◌, MatchBool}
 use Rattle.std.specs.Option.{option_and_then}
 use Rattle.farm_types.proofs.DecimalLemmas.{decimal-within}
@@ -12,14 +13,17 @@ use Rattle.farm_words.specs.declared.name.FirstWord.TheVariants as first
 use Rattle.farm_words.specs.declared.name.OptionName.TheVariants as option
 use Rattle.farm_words.specs.Limits.{count_digits, tries_digits, tries_max, tries_default, lines_default}
 use Rattle.farm_words.specs.Numbers.{jobs_number}
-use Rattle.farm_words.specs.Commands.{Meaning, Cc, Scan, Rehearse, Help, Version, IsCommand, ByFirstWord, NamedCommand, asks_help, at_most, counted, rehearse_words}
+use Rattle.farm_words.specs.Commands.{Meaning, Cc, Scan, Rehearse, Help, Version, IsCommand, ByFirstWord, NamedCommand, asks_help}
+use Rattle.farm_words.specs.Commands.{at_most, counted, rehearse_words}
 use Rattle.farm_words.specs.Options.{given_by}
 use Rattle.farm_words.specs.Names.{first_word_named, option_text}
 use Rattle.option_words.specs.Items.{Item, value_in}
 use Rattle.farm_words.specs.Within.{AreWithin, IsWithin}
 
 -- a value that isn't there stands for its default
-within-or : (digits greatest default : ℕ) (o : Option (List ℕ)) → (1 ≤ default) × (default ≤ greatest) → (1 ≤ unwrap_or (option_and_then (decimal_of digits 1 greatest) o) default) × (unwrap_or (option_and_then (decimal_of digits 1 greatest) o) default ≤ greatest)
+within-or : (digits greatest default : ℕ) (o : Option (List ℕ)) → (1 ≤ default) × (default ≤ greatest)
+    → (1 ≤ unwrap_or (option_and_then (decimal_of digits 1 greatest) o) default)
+    × (unwrap_or (option_and_then (decimal_of digits 1 greatest) o) default ≤ greatest)
 within-or digits greatest default None known = known
 within-or digits greatest default (Some word) known = go (decimal_of digits 1 greatest word) refl
   where
@@ -60,9 +64,11 @@ rehearsed (word ∷ words) = go (jobs_number word) refl
   where
     go : (o : Option ℕ) → jobs_number word ≡ o → ResultWithin (counted o (word ∷ words))
     go None is = tt
-    go (Some jobs) is = let few = decimal-within count_digits 1 jobs_max word jobs is in either (nat_le (length (word ∷ words)) 1) (Rehearse jobs) 2 (record { some = few.0; most = few.1 })
+    go (Some jobs) is = let few = decimal-within count_digits 1 jobs_max word jobs is in
+        either (nat_le (length (word ∷ words)) 1) (Rehearse jobs) 2 (record { some = few.0; most = few.1 })
 
-named : (command : CommandName) (words : List (List ℕ)) (answer : Result Meaning ℕ) → NamedCommand command words answer → ResultWithin answer
+named : (command : CommandName) (words : List (List ℕ)) (answer : Result Meaning ℕ) → NamedCommand command words answer
+    → ResultWithin answer
 named name.Build words answer (Ok says, read, is) = subst ResultWithin (sym is) (subst AreWithin (sym read.2) (items-within read.0))
 named name.Build words answer (Err place, read, is) = subst ResultWithin (sym is) tt
 named name.Watch words answer (Ok says, read, is) = subst ResultWithin (sym is) (subst AreWithin (sym read.2) (items-within read.0))

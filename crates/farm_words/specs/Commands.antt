@@ -1,5 +1,6 @@
 -- The commands of `farm`, by their words.
-use Rattle.std.specs.Prelude.{◌≡◌, ℕ, ◌+◌, ◌==◌, nat_le, Bool, false, ◌&&◌, ◌||◌, not, List, [], ◌∷◌, length, map, string_bytes, codes, bytes_eq, Option, Some, None, Result, Ok, Err, MatchBool, if◌then◌else◌}
+use Rattle.std.specs.Prelude.{◌≡◌, ℕ, ◌+◌, ◌==◌, nat_le, Bool, false, ◌&&◌, ◌||◌, not, List, [], ◌∷◌, length, map, string_bytes, codes}
+use Rattle.std.specs.Prelude.{bytes_eq, Option, Some, None, Result, Ok, Err, MatchBool, if◌then◌else◌}
 use Rattle.std.specs.Option.{option_copied}
 use Rattle.farm_words.specs.declared.name.CommandName.{CommandName}
 use Rattle.farm_words.specs.declared.name.CommandName.TheVariants as name

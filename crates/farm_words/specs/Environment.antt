@@ -1,5 +1,6 @@
 -- What the environment says.
-use Rattle.std.specs.Prelude.{◌≡◌, ℕ, Bool, false, ◌&&◌, not, List, [], ◌∷◌, codes, bytes_eq, Option, Some, None, unwrap_or, MatchOption, if◌then◌else◌}
+use Rattle.std.specs.Prelude.{◌≡◌, ℕ, Bool, false, ◌&&◌, not, List, [], ◌∷◌, codes, bytes_eq, Option, Some, None, unwrap_or, MatchOption}
+use Rattle.std.specs.Prelude.{if◌then◌else◌}
 use Rattle.farm_types.specs.Limits.{period_default}
 use Rattle.farm_words.specs.Numbers.{IsPeriod}
 
@@ -24,7 +25,8 @@ is_fallback_on fallback variables = fallback && not (is_zero (value_of variables
 
 -- the back-off period in seconds: that of `DISTCC_BACKOFF_PERIOD`, or the default where the name doesn't stand
 abbrev pub PeriodOf : List (List ℕ × List ℕ) → ℕ → Type 0
-PeriodOf variables period = MatchOption (value_of variables (codes "DISTCC_BACKOFF_PERIOD")) (period ≡ period_default) (λ value. IsPeriod value period)
+PeriodOf variables period =
+    MatchOption (value_of variables (codes "DISTCC_BACKOFF_PERIOD")) (period ≡ period_default) (λ value. IsPeriod value period)
 
 -- the name stands, and its value is no period
 abbrev pub HasBadPeriod : List (List ℕ × List ℕ) → Type 0

@@ -1,5 +1,6 @@
 -- The options of a command, by the words that they are.
-use Rattle.std.specs.Prelude.{◌≡◌, ℕ, ◌+◌, Bool, true, false, not, List, Option, Some, None, is_some, unwrap_or, Result, Ok, Err, if◌then◌else◌}
+use Rattle.std.specs.Prelude.{◌≡◌, ℕ, ◌+◌, Bool, true, false, not, List, Option, Some, None, is_some, unwrap_or, Result, Ok, Err}
+use Rattle.std.specs.Prelude.{if◌then◌else◌}
 use Rattle.std.specs.Option.{option_and_then, option_copied}
 use Rattle.farm_types.specs.Limits.{workers_default}
 use Rattle.option_words.specs.declared.table.Row.{Row}
@@ -25,7 +26,15 @@ pub record Given : Type 0 where
 
 -- what is given in these
 abbrev pub given_in : Options → Given
-given_in options = record { hosts = option_copied options.hosts; workers = options.workers; tries = options.tries; lines = options.lines; fallback = options.fallback; retry = options.retry }
+given_in options = record {
+  hosts = option_copied options.hosts;
+  workers = options.workers;
+  tries = options.tries;
+  lines =
+      options.lines;
+  fallback = options.fallback;
+  retry = options.retry;
+}
 
 -- the number of workers, and of exchanges that a job may make
 abbrev pub worker_count : Given → ℕ

@@ -1,5 +1,6 @@
 -- How a text is cut into words.
-use Rattle.std.proofs.Common.{◌≡◌, ℕ, suc, ◌+◌, ◌-◌, ◌<◌, ◌≤◌, Bool, true, false, not, cond, eqb, List, [], ◌∷◌, ◌++◌, length, get_or, take, drop, refl, ap, sym, ◌∙◌, subst, ⊎_elim, arith}
+use Rattle.std.proofs.Common.{◌≡◌, ℕ, suc, ◌+◌, ◌-◌, ◌<◌, ◌≤◌, Bool, true, false, not, cond, eqb, List, [], ◌∷◌, ◌++◌, length, get_or}
+use Rattle.std.proofs.Common.{take, drop, refl, ap, sym, ◌∙◌, subst, ⊎_elim, arith}
 use Rattle.std.specs.List.{AllPass}
 use Rattle.std.specs.Prelude.{◌==◌}
 use Rattle.std.proofs.lemmas.Bool.{cond_both, cases_Bool, false≢true, eq-eqb, eqb-true}
@@ -22,7 +23,8 @@ in_word c = not (ends_word c)
 not_line_feed : (c : ℕ) → in_line c ≡ true → eqb c 10 ≡ false
 not_line_feed c h = grind (arith, nat_tests)
 
-comment_body : (at : ℕ) (body rest : List ℕ) → AllPass in_line body → EndsLine rest → runs at (without_comments true (body ++ rest)) ≡ runs (at + length body) (without_comments false rest)
+comment_body : (at : ℕ) (body rest : List ℕ) → AllPass in_line body → EndsLine rest
+    → runs at (without_comments true (body ++ rest)) ≡ runs (at + length body) (without_comments false rest)
 comment_body at [] [] h ends = refl
 comment_body at [] (c ∷ cs) h ends =
     let e : at ≡ at + 0 = omega arith in
@@ -34,12 +36,15 @@ comment_body at (b ∷ body) rest h ends =
     rw no (later ∙ ap (λ a. runs a (without_comments false rest)) e)
 
 -- from the `#` to the end of its line
-pub comment_at : (text : List ℕ) (i e : ℕ) → get_or text i 0 ≡ 35 → i < e → e ≤ length text → AllPass in_line (take (e - (i + 1)) (drop (i + 1) text)) → EndsLine (drop e text) → words_from i text ≡ words_from e text
+pub comment_at : (text : List ℕ) (i e : ℕ) → get_or text i 0 ≡ 35 → i < e → e ≤ length text
+    → AllPass in_line (take (e - (i + 1)) (drop (i + 1) text)) → EndsLine (drop e text) → words_from i text ≡ words_from e text
 comment_at text i e hash low high body ends =
     let B = take (e - (i + 1)) (drop (i + 1) text) in
-    let cut : drop i text ≡ 35 ∷ (B ++ drop e text) = drop_more text i 0 (omega arith) ∙ ap (λ c. c ∷ drop (i + 1) text) hash ∙ ap (λ t. 35 ∷ t) (range_rest text (i + 1) e (omega arith)) in
+    let cut : drop i text ≡ 35 ∷ (B ++ drop e text) = drop_more text i 0 (omega arith) ∙ ap (λ c. c ∷ drop (i + 1) text) hash
+    ∙ ap (λ t. 35 ∷ t) (range_rest text (i + 1) e (omega arith)) in
     let len : (i + 1) + length B ≡ e = omega (arith, length-range text (i + 1) e (omega arith) high) in
-    ap (λ t. runs i (without_comments false t)) cut ∙ comment_body (i + 1) B (drop e text) body ends ∙ ap (λ a. runs a (without_comments false (drop e text))) len
+    ap (λ t. runs i (without_comments false t)) cut ∙ comment_body (i + 1) B (drop e text) body ends
+    ∙ ap (λ a. runs a (without_comments false (drop e text))) len
 
 -- ---- words
 
@@ -70,11 +75,16 @@ Starts-later at (w ∷ ws) h = omega arith
 
 with_byte_starts : (at c : ℕ) (ws : List TextWord) → Starts at (with_byte at c ws)
 with_byte_starts at c [] = omega arith
-with_byte_starts at c (w ∷ ws) = elim (w.at == at + 1) as (λ b. Starts at (cond b (record { at = at; bytes = c ∷ w.bytes } ∷ ws) (record { at = at; bytes = c ∷ [] } ∷ w ∷ ws))) [ true ↦ omega arith | false ↦ omega arith ]
+with_byte_starts at c (w ∷ ws) =
+    elim (w.at == at + 1) as (λ b. Starts at
+    (cond b (record { at = at; bytes = c ∷ w.bytes } ∷ ws) (record { at = at; bytes = c ∷ [] } ∷ w ∷ ws)))
+    [ true ↦ omega arith | false ↦ omega arith ]
 
 runs_start : (at : ℕ) (xs : List ℕ) → Starts at (runs at xs)
 runs_start at [] = tt
-runs_start at (c ∷ cs) = elim (is_blank_or_feed c) as (λ b. Starts at (cond b (runs (at + 1) cs) (with_byte at c (runs (at + 1) cs)))) [ true ↦ Starts-later at (runs (at + 1) cs) (runs_start (at + 1) cs) | false ↦ with_byte_starts at c (runs (at + 1) cs) ]
+runs_start at (c ∷ cs) = elim (is_blank_or_feed c) as
+    (λ b. Starts at (cond b (runs (at + 1) cs) (with_byte at c (runs (at + 1) cs))))
+    [ true ↦ Starts-later at (runs (at + 1) cs) (runs_start (at + 1) cs) | false ↦ with_byte_starts at c (runs (at + 1) cs) ]
 
 with_byte_far : (at c : ℕ) (ws : List TextWord) → Starts (at + 1 + 1) ws → with_byte at c ws ≡ record { at = at; bytes = c ∷ [] } ∷ ws
 with_byte_far at c [] h = refl
@@ -90,7 +100,8 @@ plain c = not (is_blank_or_feed c)
 no_blank : (c : ℕ) → plain c ≡ true → is_blank_or_feed c ≡ false
 no_blank c h = ⊎_elim (λ is. absurd (false≢true (sym (ap not is) ∙ h))) (λ none. none) (cases_Bool (is_blank_or_feed c))
 
-runs_word : (at c : ℕ) (cs t : List ℕ) → AllPass plain (c ∷ cs) → EndsRun t → runs at (c ∷ (cs ++ t)) ≡ record { at = at; bytes = c ∷ cs } ∷ runs (at + suc (length cs)) t
+runs_word : (at c : ℕ) (cs t : List ℕ) → AllPass plain (c ∷ cs) → EndsRun t
+    → runs at (c ∷ (cs ++ t)) ≡ record { at = at; bytes = c ∷ cs } ∷ runs (at + suc (length cs)) t
 runs_word at c [] t h stops =
     let no : is_blank_or_feed c ≡ false = no_blank c (All-head (λ c. plain c ≡ true) c [] h) in
     rw no (with_byte_far at c (runs (at + 1) t) (far_start (at + 1) t stops))
@@ -99,7 +110,9 @@ runs_word at c (d ∷ ds) t h stops =
     let later = runs_word (at + 1) d ds t (All-tail (λ c. plain c ≡ true) c (d ∷ ds) h) stops in
     let same : eqb (at + 1) (at + 1) ≡ true = grind (arith, nat_tests) in
     let e : at + 1 + suc (length ds) ≡ at + suc (suc (length ds)) = omega arith in
-    let joined : with_byte at c (record { at = at + 1; bytes = d ∷ ds } ∷ runs (at + 1 + suc (length ds)) t) ≡ record { at = at; bytes = c ∷ d ∷ ds } ∷ runs (at + suc (suc (length ds))) t = rw same (ap (λ a. record { at = at; bytes = c ∷ d ∷ ds } ∷ runs a t) e) in
+    let joined : with_byte at c (record { at = at + 1; bytes = d ∷ ds } ∷ runs (at + 1 + suc (length ds)) t)
+    ≡ record { at = at; bytes = c ∷ d ∷ ds } ∷ runs (at + suc (suc (length ds))) t =
+    rw same (ap (λ a. record { at = at; bytes = c ∷ d ∷ ds } ∷ runs a t) e) in
     rw no (ap (with_byte at c) later ∙ joined)
 
 blank_end : (c : ℕ) → ends_word c ≡ true → (c == 35) ≡ false → is_blank_or_feed c ≡ true
@@ -108,19 +121,28 @@ blank_end c h no_hash = grind (arith, nat_tests)
 stops_run : (rest : List ℕ) → EndsWord rest → EndsRun (without_comments false rest)
 stops_run [] h = tt
 stops_run (c ∷ cs) h =
-    cond_both (c == 10) (10 ∷ without_comments false cs) (cond (c == 35) (32 ∷ without_comments true cs) (c ∷ without_comments false cs)) EndsRun
+    cond_both (c == 10) (10 ∷ without_comments false cs)
+    (cond (c == 35) (32 ∷ without_comments true cs) (c ∷ without_comments false cs)) EndsRun
     (λ feed. refl)
-    (λ no_feed. cond_both (c == 35) (32 ∷ without_comments true cs) (c ∷ without_comments false cs) EndsRun (λ hash. refl) (λ no_hash. blank_end c h no_hash))
+    (λ no_feed. cond_both (c == 35) (32 ∷ without_comments true cs) (c ∷ without_comments false cs) EndsRun (λ hash. refl)
+    (λ no_hash. blank_end c h no_hash))
 
 -- a word, behind which another byte comes that is in no word
-pub word_cut : (at c : ℕ) (cs rest : List ℕ) → AllPass in_word (c ∷ cs) → EndsWord rest → runs at (without_comments false (c ∷ (cs ++ rest))) ≡ record { at = at; bytes = c ∷ cs } ∷ runs (at + suc (length cs)) (without_comments false rest)
-word_cut at c cs rest h ends = ap (runs at) (kept_word (c ∷ cs) rest h) ∙ runs_word at c cs (without_comments false rest) (All-weaker (λ c. in_word c ≡ true) (λ c. plain c ≡ true) (λ c h. ap not (not_blank c h)) (c ∷ cs) h) (stops_run rest ends)
+pub word_cut : (at c : ℕ) (cs rest : List ℕ) → AllPass in_word (c ∷ cs) → EndsWord rest
+    → runs at (without_comments false (c ∷ (cs ++ rest))) ≡ record { at = at; bytes = c ∷ cs } ∷ runs (at + suc (length cs))
+    (without_comments false rest)
+word_cut at c cs rest h ends = ap (runs at) (kept_word (c ∷ cs) rest h)
+    ∙ runs_word at c cs (without_comments false rest)
+    (All-weaker (λ c. in_word c ≡ true) (λ c. plain c ≡ true) (λ c h. ap not (not_blank c h)) (c ∷ cs) h) (stops_run rest ends)
 
-pub word_at : (text : List ℕ) (i e : ℕ) → ends_word (get_or text i 0) ≡ false → i < e → e ≤ length text → AllPass in_word (take (e - (i + 1)) (drop (i + 1) text)) → EndsWord (drop e text) → words_from i text ≡ record { at = i; bytes = take (e - i) (drop i text) } ∷ words_from (i + length (take (e - i) (drop i text))) text
+pub word_at : (text : List ℕ) (i e : ℕ) → ends_word (get_or text i 0) ≡ false → i < e → e ≤ length text
+    → AllPass in_word (take (e - (i + 1)) (drop (i + 1) text)) → EndsWord (drop e text)
+    → words_from i text ≡ record { at = i; bytes = take (e - i) (drop i text) } ∷ words_from (i + length (take (e - i) (drop i text))) text
 word_at text i e first low high body ends =
     let B = take (e - (i + 1)) (drop (i + 1) text) in
     let x : ℕ = get_or text i 0 in
-    let cut : drop i text ≡ x ∷ (B ++ drop e text) = drop_more text i 0 (omega arith) ∙ ap (λ t. x ∷ t) (range_rest text (i + 1) e (omega arith)) in
+    let cut : drop i text ≡ x ∷ (B ++ drop e text) = drop_more text i 0 (omega arith)
+    ∙ ap (λ t. x ∷ t) (range_rest text (i + 1) e (omega arith)) in
     let len : i + suc (length B) ≡ e = omega (arith, length-range text (i + 1) e (omega arith) high) in
     let long : e ≡ i + length (take (e - i) (drop i text)) = omega (arith, length-range text i e (omega arith) high) in
     let yes : in_word x ≡ true = ap not first in
@@ -140,7 +162,8 @@ runs_gap at (c ∷ cs) rest h =
     let e : at + 1 + length cs ≡ at + suc (length cs) = omega arith in
     rw here (later ∙ ap (λ a. runs a rest) e)
 
-run_first : (at : ℕ) (bytes rest : List ℕ) → 1 ≤ length bytes → AllPass plain bytes → EndsRun rest → runs at (bytes ++ rest) ≡ record { at = at; bytes = bytes } ∷ runs (at + length bytes) rest
+run_first : (at : ℕ) (bytes rest : List ℕ) → 1 ≤ length bytes → AllPass plain bytes → EndsRun rest
+    → runs at (bytes ++ rest) ≡ record { at = at; bytes = bytes } ∷ runs (at + length bytes) rest
 run_first at [] rest some h ends = absurd (omega arith)
 run_first at (c ∷ cs) rest some h ends = runs_word at c cs rest h ends
 
@@ -149,7 +172,8 @@ runs_are at text [] h = sym (ap (runs at) (sym (append-nil text)) ∙ runs_gap a
 runs_are at text (w ∷ ws) (rest, b, more) =
     let later = runs_are (w.at + length w.bytes) rest ws more in
     ap (λ t. w ∷ t) later
-    ∙ sym (ap (runs at) b.split ∙ runs_gap at b.gap (w.bytes ++ rest) b.blank ∙ ap (λ a. runs a (w.bytes ++ rest)) (sym b.place) ∙ run_first w.at w.bytes rest b.some b.plain b.ends)
+    ∙ sym (ap (runs at) b.split ∙ runs_gap at b.gap (w.bytes ++ rest) b.blank ∙ ap (λ a. runs a (w.bytes ++ rest)) (sym b.place)
+    ∙ run_first w.at w.bytes rest b.some b.plain b.ends)
 
 gap_more : (at c : ℕ) (cs : List ℕ) (ws : List TextWord) → is_blank_or_feed c ≡ true → RunsOf (at + 1) cs ws → RunsOf at (c ∷ cs) ws
 gap_more at c cs [] is h = All-cons (λ c. is_blank_or_feed c ≡ true) c cs is h
@@ -177,7 +201,8 @@ gap_ends [] rest some h = absurd (omega arith)
 gap_ends (c ∷ cs) rest some h = All-head (λ c. is_blank_or_feed c ≡ true) c cs h
 
 -- a word of one byte
-alone : (at c : ℕ) (cs : List ℕ) → is_blank_or_feed c ≡ false → EndsRun cs → BeginsWithWord at (c ∷ cs) (record { at = at; bytes = c ∷ [] }) cs
+alone : (at c : ℕ) (cs : List ℕ) → is_blank_or_feed c ≡ false → EndsRun cs
+    → BeginsWithWord at (c ∷ cs) (record { at = at; bytes = c ∷ [] }) cs
 alone at c cs no_space ends = record {
   gap = [];
   split = refl;
@@ -189,7 +214,8 @@ alone at c cs no_space ends = record {
 }
 
 -- a byte at the front of a word
-joined : (at c : ℕ) (cs : List ℕ) (w : TextWord) (ws : List TextWord) → is_blank_or_feed c ≡ false → w.at ≡ at + 1 → RunsOf (at + 1) cs (w ∷ ws) → RunsOf at (c ∷ cs) (record { at = at; bytes = c ∷ w.bytes } ∷ ws)
+joined : (at c : ℕ) (cs : List ℕ) (w : TextWord) (ws : List TextWord) → is_blank_or_feed c ≡ false → w.at ≡ at + 1
+    → RunsOf (at + 1) cs (w ∷ ws) → RunsOf at (c ∷ cs) (record { at = at; bytes = c ∷ w.bytes } ∷ ws)
 joined at c cs w ws no_space here (rest, b, more) =
     let place = b.place in
     let none : b.gap ≡ [] = nil_from_length b.gap (omega arith) in
@@ -207,7 +233,8 @@ joined at c cs w ws no_space here (rest, b, more) =
       subst (λ a. RunsOf a rest ws) end more,
     )
 
-apart : (at c : ℕ) (cs : List ℕ) (w : TextWord) (ws : List TextWord) → is_blank_or_feed c ≡ false → (w.at == at + 1) ≡ false → RunsOf (at + 1) cs (w ∷ ws) → RunsOf at (c ∷ cs) (record { at = at; bytes = c ∷ [] } ∷ w ∷ ws)
+apart : (at c : ℕ) (cs : List ℕ) (w : TextWord) (ws : List TextWord) → is_blank_or_feed c ≡ false → (w.at == at + 1) ≡ false
+    → RunsOf (at + 1) cs (w ∷ ws) → RunsOf at (c ∷ cs) (record { at = at; bytes = c ∷ [] } ∷ w ∷ ws)
 apart at c cs w ws no_space far (rest, b, more) =
     let place = b.place in
     let far_on : (w.at ≡ at + 1) → ⊥ = λ e. false≢true (sym far ∙ eq-eqb w.at (at + 1) e) in
@@ -215,10 +242,12 @@ apart at c cs w ws no_space far (rest, b, more) =
     let ends : EndsRun cs = subst EndsRun (sym b.split) (gap_ends b.gap (w.bytes ++ rest) some b.blank) in
     (cs, alone at c cs no_space ends, (rest, b, more))
 
-byte_more : (at c : ℕ) (cs : List ℕ) (ws : List TextWord) → is_blank_or_feed c ≡ false → RunsOf (at + 1) cs ws → RunsOf at (c ∷ cs) (with_byte at c ws)
+byte_more : (at c : ℕ) (cs : List ℕ) (ws : List TextWord) → is_blank_or_feed c ≡ false → RunsOf (at + 1) cs ws
+    → RunsOf at (c ∷ cs) (with_byte at c ws)
 byte_more at c cs [] no_space h = (cs, alone at c cs no_space (blank_ends cs h), h)
 byte_more at c cs (w ∷ ws) no_space h =
-    cond_both (w.at == at + 1) (record { at = at; bytes = c ∷ w.bytes } ∷ ws) (record { at = at; bytes = c ∷ [] } ∷ w ∷ ws) (RunsOf at (c ∷ cs))
+    cond_both (w.at == at + 1) (record { at = at; bytes = c ∷ w.bytes } ∷ ws) (record { at = at; bytes = c ∷ [] } ∷ w ∷ ws)
+    (RunsOf at (c ∷ cs))
     (λ same. joined at c cs w ws no_space (eqb-true w.at (at + 1) same) h)
     (λ other. apart at c cs w ws no_space other h)
 

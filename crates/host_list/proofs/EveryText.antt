@@ -56,7 +56,8 @@ wrong_first count w ws at fault few wrong = inr (record {
 })
 
 -- a right word comes first, after which there are so many entries
-right_first : (count next : ℕ) (w : TextWord) (ws : List TextWord) (m : Meaning) → HostWord w.bytes m → ((ms : List Meaning) → next + length (hosts_in ms) ≡ count + length (hosts_in (m ∷ ms))) → AreRead next ws → AreRead count (w ∷ ws)
+right_first : (count next : ℕ) (w : TextWord) (ws : List TextWord) (m : Meaning) → HostWord w.bytes m
+    → ((ms : List Meaning) → next + length (hosts_in ms) ≡ count + length (hosts_in (m ∷ ms))) → AreRead next ws → AreRead count (w ∷ ws)
 right_first count next w ws m here same (inl all) = inl (record {
   meanings = m ∷ all.meanings;
   each = (here, all.each);
@@ -95,7 +96,8 @@ words_read count (w ∷ ws) few = ⊎_elim
 no_entries : (n : ℕ) → 0 + n ≡ n
 no_entries n = omega arith
 
-pub every_text : (text : List ℕ) → ((hosts : Hosts) × HostListOf text hosts) ⊎ ((at : ℕ) × (fault : HostFault) × HostFaultStands text at fault)
+pub every_text : (text : List ℕ) → ((hosts : Hosts) × HostListOf text hosts)
+    ⊎ ((at : ℕ) × (fault : HostFault) × HostFaultStands text at fault)
 every_text text = ⊎_elim
     (λ all. inl (
       hosts_of all.meanings,

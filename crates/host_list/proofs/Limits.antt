@@ -1,5 +1,6 @@
 -- What a text can mean is within the limits.
-use Rattle.std.proofs.Common.{◌≡◌, ℕ, ◌≤◌, Bool, true, false, cond, List, [], ◌∷◌, length, Option, Some, None, Result, Ok, Err, refl, ap, sym, subst, inl, inr, arith}
+use Rattle.std.proofs.Common.{◌≡◌, ℕ, ◌≤◌, Bool, true, false, cond, List, [], ◌∷◌, length, Option, Some, None, Result, Ok, Err, refl, ap}
+use Rattle.std.proofs.Common.{sym, subst, inl, inr, arith}
 use Rattle.std.specs.Prelude.{codes, IfOk, All, unwrap_or}
 use Rattle.std.specs.Str.{bytes_eq}
 use Rattle.std.proofs.lemmas.Bool.{false≢true, and_parts}
@@ -38,7 +39,8 @@ default_limit true = (omega arith, omega arith)
 default_limit false = (omega arith, omega arith)
 
 local_name : (name : List ℕ) (port : Option ℕ) → names_this_machine name port ≡ true → (name ≡ codes "localhost") × (port ≡ None)
-local_name name None h = let two = and_parts (bytes_eq name (codes "localhost")) true h in ((bytes_eq-Decides name (codes "localhost")).0 two.0, refl)
+local_name name None h = let two = and_parts (bytes_eq name (codes "localhost")) true h in
+    ((bytes_eq-Decides name (codes "localhost")).0 two.0, refl)
 local_name name (Some port) h = let two = and_parts (bytes_eq name (codes "localhost")) false h in absurd (false≢true two.1)
 
 port_of : (port : Option ℕ) → InRange port_max port → (1 ≤ unwrap_or port port_default) × (unwrap_or port port_default ≤ port_max)
@@ -65,7 +67,8 @@ made name port limit named p l =
     }
 
 host_within : (word : List ℕ) (host : Host) → SpellsHost word host → IsHost host
-host_within word host h = let ranges = parts_range h.port h.limit h.parts h.behind in subst IsHost (sym h.meant) (made h.name h.port h.limit h.named ranges.0 ranges.1)
+host_within word host h = let ranges = parts_range h.port h.limit h.parts h.behind in
+    subst IsHost (sym h.meant) (made h.name h.port h.limit h.named ranges.0 ranges.1)
 
 entries_within : (ws : List TextWord) (ms : List Meaning) → HostWords ws ms → All IsHost (hosts_in ms)
 entries_within [] [] h = All-nil IsHost
@@ -105,6 +108,7 @@ meant_within ws ms h few =
 pub list_within : (text : List ℕ) (hosts : Hosts) → HostListOf text hosts → AreHosts hosts
 list_within text hosts h = subst AreHosts (sym h.meant) (meant_within h.words h.meanings h.each h.few)
 
-pub answer_within : (text : List ℕ) (r : Result Hosts HostError) → IfOk r (λ hosts. HostListOf text hosts) → IfOk r (λ hosts. AreHosts hosts)
+pub answer_within : (text : List ℕ) (r : Result Hosts HostError) → IfOk r (λ hosts. HostListOf text hosts)
+    → IfOk r (λ hosts. AreHosts hosts)
 answer_within text (Ok hosts) h = list_within text hosts h
 answer_within text (Err e) h = h

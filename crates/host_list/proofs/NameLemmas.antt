@@ -15,7 +15,8 @@ some_reach : (word : List ℕ) → begins_with_name word ≡ true → 0 < name_r
 some_reach word h = grind (arith, nat_tests)
 
 no_dash : (word : List ℕ) → 0 < name_reach word → eqb (slice_index word 0) 45 ≡ false
-no_dash word h = ⊎_elim (λ yes. absurd (let none : name_reach word ≡ 0 = rw yes refl in omega arith)) (λ no. no) (cases_Bool (eqb (slice_index word 0) 45))
+no_dash word h = ⊎_elim (λ yes. absurd (let none : name_reach word ≡ 0 = rw yes refl in omega arith)) (λ no. no)
+    (cases_Bool (eqb (slice_index word 0) 45))
 
 pub reach_is : (word : List ℕ) → 0 < name_reach word → name_reach word ≡ min host_name_max (prefix_len is_host_name_byte word)
 reach_is word h = let no = no_dash word h in rw no refl
@@ -39,6 +40,8 @@ name_front word h =
     record {
       some = omega arith;
       few = omega arith;
-      each = All-from_get_or (λ c. is_host_name_byte c ≡ true) (take n word) 0 (λ k lt. rw (get_or-take n word k 0 (omega arith)) (prefix_len_passes is_host_name_byte word k 0 (omega arith)));
-      first = let there = get_or-take n word 0 0 some in let no = no_dash word some in λ e. false≢true (sym no ∙ eq-eqb (get_or word 0 0) 45 (sym there ∙ e));
+      each = All-from_get_or (λ c. is_host_name_byte c ≡ true) (take n word) 0
+          (λ k lt. rw (get_or-take n word k 0 (omega arith)) (prefix_len_passes is_host_name_byte word k 0 (omega arith)));
+      first = let there = get_or-take n word 0 0 some in let no = no_dash word some in
+          λ e. false≢true (sym no ∙ eq-eqb (get_or word 0 0) 45 (sym there ∙ e));
     }

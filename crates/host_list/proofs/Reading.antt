@@ -13,10 +13,12 @@ use Rattle.host_list.specs.TextWords.{TextWord, WordsOf}
 use Rattle.host_list.specs.Runs.{words_of}
 use Rattle.host_list.proofs.Cutting.{are_words}
 use Rattle.host_list.specs.HostWords.{HostWord}
-use Rattle.host_list.specs.HostLists.{HostWords, hosts_in, last_slots, last_cpp, asks_randomize, hosts_of, HostListOf, HostFaultStands, IsWrongWord}
+use Rattle.host_list.specs.HostLists.{HostWords, hosts_in, last_slots, last_cpp, asks_randomize, hosts_of, HostListOf, HostFaultStands}
+use Rattle.host_list.specs.HostLists.{IsWrongWord}
 use Rattle.host_list.specs.Steps.{words_from, with_meaning, ReadsUpTo, TakesWord}
 
-pub HostWords-push : (ws : List TextWord) (ms : List Meaning) (w : TextWord) (m : Meaning) → HostWords ws ms → HostWord w.bytes m → HostWords (ws ++ w ∷ []) (ms ++ m ∷ [])
+pub HostWords-push : (ws : List TextWord) (ms : List Meaning) (w : TextWord) (m : Meaning) → HostWords ws ms → HostWord w.bytes m
+    → HostWords (ws ++ w ∷ []) (ms ++ m ∷ [])
 HostWords-push [] [] w m h one = (one, tt)
 HostWords-push [] (n ∷ ms) w m h one = absurd h
 HostWords-push (v ∷ ws) [] w m h one = absurd h
@@ -52,7 +54,8 @@ entries-randomize (LocalCpp k ∷ ms) = entries-randomize ms
 entries-randomize (Randomize ∷ ms) = entries-randomize ms
 
 -- the last number of a list of meanings and one more
-last_slots-push : (slots : ℕ) (ms : List Meaning) (m : Meaning) → last_slots slots (ms ++ m ∷ []) ≡ last_slots (last_slots slots ms) (m ∷ [])
+last_slots-push : (slots : ℕ) (ms : List Meaning) (m : Meaning)
+    → last_slots slots (ms ++ m ∷ []) ≡ last_slots (last_slots slots ms) (m ∷ [])
 last_slots-push slots [] m = refl
 last_slots-push slots (Entry h ∷ ms) m = last_slots-push slots ms m
 last_slots-push slots (LocalSlots k ∷ ms) m = last_slots-push k ms m
@@ -95,17 +98,22 @@ randomize-set (LocalCpp k ∷ ms) = randomize-set ms
 randomize-set (Randomize ∷ ms) = refl
 
 pub hosts_of-push : (ms : List Meaning) (m : Meaning) → hosts_of (ms ++ m ∷ []) ≡ with_meaning (hosts_of ms) m
-hosts_of-push ms (Entry host) = rw (entries-host ms host, last_slots-push 4 ms (Entry host), last_cpp-push 8 ms (Entry host), randomize-entry ms host) refl
-hosts_of-push ms (LocalSlots n) = rw (entries-slots ms n, last_slots-push 4 ms (LocalSlots n), last_cpp-push 8 ms (LocalSlots n), randomize-slots ms n) refl
-hosts_of-push ms (LocalCpp n) = rw (entries-cpp ms n, last_slots-push 4 ms (LocalCpp n), last_cpp-push 8 ms (LocalCpp n), randomize-cpp ms n) refl
+hosts_of-push ms (Entry host) =
+    rw (entries-host ms host, last_slots-push 4 ms (Entry host), last_cpp-push 8 ms (Entry host), randomize-entry ms host) refl
+hosts_of-push ms (LocalSlots n) =
+    rw (entries-slots ms n, last_slots-push 4 ms (LocalSlots n), last_cpp-push 8 ms (LocalSlots n), randomize-slots ms n) refl
+hosts_of-push ms (LocalCpp n) =
+    rw (entries-cpp ms n, last_slots-push 4 ms (LocalCpp n), last_cpp-push 8 ms (LocalCpp n), randomize-cpp ms n) refl
 hosts_of-push ms Randomize = rw (entries-randomize ms, last_slots-push 4 ms Randomize, last_cpp-push 8 ms Randomize, randomize-set ms) refl
 
 pub reads_none : (text : List ℕ) → ReadsUpTo text 0 (hosts_of [])
 reads_none text = record { before = []; meanings = []; words = refl; right = tt; few = omega arith; meant = refl }
 
-pub reads_more : (text : List ℕ) (from next : ℕ) (hosts after : Hosts) (w : TextWord) → ReadsUpTo text from hosts → words_from from text ≡ w ∷ words_from next text → TakesWord w.bytes hosts after → ReadsUpTo text next after
+pub reads_more : (text : List ℕ) (from next : ℕ) (hosts after : Hosts) (w : TextWord) → ReadsUpTo text from hosts
+    → words_from from text ≡ w ∷ words_from next text → TakesWord w.bytes hosts after → ReadsUpTo text next after
 reads_more text from next hosts after w read cut took =
-    let same : after ≡ hosts_of (read.meanings ++ took.meaning ∷ []) = took.meant ∙ ap (λ h. with_meaning h took.meaning) read.meant ∙ sym (hosts_of-push read.meanings took.meaning) in
+    let same : after ≡ hosts_of (read.meanings ++ took.meaning ∷ []) = took.meant ∙ ap (λ h. with_meaning h took.meaning) read.meant
+    ∙ sym (hosts_of-push read.meanings took.meaning) in
     record {
       before = read.before ++ w ∷ [];
       meanings = read.meanings ++ took.meaning ∷ [];
@@ -120,12 +128,15 @@ reads_all text from hosts read none = record {
   words = words_of text;
   meanings = read.meanings;
   split = are_words text;
-  each = let all : words_of text ≡ read.before = read.words ∙ ap (λ ws. read.before ++ ws) none ∙ append-nil read.before in subst (λ ws. HostWords ws read.meanings) (sym all) read.right;
+  each = let all : words_of text ≡ read.before = read.words ∙ ap (λ ws. read.before ++ ws) none ∙ append-nil read.before in
+      subst (λ ws. HostWords ws read.meanings) (sym all) read.right;
   few = read.few;
   meant = read.meant;
 }
 
-pub reads_fault : (text : List ℕ) (from at : ℕ) (hosts : Hosts) (w : TextWord) (rest : List TextWord) (fault : HostFault) → ReadsUpTo text from hosts → words_from from text ≡ w ∷ rest → IsWrongWord (length hosts.list) w at fault → HostFaultStands text at fault
+pub reads_fault : (text : List ℕ) (from at : ℕ) (hosts : Hosts) (w : TextWord) (rest : List TextWord) (fault : HostFault)
+    → ReadsUpTo text from hosts → words_from from text ≡ w ∷ rest → IsWrongWord (length hosts.list) w at fault
+    → HostFaultStands text at fault
 reads_fault text from at hosts w rest fault read cut wrong = record {
   before = read.before;
   word = w;
@@ -137,6 +148,8 @@ reads_fault text from at hosts w rest fault read cut wrong = record {
   wrong = subst (λ n. IsWrongWord n w at fault) (ap (λ (h : Hosts). length h.list) read.meant) wrong;
 }
 
-pub reads_error : (text : List ℕ) (from : ℕ) (hosts : Hosts) (w : TextWord) (rest : List TextWord) (e : HostError) → ReadsUpTo text from hosts → words_from from text ≡ w ∷ rest → IsError (IsWrongWord (length hosts.list) w) e → IsError (HostFaultStands text) e
+pub reads_error : (text : List ℕ) (from : ℕ) (hosts : Hosts) (w : TextWord) (rest : List TextWord) (e : HostError)
+    → ReadsUpTo text from hosts → words_from from text ≡ w ∷ rest → IsError (IsWrongWord (length hosts.list) w) e
+    → IsError (HostFaultStands text) e
 reads_error text from hosts w rest (Fault at fault) read cut wrong = reads_fault text from at hosts w rest fault read cut wrong
 reads_error text from hosts w rest Memory read cut wrong = tt

@@ -1,5 +1,6 @@
 -- What is printed is read again.
-use Rattle.std.proofs.Common.{◌≡◌, ℕ, ◌+◌, ◌^◌, ◌<◌, ◌≤◌, Bool, true, false, ◌&&◌, cond, List, [], ◌∷◌, ◌++◌, map, length, Some, None, refl, ap, sym, subst, ◌∙◌, inl, ⊎_elim, get_or, arith}
+use Rattle.std.proofs.Common.{◌≡◌, ℕ, ◌+◌, ◌^◌, ◌<◌, ◌≤◌, Bool, true, false, ◌&&◌, cond, List, [], ◌∷◌, ◌++◌, map, length, Some, None}
+use Rattle.std.proofs.Common.{refl, ap, sym, subst, ◌∙◌, inl, ⊎_elim, get_or, arith}
 use Rattle.std.specs.Prelude.{codes, All}
 use Rattle.std.specs.List.{AllPass, list_all, flat_map}
 use Rattle.std.specs.Fmt.{decimal}
@@ -22,7 +23,8 @@ use Rattle.host_list.specs.Names.{IsPort, IsLimit}
 use Rattle.host_list.specs.TextWords.{without_comments}
 use Rattle.host_list.specs.Runs.{runs, words_of}
 use Rattle.host_list.specs.HostWords.{HostWord, SpellsHost, names_this_machine}
-use Rattle.host_list.specs.HostLists.{HostWords, hosts_in, last_slots, last_cpp, asks_randomize, hosts_of, HostListOf, IsHost, AreHosts, host_line, slots_line, options_text, printed_hosts}
+use Rattle.host_list.specs.HostLists.{HostWords, hosts_in, last_slots, last_cpp, asks_randomize, hosts_of, HostListOf, IsHost, AreHosts}
+use Rattle.host_list.specs.HostLists.{host_line, slots_line, options_text, printed_hosts}
 use Rattle.farm_types.proofs.DecimalLemmas.{digit_at}
 use Rattle.host_list.proofs.Cutting.{in_word, word_cut, are_words}
 use Rattle.host_list.proofs.WordReading.{is_host_byte, host_bytes}
@@ -32,7 +34,8 @@ use Rattle.host_list.proofs.WordReading.{is_host_byte, host_bytes}
 length-decimal : (k n : ℕ) → 1 ≤ n → n < 10 ^ k → n < 2 ^ 64 → length (decimal n) ≤ k
 length-decimal k n low high fits =
     let few = length-digits_of-le 10 k n (omega arith) high in
-    let same : length (decimal n) ≡ length (digits_of 10 n) = ap length (decimal-digits_of n low fits) ∙ length-map (digits_of 10 n) (λ d. 48 + d) in
+    let same : length (decimal n) ≡ length (digits_of 10 n) = ap length (decimal-digits_of n low fits)
+    ∙ length-map (digits_of 10 n) (λ d. 48 + d) in
     omega arith
 
 number_again : (k greatest n : ℕ) → 1 ≤ n → n ≤ greatest → n < 10 ^ k → n < 2 ^ 64 → IsDecimal k 1 greatest (decimal n) n
@@ -56,7 +59,8 @@ limit_again n low high = number_again 3 slots_max n low high (omega arith) (omeg
 -- ---- the word of an entry
 
 abbrev host_text : Host → List ℕ
-host_text host = (cond host.local (codes "localhost") ((host.name.text ++ codes ":") ++ decimal host.port) ++ codes "/") ++ decimal host.limit
+host_text host = (cond host.local (codes "localhost") ((host.name.text ++ codes ":") ++ decimal host.port) ++ codes "/")
+    ++ decimal host.limit
 
 and_false : (b : Bool) → (b && false) ≡ false
 and_false true = refl
@@ -75,16 +79,19 @@ here_again host h local =
       port = None;
       limit = Some limit;
       parts = codes "/" ++ decimal limit;
-      spelled = rw local (let named = sym is.0 in ap (λ t. (t ++ codes "/") ++ decimal limit) named ∙ append_assoc name (codes "/") (decimal limit));
+      spelled = rw local (let named = sym is.0 in
+          ap (λ t. (t ++ codes "/") ++ decimal limit) named ∙ append_assoc name (codes "/") (decimal limit));
       named = h.named;
       behind = (decimal limit, limit_again limit h.limit_low h.limit_high, refl);
       meant = ap at_port is.1 ∙ ap at_local (local ∙ sym alone);
     }
 
 -- a name, a port and a limit in a row
-in_row : (name colon port slash limit : List ℕ) → (((name ++ colon) ++ port) ++ slash) ++ limit ≡ name ++ ((colon ++ port) ++ (slash ++ limit))
+in_row : (name colon port slash limit : List ℕ)
+    → (((name ++ colon) ++ port) ++ slash) ++ limit ≡ name ++ ((colon ++ port) ++ (slash ++ limit))
 in_row name colon port slash limit =
-    append_assoc ((name ++ colon) ++ port) slash limit ∙ ap (λ t. t ++ (slash ++ limit)) (append_assoc name colon port) ∙ append_assoc name (colon ++ port) (slash ++ limit)
+    append_assoc ((name ++ colon) ++ port) slash limit ∙ ap (λ t. t ++ (slash ++ limit)) (append_assoc name colon port)
+    ∙ append_assoc name (colon ++ port) (slash ++ limit)
 
 there_again : (host : Host) → IsHost host → host.local ≡ false → SpellsHost (host_text host) host
 there_again host h remote =
@@ -97,7 +104,15 @@ there_again host h remote =
       parts = (codes ":" ++ decimal host.port) ++ (codes "/" ++ decimal host.limit);
       spelled = rw remote (in_row name (codes ":") (decimal host.port) (codes "/") (decimal host.limit));
       named = h.named;
-      behind = (codes ":" ++ decimal host.port, codes "/" ++ decimal host.limit, refl, inl ((decimal host.port, port_again host.port h.port_low h.port_high, refl), (decimal host.limit, limit_again host.limit h.limit_low h.limit_high, refl)));
+      behind = (
+        codes ":" ++ decimal host.port,
+        codes "/" ++ decimal host.limit,
+        refl,
+        inl (
+          (decimal host.port, port_again host.port h.port_low h.port_high, refl),
+          (decimal host.limit, limit_again host.limit h.limit_low h.limit_high, refl),
+        ),
+      );
       meant = ap at_local (remote ∙ sym (and_false (bytes_eq name (codes "localhost"))));
     }
 
@@ -107,9 +122,11 @@ host_again host h = ⊎_elim (here_again host h) (there_again host h) (cases_Boo
 -- ---- lines
 
 -- a line with one word
-line_cut : (at : ℕ) (w rest : List ℕ) → 1 ≤ length w → AllPass in_word w → runs at (without_comments false ((w ++ 10 ∷ []) ++ rest)) ≡ record { at = at; bytes = w } ∷ runs (at + length w + 1) (without_comments false rest)
+line_cut : (at : ℕ) (w rest : List ℕ) → 1 ≤ length w → AllPass in_word w → runs at (without_comments false ((w ++ 10 ∷ []) ++ rest))
+    ≡ record { at = at; bytes = w } ∷ runs (at + length w + 1) (without_comments false rest)
 line_cut at [] rest some h = absurd (omega arith)
-line_cut at (c ∷ cs) rest some h = ap (λ t. runs at (without_comments false t)) (append_assoc (c ∷ cs) (10 ∷ []) rest) ∙ word_cut at c cs (10 ∷ rest) h refl
+line_cut at (c ∷ cs) rest some h = ap (λ t. runs at (without_comments false t)) (append_assoc (c ∷ cs) (10 ∷ []) rest)
+    ∙ word_cut at c cs (10 ∷ rest) h refl
 
 host_in_word : (c : ℕ) → is_host_byte c ≡ true → in_word c ≡ true
 host_in_word c h = grind (arith, nat_tests)
@@ -124,24 +141,30 @@ all_test p (x ∷ xs) h = let two = and_parts (p x) (list_all p xs) h in All-con
 decimal_in_word : (n : ℕ) → n < 2 ^ 64 → AllPass in_word (decimal n)
 decimal_in_word n fits =
     let numeral = decimal_is_IsNumeral n fits in
-    All-from_get_or (λ c. in_word c ≡ true) (decimal n) 0 (λ k lt. digit_in_word (get_or (decimal n) k 0) (digit_at (decimal n) k lt numeral.0.1))
+    All-from_get_or (λ c. in_word c ≡ true) (decimal n) 0
+    (λ k lt. digit_in_word (get_or (decimal n) k 0) (digit_at (decimal n) k lt numeral.0.1))
 
 -- words that mean these, wherever they begin
 abbrev Mean : List ℕ → List Meaning → Type 0
 Mean text ms = (at : ℕ) → HostWords (runs at (without_comments false text)) ms
 
-line_means : (w rest : List ℕ) (m : Meaning) (ms : List Meaning) → 1 ≤ length w → AllPass in_word w → HostWord w m → Mean rest ms → Mean ((w ++ 10 ∷ []) ++ rest) (m ∷ ms)
-line_means w rest m ms some h one later at = subst (λ ws. HostWords ws (m ∷ ms)) (sym (line_cut at w rest some h)) (one, later (at + length w + 1))
+line_means : (w rest : List ℕ) (m : Meaning) (ms : List Meaning) → 1 ≤ length w → AllPass in_word w → HostWord w m → Mean rest ms
+    → Mean ((w ++ 10 ∷ []) ++ rest) (m ∷ ms)
+line_means w rest m ms some h one later at =
+    subst (λ ws. HostWords ws (m ∷ ms)) (sym (line_cut at w rest some h)) (one, later (at + length w + 1))
 
-host_means : (host : Host) (rest : List ℕ) (ms : List Meaning) → IsHost host → Mean rest ms → Mean (host_line host ++ rest) (Entry host ∷ ms)
+host_means : (host : Host) (rest : List ℕ) (ms : List Meaning) → IsHost host → Mean rest ms
+    → Mean (host_line host ++ rest) (Entry host ∷ ms)
 host_means host rest ms h later =
     let spelled = host_again host h in
-    let bytes = All-weaker (λ c. is_host_byte c ≡ true) (λ c. in_word c ≡ true) host_in_word (host_text host) (host_bytes (host_text host) host spelled) in
+    let bytes = All-weaker (λ c. is_host_byte c ≡ true) (λ c. in_word c ≡ true) host_in_word (host_text host)
+    (host_bytes (host_text host) host spelled) in
     let long = ap length spelled.spelled ∙ length-append spelled.name spelled.parts in
     let name = spelled.named.some in
     line_means (host_text host) rest (Entry host) ms (omega arith) bytes spelled later
 
-hosts_mean : (list : List Host) (rest : List ℕ) (ms : List Meaning) → All IsHost list → Mean rest ms → Mean (flat_map host_line list ++ rest) (map Entry list ++ ms)
+hosts_mean : (list : List Host) (rest : List ℕ) (ms : List Meaning) → All IsHost list → Mean rest ms
+    → Mean (flat_map host_line list ++ rest) (map Entry list ++ ms)
 hosts_mean [] rest ms h later = later
 hosts_mean (host ∷ list) rest ms h later =
     let more = hosts_mean list rest ms (All-tail IsHost host list h) later in
@@ -149,9 +172,11 @@ hosts_mean (host ∷ list) rest ms h later =
     (host_means host (flat_map host_line list ++ rest) (map Entry list ++ ms) (All-head IsHost host list h) more)
 
 slots_bytes : (option : List ℕ) (n : ℕ) → list_all in_word option ≡ true → n < 2 ^ 64 → AllPass in_word (option ++ decimal n)
-slots_bytes option n plain fits = All-append (λ c. in_word c ≡ true) option (decimal n) (all_test in_word option plain) (decimal_in_word n fits)
+slots_bytes option n plain fits =
+    All-append (λ c. in_word c ≡ true) option (decimal n) (all_test in_word option plain) (decimal_in_word n fits)
 
-slots_mean : (option : List ℕ) (n : ℕ) (m : Meaning) (rest : List ℕ) (ms : List Meaning) → list_all in_word option ≡ true → 1 ≤ length option → n < 2 ^ 64 → HostWord (option ++ decimal n) m → Mean rest ms → Mean (slots_line option n ++ rest) (m ∷ ms)
+slots_mean : (option : List ℕ) (n : ℕ) (m : Meaning) (rest : List ℕ) (ms : List Meaning) → list_all in_word option ≡ true
+    → 1 ≤ length option → n < 2 ^ 64 → HostWord (option ++ decimal n) m → Mean rest ms → Mean (slots_line option n ++ rest) (m ∷ ms)
 slots_mean option n m rest ms plain some fits one later =
     line_means (option ++ decimal n) rest m ms (omega (arith, length-append option (decimal n))) (slots_bytes option n plain fits) one later
 
@@ -159,7 +184,8 @@ abbrev randomize_of : Bool → List Meaning
 randomize_of b = cond b (Randomize ∷ []) []
 
 randomize_mean : (b : Bool) → Mean (cond b (codes "--randomize\n") []) (randomize_of b)
-randomize_mean true = line_means (codes "--randomize") [] Randomize [] (omega arith) (all_test in_word (codes "--randomize") refl) refl (λ at. tt)
+randomize_mean true = line_means (codes "--randomize") [] Randomize [] (omega arith) (all_test in_word (codes "--randomize") refl)
+    refl (λ at. tt)
 randomize_mean false = λ at. tt
 
 abbrev options_of : Hosts → List Meaning
@@ -173,9 +199,14 @@ options_mean hosts h =
     let slots_high = h.slots_high in
     let cpp_high = h.cpp_high in
     let tail : List ℕ = cond hosts.randomize (codes "--randomize\n") [] in
-    let second = slots_mean (codes "--localslots_cpp=") hosts.local_cpp (LocalCpp hosts.local_cpp) tail (randomize_of hosts.randomize) refl (omega arith) (omega arith) (decimal hosts.local_cpp, cpp, refl) last in
-    let first = slots_mean (codes "--localslots=") hosts.local_slots (LocalSlots hosts.local_slots) (slots_line (codes "--localslots_cpp=") hosts.local_cpp ++ tail) (LocalCpp hosts.local_cpp ∷ randomize_of hosts.randomize) refl (omega arith) (omega arith) (decimal hosts.local_slots, slots, refl) second in
-    subst (λ t. Mean t (options_of hosts)) (sym (append_assoc (slots_line (codes "--localslots=") hosts.local_slots) (slots_line (codes "--localslots_cpp=") hosts.local_cpp) tail)) first
+    let second = slots_mean (codes "--localslots_cpp=") hosts.local_cpp (LocalCpp hosts.local_cpp) tail
+    (randomize_of hosts.randomize) refl (omega arith) (omega arith) (decimal hosts.local_cpp, cpp, refl) last in
+    let first = slots_mean (codes "--localslots=") hosts.local_slots (LocalSlots hosts.local_slots)
+    (slots_line (codes "--localslots_cpp=") hosts.local_cpp ++ tail) (LocalCpp hosts.local_cpp ∷ randomize_of hosts.randomize)
+    refl (omega arith) (omega arith) (decimal hosts.local_slots, slots, refl) second in
+    subst (λ t. Mean t (options_of hosts))
+    (sym (append_assoc (slots_line (codes "--localslots=") hosts.local_slots)
+    (slots_line (codes "--localslots_cpp=") hosts.local_cpp) tail)) first
 
 -- ---- the list
 
@@ -212,7 +243,8 @@ same_randomize true = refl
 same_randomize false = refl
 
 entries_again : (hosts : Hosts) → hosts_in (map Entry hosts.list ++ options_of hosts) ≡ hosts.list
-entries_again hosts = entries-map hosts.list (options_of hosts) ∙ ap (λ t. hosts.list ++ t) (no_entries hosts.randomize) ∙ append-nil hosts.list
+entries_again hosts = entries-map hosts.list (options_of hosts) ∙ ap (λ t. hosts.list ++ t) (no_entries hosts.randomize)
+    ∙ append-nil hosts.list
 
 hosts_again : (hosts : Hosts) → hosts ≡ hosts_of (map Entry hosts.list ++ options_of hosts)
 hosts_again hosts =

@@ -1,5 +1,6 @@
 -- One reading of each text.
-use Rattle.std.proofs.Common.{◌≡◌, ℕ, suc, ◌+◌, ◌<◌, ◌≤◌, Bool, true, false, cond, List, [], ◌∷◌, ◌++◌, length, Option, Some, None, Ok, Err, refl, ap, sym, ◌∙◌, inl, inr, subst, arith}
+use Rattle.std.proofs.Common.{◌≡◌, ℕ, suc, ◌+◌, ◌<◌, ◌≤◌, Bool, true, false, cond, List, [], ◌∷◌, ◌++◌, length, Option, Some, None, Ok}
+use Rattle.std.proofs.Common.{Err, refl, ap, sym, ◌∙◌, inl, inr, subst, arith}
 use Rattle.std.specs.Prelude.{◌==◌}
 use Rattle.std.proofs.lemmas.Bool.Decides.{nat_tests}
 use Rattle.std.proofs.lemmas.List.{append-nil}
@@ -48,13 +49,16 @@ host_next count w ws host h few =
     let not_full : (count == hosts_max) ≡ false = grind (arith, nat_tests) in
     rw (is, not_full) refl
 
-slots_next : (count : ℕ) (w : TextWord) (ws : List TextWord) (n : ℕ) → HostWord w.bytes (LocalSlots n) → first_wrong count (w ∷ ws) ≡ first_wrong count ws
+slots_next : (count : ℕ) (w : TextWord) (ws : List TextWord) (n : ℕ) → HostWord w.bytes (LocalSlots n)
+    → first_wrong count (w ∷ ws) ≡ first_wrong count ws
 slots_next count w ws n h = let is = word_right w.bytes (LocalSlots n) h in rw is refl
 
-cpp_next : (count : ℕ) (w : TextWord) (ws : List TextWord) (n : ℕ) → HostWord w.bytes (LocalCpp n) → first_wrong count (w ∷ ws) ≡ first_wrong count ws
+cpp_next : (count : ℕ) (w : TextWord) (ws : List TextWord) (n : ℕ) → HostWord w.bytes (LocalCpp n)
+    → first_wrong count (w ∷ ws) ≡ first_wrong count ws
 cpp_next count w ws n h = let is = word_right w.bytes (LocalCpp n) h in rw is refl
 
-randomize_next : (count : ℕ) (w : TextWord) (ws : List TextWord) → HostWord w.bytes Randomize → first_wrong count (w ∷ ws) ≡ first_wrong count ws
+randomize_next : (count : ℕ) (w : TextWord) (ws : List TextWord) → HostWord w.bytes Randomize
+    → first_wrong count (w ∷ ws) ≡ first_wrong count ws
 randomize_next count w ws h = let is = word_right w.bytes Randomize h in rw is refl
 
 -- right words are passed over
@@ -72,7 +76,8 @@ passed count (w ∷ ws) (LocalSlots n ∷ ms) rest h few = slots_next count w (w
 passed count (w ∷ ws) (LocalCpp n ∷ ms) rest h few = cpp_next count w (ws ++ rest) n h.0 ∙ passed count ws ms rest h.1 few
 passed count (w ∷ ws) (Randomize ∷ ms) rest h few = randomize_next count w (ws ++ rest) h.0 ∙ passed count ws ms rest h.1 few
 
-stopped_alone : (count : ℕ) (w : TextWord) (ws : List TextWord) (at place : ℕ) (fault : HostFault) → WordFault w.bytes place fault → at ≡ w.at + place → first_wrong count (w ∷ ws) ≡ Some (at, fault)
+stopped_alone : (count : ℕ) (w : TextWord) (ws : List TextWord) (at place : ℕ) (fault : HostFault) → WordFault w.bytes place fault
+    → at ≡ w.at + place → first_wrong count (w ∷ ws) ≡ Some (at, fault)
 stopped_alone count w ws at place fault h e = let is = word_wrong w.bytes place fault h in rw is (ap (λ a. Some (a, fault)) (sym e))
 
 stopped_full : (count : ℕ) (w : TextWord) (ws : List TextWord) (host : Host) → HostWord w.bytes (Entry host) → count ≡ hosts_max
@@ -82,18 +87,21 @@ stopped_full count w ws host h e =
     let full : (count == hosts_max) ≡ true = rw e refl in
     rw (is, full) refl
 
-stopped : (count : ℕ) (w : TextWord) (ws : List TextWord) (at : ℕ) (fault : HostFault) → IsWrongWord count w at fault → first_wrong count (w ∷ ws) ≡ Some (at, fault)
+stopped : (count : ℕ) (w : TextWord) (ws : List TextWord) (at : ℕ) (fault : HostFault) → IsWrongWord count w at fault
+    → first_wrong count (w ∷ ws) ≡ Some (at, fault)
 stopped count w ws at fault (inl own) = stopped_alone count w ws at own.0 fault own.1 own.2
 stopped count w ws at fault (inr many) = stopped_full count w ws many.0 many.1 many.2 ∙ rw (many.3, many.4) refl
 
 list_right : (text : List ℕ) (hosts : Hosts) → HostListOf text hosts → first_wrong 0 (words_of text) ≡ None
 list_right text hosts h =
-    ap (first_wrong 0) (sym (append-nil h.words ∙ words_are text h.words h.split)) ∙ passed 0 h.words h.meanings [] h.each (let few = h.few in omega arith)
+    ap (first_wrong 0) (sym (append-nil h.words ∙ words_are text h.words h.split))
+    ∙ passed 0 h.words h.meanings [] h.each (let few = h.few in omega arith)
 
 text_wrong : (text : List ℕ) (at : ℕ) (fault : HostFault) → HostFaultStands text at fault → first_wrong 0 (words_of text) ≡ Some (at, fault)
 text_wrong text at fault h =
     let zero : 0 + length (hosts_in h.meanings) ≡ length (hosts_in h.meanings) = omega arith in
-    ap (first_wrong 0) (sym (words_are text (h.before ++ h.word ∷ h.after) h.split)) ∙ passed 0 h.before h.meanings (h.word ∷ h.after) h.right (let few = h.few in omega arith)
+    ap (first_wrong 0) (sym (words_are text (h.before ++ h.word ∷ h.after) h.split))
+    ∙ passed 0 h.before h.meanings (h.word ∷ h.after) h.right (let few = h.few in omega arith)
     ∙ ap (λ n. first_wrong n (h.word ∷ h.after)) zero ∙ stopped (length (hosts_in h.meanings)) h.word h.after at fault h.wrong
 
 pub one_hosts : (text : List ℕ) (one other : Hosts) → HostListOf text one → HostListOf text other → one ≡ other
@@ -105,7 +113,8 @@ one_hosts text one other h k =
 pub no_both : (text : List ℕ) (hosts : Hosts) (at : ℕ) (fault : HostFault) → HostListOf text hosts → HostFaultStands text at fault → ⊥
 no_both text hosts at fault h k = let e = sym (list_right text hosts h) ∙ text_wrong text at fault k in cc
 
-pub one_fault : (text : List ℕ) (at there : ℕ) (fault other : HostFault) → HostFaultStands text at fault → HostFaultStands text there other → (at ≡ there) × (fault ≡ other)
+pub one_fault : (text : List ℕ) (at there : ℕ) (fault other : HostFault) → HostFaultStands text at fault
+    → HostFaultStands text there other → (at ≡ there) × (fault ≡ other)
 one_fault text at there fault other h k =
     let e = sym (text_wrong text at fault h) ∙ text_wrong text there other k in
     let both : (at, fault) ≡ (there, other) = cc in

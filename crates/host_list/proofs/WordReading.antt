@@ -1,5 +1,6 @@
 -- One reading of each word.
-use Rattle.std.proofs.Common.{◌≡◌, ◌≢◌, ℕ, ◌<◌, Bool, true, false, ◌&&◌, ◌||◌, cond, eqb, List, [], ◌∷◌, ◌++◌, length, get_or, take, drop, min, Option, Some, None, Result, Ok, Err, refl, ap, sym, subst, ◌∙◌, ⊎_elim, arith}
+use Rattle.std.proofs.Common.{◌≡◌, ◌≢◌, ℕ, ◌<◌, Bool, true, false, ◌&&◌, ◌||◌, cond, eqb, List, [], ◌∷◌, ◌++◌, length, get_or, take, drop}
+use Rattle.std.proofs.Common.{min, Option, Some, None, Result, Ok, Err, refl, ap, sym, subst, ◌∙◌, ⊎_elim, arith}
 use Rattle.std.specs.Prelude.{◌==◌, nat_lt, codes, slice_index}
 use Rattle.std.specs.Char.{digit_value}
 use Rattle.std.specs.List.{AllPass, prefix_len}
@@ -18,7 +19,9 @@ use Rattle.host_list.specs.declared.meaning.Meaning.TheVariants.{Entry, LocalSlo
 use Rattle.host_list.specs.declared.fault.HostFault.{HostFault}
 use Rattle.host_list.specs.declared.fault.HostFault.TheVariants.{Ssh, HostOption, Zeroconf, BadLimit, BadName, UnknownOption}
 use Rattle.host_list.specs.Names.{is_host_name_byte, IsHostName}
-use Rattle.host_list.specs.HostWords.{HostWord, WordFault, SpellsParts, SpellsPort, SpellsLimit, EndsPart, is_separator, name_reach, begins_with_name, begins_with, has_byte, host_of, SpellsHost, SlotsFault, OptionFault, PlusFault, EntryFault, IsAtStart}
+use Rattle.host_list.specs.HostWords.{HostWord, WordFault, SpellsParts, SpellsPort, SpellsLimit, EndsPart, is_separator, name_reach}
+use Rattle.host_list.specs.HostWords.{begins_with_name, begins_with, has_byte, host_of, SpellsHost, SlotsFault, OptionFault, PlusFault}
+use Rattle.host_list.specs.HostWords.{EntryFault, IsAtStart}
 use Rattle.farm_types.proofs.DecimalLemmas.{digit_at}
 use Rattle.host_list.proofs.AnyLemmas.{any_none}
 use Rattle.host_list.proofs.PartReading.{chosen, number_at, number_found, number_none, cut, check, parts_right, parts_wrong, Verdict}
@@ -60,9 +63,11 @@ or_true : (b : Bool) → (b || true) ≡ true
 or_true true = refl
 or_true false = refl
 
-ends_there : (name parts : List ℕ) → EndsPart parts → (length name == length (name ++ parts) || is_separator (slice_index (name ++ parts) (length name))) ≡ true
+ends_there : (name parts : List ℕ) → EndsPart parts
+    → (length name == length (name ++ parts) || is_separator (slice_index (name ++ parts) (length name))) ≡ true
 ends_there name [] ends =
-    let same : eqb (length name) (length (name ++ [])) ≡ true = eq-eqb (length name) (length (name ++ [])) (ap length (sym (append-nil name))) in
+    let same : eqb (length name) (length (name ++ [])) ≡ true =
+    eq-eqb (length name) (length (name ++ [])) (ap length (sym (append-nil name))) in
     rw same refl
 ends_there name (c ∷ cs) ends =
     let there : slice_index (name ++ (c ∷ cs)) (length name) ≡ c = get_or_at name c cs 0 (length name) refl in
@@ -74,7 +79,8 @@ named name parts h ends =
     let reach = reach_of name parts h ends in
     let some = h.some in
     let more : nat_lt 0 (length name) ≡ true = grind (arith, nat_tests) in
-    ap (λ n. nat_lt 0 n && (n == length (name ++ parts) || is_separator (slice_index (name ++ parts) n))) reach ∙ rw more (ends_there name parts ends)
+    ap (λ n. nat_lt 0 n && (n == length (name ++ parts) || is_separator (slice_index (name ++ parts) n))) reach
+    ∙ rw more (ends_there name parts ends)
 
 -- ---- the bytes of a host
 
@@ -88,7 +94,8 @@ digit_host_byte : (c : ℕ) → digit_value c < 10 → is_host_byte c ≡ true
 digit_host_byte c h = grind (arith, nat_tests)
 
 digits_host_bytes : (most greatest n : ℕ) (digits : List ℕ) → IsDecimal most 1 greatest digits n → AllPass is_host_byte digits
-digits_host_bytes most greatest n digits h = All-from_get_or (λ c. is_host_byte c ≡ true) digits 0 (λ k lt. digit_host_byte (get_or digits k 0) (digit_at digits k lt h.each))
+digits_host_bytes most greatest n digits h =
+    All-from_get_or (λ c. is_host_byte c ≡ true) digits 0 (λ k lt. digit_host_byte (get_or digits k 0) (digit_at digits k lt h.each))
 
 port_bytes : (part : List ℕ) (port : ℕ) → SpellsPort part port → AllPass is_host_byte part
 port_bytes part port h =
@@ -123,7 +130,8 @@ parts_end (Some port) (Some limit) parts h =
 pub host_bytes : (word : List ℕ) (host : Host) → SpellsHost word host → AllPass is_host_byte word
 host_bytes word host h =
     let name = All-weaker (λ c. is_host_name_byte c ≡ true) (λ c. is_host_byte c ≡ true) name_host_byte h.name h.named.each in
-    subst (AllPass is_host_byte) (sym h.spelled) (All-append (λ c. is_host_byte c ≡ true) h.name h.parts name (parts_bytes h.port h.limit h.parts h.behind))
+    subst (AllPass is_host_byte) (sym h.spelled)
+    (All-append (λ c. is_host_byte c ≡ true) h.name h.parts name (parts_bytes h.port h.limit h.parts h.behind))
 
 no_at : (c : ℕ) → is_host_byte c ≡ true → (c == 64) ≡ true → ⊥
 no_at c h is = let at : c ≡ 64 = eqb-true c 64 is in absurd (false≢true (ap is_host_byte (sym at) ∙ h))
@@ -132,10 +140,12 @@ no_comma : (c : ℕ) → is_host_byte c ≡ true → (c == 44) ≡ true → ⊥
 no_comma c h is = let at : c ≡ 44 = eqb-true c 44 is in absurd (false≢true (ap is_host_byte (sym at) ∙ h))
 
 holds_no_at : (word : List ℕ) → AllPass is_host_byte word → has_byte 64 word ≡ false
-holds_no_at word h = any_none (λ x. x == 64) word (λ k lt is. no_at (get_or word k 0) (All-get_or (λ c. is_host_byte c ≡ true) word k 0 lt h) is)
+holds_no_at word h = any_none (λ x. x == 64) word
+    (λ k lt is. no_at (get_or word k 0) (All-get_or (λ c. is_host_byte c ≡ true) word k 0 lt h) is)
 
 holds_no_comma : (word : List ℕ) → AllPass is_host_byte word → has_byte 44 word ≡ false
-holds_no_comma word h = any_none (λ x. x == 44) word (λ k lt is. no_comma (get_or word k 0) (All-get_or (λ c. is_host_byte c ≡ true) word k 0 lt h) is)
+holds_no_comma word h = any_none (λ x. x == 44) word
+    (λ k lt is. no_comma (get_or word k 0) (All-get_or (λ c. is_host_byte c ≡ true) word k 0 lt h) is)
 
 -- the first byte of a host
 other_first : (a c : ℕ) → c ≢ a → eqb a c ≡ false
@@ -179,7 +189,8 @@ option_reading word =
 
 abbrev entry_reading : List ℕ → Reading
 entry_reading word =
-    cond (begins_with_name word) (host_reading (take (name_reach word) word) (check None None (name_reach word) (cut (drop (name_reach word) word)).1))
+    cond (begins_with_name word)
+    (host_reading (take (name_reach word) word) (check None None (name_reach word) (cut (drop (name_reach word) word)).1))
     (Err (name_reach word, BadName))
 
 unfoldable pub reading_of : List ℕ → Reading
@@ -199,7 +210,9 @@ entry_right word host h =
     let behind : drop (length h.name) (h.name ++ h.parts) ≡ h.parts = drop_at h.name h.parts (length h.name) refl in
     let right = parts_right h.port h.limit (length h.name) h.parts h.behind in
     ap entry_reading h.spelled
-    ∙ ap (λ b. cond b (host_reading (take (name_reach (h.name ++ h.parts)) (h.name ++ h.parts)) (check None None (name_reach (h.name ++ h.parts)) (cut (drop (name_reach (h.name ++ h.parts)) (h.name ++ h.parts))).1)) (Err (name_reach (h.name ++ h.parts), BadName))) is
+    ∙ ap (λ b. cond b (host_reading (take (name_reach (h.name ++ h.parts)) (h.name ++ h.parts))
+    (check None None (name_reach (h.name ++ h.parts)) (cut (drop (name_reach (h.name ++ h.parts)) (h.name ++ h.parts))).1))
+    (Err (name_reach (h.name ++ h.parts), BadName))) is
     ∙ ap (λ n. host_reading (take n (h.name ++ h.parts)) (check None None n (cut (drop n (h.name ++ h.parts))).1)) reach
     ∙ ap (λ t. host_reading t (check None None (length h.name) (cut (drop (length h.name) (h.name ++ h.parts))).1)) front
     ∙ ap (λ t. host_reading h.name (check None None (length h.name) (cut t).1)) behind
@@ -211,8 +224,10 @@ unfolding reading_of
 word_right word (Entry host) h =
     let bytes = host_bytes word host h in
     let spelled = sym h.spelled in
-    let no_option : begins_with (codes "--") word ≡ false = subst (λ w. begins_with (codes "--") w ≡ false) spelled (no_options h.name h.parts h.named) in
-    let plus : begins_with (codes "+") word ≡ false = subst (λ w. begins_with (codes "+") w ≡ false) spelled (no_plus h.name h.parts h.named) in
+    let no_option : begins_with (codes "--") word ≡ false =
+    subst (λ w. begins_with (codes "--") w ≡ false) spelled (no_options h.name h.parts h.named) in
+    let plus : begins_with (codes "+") word ≡ false =
+    subst (λ w. begins_with (codes "+") w ≡ false) spelled (no_plus h.name h.parts h.named) in
     rw (no_option, plus, holds_no_at word bytes, holds_no_comma word bytes) (entry_right word host h)
 word_right word (LocalSlots n) h =
     let found = number_found 3 slots_max h.0 n h.1 in
@@ -243,13 +258,17 @@ option_wrong word at fault h =
     (λ same never. absurd never)
     (λ unknown. whole UnknownOption fault at unknown)))
 
-plus_wrong : (word : List ℕ) (at : ℕ) (fault : HostFault) → PlusFault word at fault → cond (bytes_eq word (codes "+zeroconf")) (wrong 0 Zeroconf) (wrong 0 BadName) ≡ wrong at fault
-plus_wrong word at fault h = chosen (bytes_eq word (codes "+zeroconf")) _ _ _ _ (Err (at, fault)) h (λ same z. whole Zeroconf fault at z) (λ n. whole BadName fault at n)
+plus_wrong : (word : List ℕ) (at : ℕ) (fault : HostFault) → PlusFault word at fault
+    → cond (bytes_eq word (codes "+zeroconf")) (wrong 0 Zeroconf) (wrong 0 BadName) ≡ wrong at fault
+plus_wrong word at fault h =
+    chosen (bytes_eq word (codes "+zeroconf")) _ _ _ _ (Err (at, fault)) h (λ same z. whole Zeroconf fault at z)
+    (λ n. whole BadName fault at n)
 
 entry_wrong : (word : List ℕ) (at : ℕ) (fault : HostFault) → EntryFault word at fault → entry_reading word ≡ Err (at, fault)
 entry_wrong word at fault h =
     chosen (begins_with_name word) _ _ _ _ (Err (at, fault)) h
-    (λ is parts. ap (host_reading (take (name_reach word) word)) (parts_wrong (name_reach word) at (drop (name_reach word) word) fault parts))
+    (λ is parts. ap (host_reading (take (name_reach word) word))
+    (parts_wrong (name_reach word) at (drop (name_reach word) word) fault parts))
     (λ name. rw (name.0, name.1) refl)
 
 pub word_wrong : (word : List ℕ) (at : ℕ) (fault : HostFault) → WordFault word at fault → reading_of word ≡ Err (at, fault)
@@ -281,5 +300,6 @@ one_meaning word one other h k = same_meaning one other (sym (word_right word on
 pub no_both : (word : List ℕ) (meaning : Meaning) (at : ℕ) (fault : HostFault) → HostWord word meaning → WordFault word at fault → ⊥
 no_both word meaning at fault h k = let e = sym (word_right word meaning h) ∙ word_wrong word at fault k in cc
 
-pub one_fault : (word : List ℕ) (at there : ℕ) (fault other : HostFault) → WordFault word at fault → WordFault word there other → (at ≡ there) × (fault ≡ other)
+pub one_fault : (word : List ℕ) (at there : ℕ) (fault other : HostFault) → WordFault word at fault → WordFault word there other
+    → (at ≡ there) × (fault ≡ other)
 one_fault word at there fault other h k = same_fault at there fault other (sym (word_wrong word at fault h) ∙ word_wrong word there other k)

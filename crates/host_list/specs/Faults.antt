@@ -1,7 +1,8 @@
 -- The numbers of the faults.
 use Rattle.std.specs.Prelude.{ℕ}
 use Rattle.host_list.specs.declared.fault.HostFault.{HostFault}
-use Rattle.host_list.specs.declared.fault.HostFault.TheVariants.{Ssh, HostOption, Zeroconf, BadPort, BadLimit, BadName, TooMany, UnknownOption}
+use Rattle.host_list.specs.declared.fault.HostFault.TheVariants.{Ssh, HostOption, Zeroconf, BadPort, BadLimit, BadName, TooMany}
+use Rattle.host_list.specs.declared.fault.HostFault.TheVariants.{UnknownOption}
 
 -- the number that stands for a fault in messages
 abbrev pub host_fault_number : HostFault → ℕ

@@ -1,5 +1,6 @@
 -- What one word of a host list means, and what is wrong with a word that means nothing.
-use Rattle.std.specs.Prelude.{ℕ, ◌≡◌, ◌+◌, List, [], ◌∷◌, ◌++◌, length, drop, min, codes, nat_eq, nat_lt, Bool, true, not, ◌&&◌, ◌||◌, ◌==◌, ◌⊎◌, if◌then◌else◌, Option, Some, None, is_none, IsSome, unwrap_or, slice_index, MatchBool}
+use Rattle.std.specs.Prelude.{ℕ, ◌≡◌, ◌+◌, List, [], ◌∷◌, ◌++◌, length, drop, min, codes, nat_eq, nat_lt, Bool, true, not, ◌&&◌, ◌||◌}
+use Rattle.std.specs.Prelude.{◌==◌, ◌⊎◌, if◌then◌else◌, Option, Some, None, is_none, IsSome, unwrap_or, slice_index, MatchBool}
 use Rattle.std.specs.List.{list_any, starts_with, prefix_len, AllPass}
 use Rattle.std.specs.Str.{bytes_eq}
 use Rattle.farm_types.specs.Bytes.{comma, dash, slash, colon, at_sign}

@@ -16,7 +16,8 @@ use Rattle.host_list.specs.HostLists.{HostWords, hosts_in, hosts_of}
 abbrev pub AddsPart : Parts → ℕ → List ℕ → Parts → Type 0
 AddsPart old separator number new =
     ((separator ≡ colon) × (old.port ≡ None) × (port : ℕ) × IsPort number port × (new ≡ record { port = Some port; limit = old.limit }))
-    ⊎ ((separator ≡ slash) × (old.limit ≡ None) × (limit : ℕ) × IsLimit number limit × (new ≡ record { port = old.port; limit = Some limit }))
+    ⊎ ((separator ≡ slash) × (old.limit ≡ None) × (limit : ℕ) × IsLimit number limit
+    × (new ≡ record { port = old.port; limit = Some limit }))
 
 -- a byte that is in no word
 abbrev pub ends_word : ℕ → Bool

@@ -13,7 +13,8 @@ use Rattle.job_graph.specs.Depths.{needs_at, depth_above, NeedsWithin}
 use Rattle.job_graph.specs.Cycles.{Needs}
 use Rattle.job_graph.specs.Steps.{mark_at, is_fresh, IsKnown, known_depth, steps_left, all_steps_left, job_at}
 use Rattle.job_graph.specs.Steps.{HasSeen, Walk, StepsOn, EndsInRing}
-use Rattle.job_graph.proofs.Walking.{open_unknown, fresh_unknown, open_within, same_mark, known_kept, steps_set, job_back, path_top, path_seen, walk_settled, walk_on, walk_pushed, path_ring, no_marks, begun_kept}
+use Rattle.job_graph.proofs.Walking.{open_unknown, fresh_unknown, open_within, same_mark, known_kept, steps_set, job_back, path_top}
+use Rattle.job_graph.proofs.Walking.{path_seen, walk_settled, walk_on, walk_pushed, path_ring, no_marks, begun_kept}
 
 -- ---- one step
 

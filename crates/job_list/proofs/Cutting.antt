@@ -7,7 +7,8 @@ use Rattle.std.proofs.lemmas.Bool.Decides.{nat_tests}
 use Rattle.farm_types.specs.Bytes.{single_quote, double_quote, backslash, is_blank}
 use Rattle.job_list.specs.declared.fault.JobFault.{JobFault}
 use Rattle.job_list.specs.declared.fault.JobFault.TheVariants.{OpenQuote, BadEscape}
-use Rattle.job_list.specs.Parts.{Each, IsInSingle, Quoted, literal, kept, escaped, IsQuoted, quoted_text, is_mark, is_bare, Part, blank, bare, after_backslash, single, double, IsPart, part_text}
+use Rattle.job_list.specs.Parts.{Each, IsInSingle, Quoted, literal, kept, escaped, IsQuoted, quoted_text, is_mark, is_bare, Part, blank}
+use Rattle.job_list.specs.Parts.{bare, after_backslash, single, double, IsPart, part_text}
 use Rattle.job_list.specs.Lines.{words_of, LineOf, LineFault, BreaksOff, IsCutMark}
 
 -- where in a line a byte stands: outside quotes, there behind a backslash, between single quotes, between double
@@ -80,14 +81,16 @@ bare_backslash c h = grind (arith, nat_tests)
 
 -- ---- parts
 
-single_body : (cs rest bytes : List ℕ) → Each IsInSingle cs → cut ((cs ++ single_quote ∷ []) ++ rest) (in_single bytes) ≡ with_part (single (bytes ++ cs)) (cut rest outside)
+single_body : (cs rest bytes : List ℕ) → Each IsInSingle cs → cut ((cs ++ single_quote ∷ []) ++ rest) (in_single bytes)
+    ≡ with_part (single (bytes ++ cs)) (cut rest outside)
 single_body [] rest bytes h = ap (λ t. with_part (single t) (cut rest outside)) (sym (append-nil bytes))
 single_body (c ∷ cs) rest bytes h =
     let no = no_single c h.0 in
     rw no (single_body cs rest (bytes ++ c ∷ []) h.1 ∙ ap (λ t. with_part (single t) (cut rest outside)) (append_assoc bytes (c ∷ []) cs))
 
 -- one byte, or two, between double quotes
-quoted_cut : (q : Quoted) (rest : List ℕ) (quoted : List Quoted) → IsQuoted q → cut (quoted_text q ++ rest) (in_double quoted) ≡ cut rest (in_double (quoted ++ q ∷ []))
+quoted_cut : (q : Quoted) (rest : List ℕ) (quoted : List Quoted) → IsQuoted q
+    → cut (quoted_text q ++ rest) (in_double quoted) ≡ cut rest (in_double (quoted ++ q ∷ []))
 quoted_cut (literal c) rest quoted h =
     let no = no_mark c h in
     let one = mark_double c no in
@@ -96,7 +99,8 @@ quoted_cut (literal c) rest quoted h =
 quoted_cut (kept c) rest quoted h = let no = no_mark c h in rw no refl
 quoted_cut (escaped c) rest quoted h = rw h refl
 
-quoteds_cut : (qs : List Quoted) (rest : List ℕ) (quoted : List Quoted) → Each IsQuoted qs → cut (flat_map quoted_text qs ++ rest) (in_double quoted) ≡ cut rest (in_double (quoted ++ qs))
+quoteds_cut : (qs : List Quoted) (rest : List ℕ) (quoted : List Quoted) → Each IsQuoted qs
+    → cut (flat_map quoted_text qs ++ rest) (in_double quoted) ≡ cut rest (in_double (quoted ++ qs))
 quoteds_cut [] rest quoted h = ap (λ t. cut rest (in_double t)) (sym (append-nil quoted))
 quoteds_cut (q ∷ qs) rest quoted h =
     ap (λ t. cut t (in_double quoted)) (append_assoc (quoted_text q) (flat_map quoted_text qs) rest)
@@ -122,7 +126,8 @@ abbrev pub with_parts : List Part → Cut → Cut
 with_parts [] cut = cut
 with_parts (p ∷ ps) cut = with_part p (with_parts ps cut)
 
-parts_cut : (ps : List Part) (rest : List ℕ) → Each IsPart ps → cut (flat_map part_text ps ++ rest) outside ≡ with_parts ps (cut rest outside)
+parts_cut : (ps : List Part) (rest : List ℕ) → Each IsPart ps
+    → cut (flat_map part_text ps ++ rest) outside ≡ with_parts ps (cut rest outside)
 parts_cut [] rest h = refl
 parts_cut (p ∷ ps) rest h =
     ap (λ t. cut t outside) (append_assoc (part_text p) (flat_map part_text ps) rest)
@@ -150,7 +155,8 @@ cut_mark end quoted (inr e) = ap (λ t. cut t (in_double quoted)) e
 breaks : (tail : List ℕ) (fault : JobFault) → BreaksOff tail fault → cut tail outside ≡ Err fault
 breaks tail fault (inl p) = ap (λ t. cut t outside) p.1.spelled ∙ open_single p.1.bytes [] p.1.plain ∙ ap Err (sym p.0)
 breaks tail fault (inr (inl p)) =
-    ap (λ t. cut t outside) p.1.spelled ∙ quoteds_cut p.1.quoted p.1.end [] p.1.right ∙ cut_mark p.1.end p.1.quoted p.1.last ∙ ap Err (sym p.0)
+    ap (λ t. cut t outside) p.1.spelled ∙ quoteds_cut p.1.quoted p.1.end [] p.1.right ∙ cut_mark p.1.end p.1.quoted p.1.last
+    ∙ ap Err (sym p.0)
 breaks tail fault (inr (inr p)) = ap (λ t. cut t outside) p.1 ∙ ap Err (sym p.0)
 
 -- ---- a line
@@ -168,12 +174,14 @@ reading_of line = words_in (cut line outside)
 
 pub line_right : (line : List ℕ) (words : List (List ℕ)) → LineOf line words → reading_of line ≡ Ok words
 line_right line words h =
-    ap words_in (ap (λ t. cut t outside) (h.spelled ∙ sym (append-nil (flat_map part_text h.parts))) ∙ parts_cut h.parts [] h.right ∙ with_all h.parts)
+    ap words_in (ap (λ t. cut t outside) (h.spelled ∙ sym (append-nil (flat_map part_text h.parts))) ∙ parts_cut h.parts [] h.right
+    ∙ with_all h.parts)
     ∙ ap Ok (sym h.meant)
 
 pub line_wrong : (line : List ℕ) (fault : JobFault) → LineFault line fault → reading_of line ≡ Err fault
 line_wrong line fault h =
-    ap words_in (ap (λ t. cut t outside) h.spelled ∙ parts_cut h.parts h.tail h.right ∙ ap (with_parts h.parts) (breaks h.tail fault h.broken) ∙ with_fault h.parts fault)
+    ap words_in (ap (λ t. cut t outside) h.spelled ∙ parts_cut h.parts h.tail h.right
+    ∙ ap (with_parts h.parts) (breaks h.tail fault h.broken) ∙ with_fault h.parts fault)
 
 pub one_words : (line : List ℕ) (one other : List (List ℕ)) → LineOf line one → LineOf line other → one ≡ other
 one_words line one other h k = let e = sym (line_right line one h) ∙ line_right line other k in cc

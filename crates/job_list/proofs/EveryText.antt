@@ -1,5 +1,6 @@
 -- Every text is a job list or has a fault.
-use Rattle.std.proofs.Common.{◌≡◌, ℕ, zero, suc, ◌+◌, ◌<◌, ◌≤◌, List, [], ◌∷◌, ◌++◌, length, Some, refl, ap, sym, ◌∙◌, subst, inl, inr, ⊎_elim, arith}
+use Rattle.std.proofs.Common.{◌≡◌, ℕ, zero, suc, ◌+◌, ◌<◌, ◌≤◌, List, [], ◌∷◌, ◌++◌, length, Some, refl, ap, sym, ◌∙◌, subst, inl, inr}
+use Rattle.std.proofs.Common.{⊎_elim, arith}
 use Rattle.std.specs.Prelude.{◌⊎◌}
 use Rattle.std.specs.List.{slice_get}
 use Rattle.std.proofs.lemmas.Bool.{cases_Bool, cases_lt, false≢true}
@@ -14,7 +15,8 @@ use Rattle.job_list.proofs.TextReading.{is_text, text_true, text_is}
 use Rattle.job_list.proofs.Pairs.{every_pair, get_past}
 
 -- a job has words, or a fault that doesn't depend on its place
-every_job : (line : List ℕ) → ((words : List (List ℕ)) × JobOf line words) ⊎ ((fault : JobFault) × ((count : ℕ) → IsWrongLine count line fault))
+every_job : (line : List ℕ) → ((words : List (List ℕ)) × JobOf line words)
+    ⊎ ((fault : JobFault) × ((count : ℕ) → IsWrongLine count line fault))
 every_job line = ⊎_elim
     (λ yes. let legible = text_is line yes in ⊎_elim
     (λ h. inl (h.0, record { legible = legible; split = h.1 }))
@@ -55,7 +57,8 @@ wrong_here count l ls fault few wrong = record {
   wrong = let e : count ≡ count + 0 = omega arith in subst (λ n. IsWrongLine n l.bytes fault) e wrong;
 }
 
-wrong_later : (count : ℕ) (l : NumberedLine) (ls : List NumberedLine) (words : List (List ℕ)) → JobOf l.bytes words → OneWrong (count + 1) ls → OneWrong count (l ∷ ls)
+wrong_later : (count : ℕ) (l : NumberedLine) (ls : List NumberedLine) (words : List (List ℕ)) → JobOf l.bytes words
+    → OneWrong (count + 1) ls → OneWrong count (l ∷ ls)
 wrong_later count l ls words job one = record {
   before = l ∷ one.before;
   line = one.line;
@@ -65,10 +68,12 @@ wrong_later count l ls words job one = record {
   split = ap (λ t. l ∷ t) one.split;
   right = (job, one.right);
   few = let few = one.few in omega arith;
-  wrong = let e : count + 1 + length one.jobs ≡ count + suc (length one.jobs) = omega arith in subst (λ n. IsWrongLine n one.line.bytes one.fault) e one.wrong;
+  wrong = let e : count + 1 + length one.jobs ≡ count + suc (length one.jobs) = omega arith in
+      subst (λ n. IsWrongLine n one.line.bytes one.fault) e one.wrong;
 }
 
-right_later : (count : ℕ) (l : NumberedLine) (ls : List NumberedLine) (words : List (List ℕ)) → JobOf l.bytes words → AllRight (count + 1) ls → AllRight count (l ∷ ls)
+right_later : (count : ℕ) (l : NumberedLine) (ls : List NumberedLine) (words : List (List ℕ)) → JobOf l.bytes words
+    → AllRight (count + 1) ls → AllRight count (l ∷ ls)
 right_later count l ls words job all = record { jobs = words ∷ all.jobs; each = (job, all.each); few = let few = all.few in omega arith }
 
 full_or_not : (count : ℕ) → count ≤ jobs_max → (count ≡ jobs_max) ⊎ (count + 1 ≤ jobs_max)
@@ -89,7 +94,8 @@ every_lines count (l ∷ ls) few =
     (λ wrong. inr (wrong_here count l ls wrong.0 few (wrong.1 count)))
     (every_job l.bytes)
 
-line_at : (lines : List NumberedLine) (jobs : List (List (List ℕ))) (i : ℕ) → AreJobs lines jobs → i < length (outputs_of jobs) → (line : NumberedLine) × (slice_get lines i ≡ Some line)
+line_at : (lines : List NumberedLine) (jobs : List (List (List ℕ))) (i : ℕ) → AreJobs lines jobs → i < length (outputs_of jobs)
+    → (line : NumberedLine) × (slice_get lines i ≡ Some line)
 line_at [] [] i h lt = absurd (omega arith)
 line_at [] (j ∷ js) i h lt = absurd h
 line_at (l ∷ ls) [] i h lt = absurd h
@@ -167,7 +173,8 @@ text_right text short all =
 short_or_long : (n : ℕ) → (n ≤ job_list_max) ⊎ (job_list_max < n)
 short_or_long n = ⊎_elim inr inl (cases_lt job_list_max n)
 
-pub every_text : (text : List ℕ) → ((jobs : List (List (List ℕ))) × JobsOf text jobs) ⊎ ((at : ℕ) × (fault : JobFault) × JobFaultStands text at fault)
+pub every_text : (text : List ℕ) → ((jobs : List (List (List ℕ))) × JobsOf text jobs)
+    ⊎ ((at : ℕ) × (fault : JobFault) × JobFaultStands text at fault)
 unfolding Text
 every_text text = ⊎_elim
     (λ short. ⊎_elim (text_right text short) (text_wrong text short) (every_lines 0 (job_lines text) (omega arith)))

@@ -1,5 +1,6 @@
 -- Pairs of jobs with the same output.
-use Rattle.std.proofs.Common.{◌≡◌, ℕ, zero, suc, ◌+◌, ◌<◌, ◌≤◌, true, false, List, [], ◌∷◌, length, Option, Some, None, refl, ap, sym, ◌∙◌, subst, inl, inr, ⊎_elim, arith}
+use Rattle.std.proofs.Common.{◌≡◌, ℕ, zero, suc, ◌+◌, ◌<◌, ◌≤◌, true, false, List, [], ◌∷◌, length, Option, Some, None, refl, ap, sym}
+use Rattle.std.proofs.Common.{◌∙◌, subst, inl, inr, ⊎_elim, arith}
 use Rattle.std.specs.Prelude.{◌⊎◌, Result, IfOk, IfNone}
 use Rattle.std.specs.List.{slice_get}
 use Rattle.std.specs.Str.{bytes_eq}
@@ -36,9 +37,11 @@ least_below P test (suc n) = by (least_below P test n)
         (test n)
 
 same_bytes : (xs ys : List ℕ) → (xs ≡ ys) ⊎ (xs ≡ ys → ⊥)
-same_bytes xs ys = ⊎_elim (λ yes. inl ((bytes_eq-Decides xs ys).0 yes)) (λ no. inr (λ e. let yes = (bytes_eq-Decides xs ys).1 e in cc)) (cases_Bool (bytes_eq xs ys))
+same_bytes xs ys = ⊎_elim (λ yes. inl ((bytes_eq-Decides xs ys).0 yes))
+    (λ no. inr (λ e. let yes = (bytes_eq-Decides xs ys).1 e in cc)) (cases_Bool (bytes_eq xs ys))
 
-same_here : (a b : Option (Option (List ℕ))) → ((output : List ℕ) × (a ≡ Some (Some output)) × (b ≡ Some (Some output))) ⊎ ((output : List ℕ) × (a ≡ Some (Some output)) × (b ≡ Some (Some output)) → ⊥)
+same_here : (a b : Option (Option (List ℕ))) → ((output : List ℕ) × (a ≡ Some (Some output)) × (b ≡ Some (Some output)))
+    ⊎ ((output : List ℕ) × (a ≡ Some (Some output)) × (b ≡ Some (Some output)) → ⊥)
 same_here None b = inr (λ h. let e = h.1 in cc)
 same_here (Some None) b = inr (λ h. let e = h.1 in cc)
 same_here (Some (Some x)) None = inr (λ h. let e = h.2 in cc)
@@ -75,7 +78,8 @@ get_past (y ∷ ys) (suc i) x h = let later = get_past ys i x h in omega arith
 
 -- two jobs have the same output, or no two have
 pub every_pair : (outputs : Outputs) → ((i : ℕ) × (j : ℕ) × IsLeastPair outputs i j) ⊎ AreApart outputs
-every_pair outputs = ⊎_elim inl (λ none. inr (λ i j lt same. none i j lt (get_past outputs j (Some same.0) same.2) same)) (pair_below outputs (length outputs))
+every_pair outputs = ⊎_elim inl (λ none. inr (λ i j lt same. none i j lt (get_past outputs j (Some same.0) same.2) same))
+    (pair_below outputs (length outputs))
 
 pub pair_not_apart : (outputs : Outputs) (i j : ℕ) → IsLeastPair outputs i j → AreApart outputs → ⊥
 pair_not_apart outputs i j h apart = apart i j h.low h.same
@@ -113,12 +117,14 @@ pub record HasPlaces (outputs : List (Option (List ℕ))) (n : ℕ) (places : Pl
 
 pub no_places : (outputs : Outputs) (places : Places) → places.entries ≡ [] → HasPlaces outputs 0 places
 no_places outputs places empty = record {
-  found = λ output i h. let e : None ≡ Some i = sym (ap (lookup (is_at (λ (key : Bor (List ℕ)). slice_cmp nat_cmp output key.now))) empty) ∙ h in absurd cc;
+  found = λ output i h. let e : None ≡ Some i =
+      sym (ap (lookup (is_at (λ (key : Bor (List ℕ)). slice_cmp nat_cmp output key.now))) empty) ∙ h in absurd cc;
   kept = λ output i lt h. absurd (omega arith);
 }
 
 -- no output at the next place
-pub places_past : (outputs : Outputs) (n : ℕ) (places : Places) → HasPlaces outputs n places → slice_get outputs n ≡ Some None → HasPlaces outputs (n + 1) places
+pub places_past : (outputs : Outputs) (n : ℕ) (places : Places) → HasPlaces outputs n places → slice_get outputs n ≡ Some None
+    → HasPlaces outputs (n + 1) places
 places_past outputs n places h none = record {
   found = λ output i e. let p = h.found output i e in let lt = p.0 in (omega arith, p.1);
   kept = λ output i lt there. ⊎_elim
@@ -128,7 +134,9 @@ places_past outputs n places h none = record {
 }
 
 -- an output at the next place that wasn't there before
-pub places_more : (outputs : Outputs) (n : ℕ) (old new : Places) (output : List ℕ) → HasPlaces outputs n old → slice_get outputs n ≡ Some (Some output) → place_of old output ≡ None → ((other : List ℕ) → place_of new other ≡ update bytes_eq (place_of old) output (Some n) other) → HasPlaces outputs (n + 1) new
+pub places_more : (outputs : Outputs) (n : ℕ) (old new : Places) (output : List ℕ) → HasPlaces outputs n old
+    → slice_get outputs n ≡ Some (Some output) → place_of old output ≡ None
+    → ((other : List ℕ) → place_of new other ≡ update bytes_eq (place_of old) output (Some n) other) → HasPlaces outputs (n + 1) new
 places_more outputs n old new output h here none up = record {
   found = λ other i e. ⊎_elim
       (λ (same : bytes_eq output other ≡ true).
@@ -153,22 +161,26 @@ places_more outputs n old new output h here none up = record {
       let place = up other ∙ rw differs refl in
       ⊎_elim
       (λ below. place ∙ h.kept other i below there)
-      (λ last. let e : Some (Some other) ≡ Some (Some output) = sym there ∙ ap (slice_get outputs) last ∙ here in let is : output ≡ other = cc in let yes = (bytes_eq-Decides output other).1 is in absurd cc)
+      (λ last. let e : Some (Some other) ≡ Some (Some output) = sym there ∙ ap (slice_get outputs) last ∙ here in
+      let is : output ≡ other = cc in let yes = (bytes_eq-Decides output other).1 is in absurd cc)
       (below_or_last i n (omega arith)))
       (cases_Bool (bytes_eq output other));
 }
 
-places_apart : (outputs : Outputs) (n : ℕ) (places : Places) → HasPlaces outputs n places → (i j : ℕ) → i < j → j < n → SameOutputAt outputs i j → ⊥
+places_apart : (outputs : Outputs) (n : ℕ) (places : Places) → HasPlaces outputs n places → (i j : ℕ) → i < j → j < n
+    → SameOutputAt outputs i j → ⊥
 places_apart outputs n places h i j lt within same =
     let e : Some i ≡ Some j = sym (h.kept same.0 i (omega arith) same.1) ∙ h.kept same.0 j within same.2 in
     let is : i ≡ j = cc in
     omega arith
 
 pub places_all : (outputs : Outputs) (n : ℕ) (places : Places) → HasPlaces outputs n places → length outputs ≤ n → AreApart outputs
-places_all outputs n places h all i j lt same = let within = get_past outputs j (Some same.0) same.2 in places_apart outputs n places h i j lt (omega arith) same
+places_all outputs n places h all i j lt same = let within = get_past outputs j (Some same.0) same.2 in
+    places_apart outputs n places h i j lt (omega arith) same
 
 -- the output at the next place was there before
-pub places_pair : (outputs : Outputs) (n : ℕ) (places : Places) (output : List ℕ) (first : ℕ) → HasPlaces outputs n places → slice_get outputs n ≡ Some (Some output) → place_of places output ≡ Some first → IsLeastPair outputs first n
+pub places_pair : (outputs : Outputs) (n : ℕ) (places : Places) (output : List ℕ) (first : ℕ) → HasPlaces outputs n places
+    → slice_get outputs n ≡ Some (Some output) → place_of places output ≡ Some first → IsLeastPair outputs first n
 places_pair outputs n places output first h here place =
     let p = h.found output first place in
     record {
@@ -184,12 +196,16 @@ places_pair outputs n places output first h here place =
           omega arith;
     }
 
-pub none_answer : {T E : Type 0} (r : Result (Option T) E) (outputs other : Outputs) → outputs ≡ other → IfOk r (λ found. IfNone found (AreApart outputs)) → IfOk r (λ found. IfNone found (AreApart other))
+pub none_answer : {T E : Type 0} (r : Result (Option T) E) (outputs other : Outputs) → outputs ≡ other
+    → IfOk r (λ found. IfNone found (AreApart outputs)) → IfOk r (λ found. IfNone found (AreApart other))
 none_answer r outputs other same = subst (λ (o : Outputs). IfOk r (λ found. IfNone found (AreApart o))) same
 
-pub places_added : (outputs : Outputs) (n : ℕ) (old new : Places) (output key : List ℕ) → HasPlaces outputs n old → slice_get outputs n ≡ Some (Some output) → place_of old output ≡ None → key ≡ output → ((other : List ℕ) → place_of new other ≡ update bytes_eq (place_of old) key (Some n) other) → HasPlaces outputs (n + 1) new
+pub places_added : (outputs : Outputs) (n : ℕ) (old new : Places) (output key : List ℕ) → HasPlaces outputs n old
+    → slice_get outputs n ≡ Some (Some output) → place_of old output ≡ None → key ≡ output
+    → ((other : List ℕ) → place_of new other ≡ update bytes_eq (place_of old) key (Some n) other) → HasPlaces outputs (n + 1) new
 places_added outputs n old new output key h here none is up =
     places_more outputs n old new output h here none (λ other. up other ∙ ap (λ k. update bytes_eq (place_of old) k (Some n) other) is)
 
-pub here_at : (outputs : Outputs) (n : ℕ) (output : Option (List ℕ)) → n < length outputs → (read : Option (List ℕ)) → read ≡ get_or outputs n read → read ≡ output → slice_get outputs n ≡ Some output
+pub here_at : (outputs : Outputs) (n : ℕ) (output : Option (List ℕ)) → n < length outputs → (read : Option (List ℕ))
+    → read ≡ get_or outputs n read → read ≡ output → slice_get outputs n ≡ Some output
 here_at outputs n output lt read is e = slice_get-get_or outputs n read lt ∙ ap Some (sym is ∙ e)

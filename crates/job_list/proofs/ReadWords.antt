@@ -1,5 +1,6 @@
 -- What the words of a job are like.
-use Rattle.std.proofs.Common.{◌≡◌, ℕ, ◌+◌, ◌<◌, ◌≤◌, Bool, true, false, List, [], ◌∷◌, ◌++◌, length, get_or, Result, Ok, Err, refl, ap, sym, ◌∙◌, subst, ⊎_elim, arith}
+use Rattle.std.proofs.Common.{◌≡◌, ℕ, ◌+◌, ◌<◌, ◌≤◌, Bool, true, false, List, [], ◌∷◌, ◌++◌, length, get_or, Result, Ok, Err, refl, ap}
+use Rattle.std.proofs.Common.{sym, ◌∙◌, subst, ⊎_elim, arith}
 use Rattle.std.specs.Prelude.{not, ◌==◌, ◌||◌, All, IfOk}
 use Rattle.std.specs.List.{flat_map, onto_first}
 use Rattle.std.specs.Str.{IsUtf8}
@@ -9,7 +10,8 @@ use Rattle.std.proofs.lemmas.List.{append_assoc, append-nil, length-append}
 use Rattle.std.proofs.lemmas.List.Elements.{All-nil, All-cons, All-head, All-tail}
 use Rattle.std.proofs.lemmas.Str.{IsUtf8-append, IsUtf8-take, IsUtf8-drop, IsCharBoundary-before_ascii, IsCharBoundary-after_ascii}
 use Rattle.farm_types.specs.Bytes.{line_feed, single_quote, double_quote, backslash, is_blank}
-use Rattle.job_list.specs.Parts.{Each, Quoted, literal, kept, escaped, quoted_text, quoted_bytes, Part, blank, bare, after_backslash, single, double, IsPart, part_text, part_bytes}
+use Rattle.job_list.specs.Parts.{Each, Quoted, literal, kept, escaped, quoted_text, quoted_bytes, Part, blank, bare, after_backslash}
+use Rattle.job_list.specs.Parts.{single, double, IsPart, part_text, part_bytes}
 use Rattle.job_list.specs.Lines.{words_of, goes_on, onto_words, LineOf}
 use Rattle.job_list.specs.Texts.{lines_of, is_job, jobs_from}
 use Rattle.job_list.specs.Jobs.{HasNoZero, JobOf, AreJobs, JobsOf}
@@ -21,22 +23,32 @@ each_all P [] h = All-nil P
 each_all P (x ∷ xs) h = All-cons P x xs h.0 (each_all P xs h.1)
 
 blank_low : (c : ℕ) → is_blank c ≡ true → c < 128
-blank_low c h = ⊎_elim (λ e. let is = eqb-true c 32 e in omega arith) (λ e. let is = eqb-true c 9 e in omega arith) (or_cases (c == 32) (c == 9) h)
+blank_low c h = ⊎_elim (λ e. let is = eqb-true c 32 e in omega arith) (λ e. let is = eqb-true c 9 e in
+    omega arith) (or_cases (c == 32) (c == 9) h)
 
 -- What holds of a text, and of both sides of each ASCII byte in it, and where it holds of two texts also of both in a
 -- row, holds of the words of a line.
-module _ (Q : List ℕ → Type 0) (cut : (xs ys : List ℕ) (c : ℕ) → c < 128 → Q (xs ++ c ∷ ys) → Q xs × Q ys) (join : (xs ys : List ℕ) → Q xs → Q ys → Q (xs ++ ys)) where
+module _ (Q : List ℕ → Type 0) (cut : (xs ys : List ℕ) (c : ℕ) → c < 128 → Q (xs ++ c ∷ ys) → Q xs × Q ys) (join : (xs ys : List ℕ)
+    → Q xs → Q ys → Q (xs ++ ys)) where
   dropped : (xs ys : List ℕ) (c : ℕ) → c < 128 → Q (xs ++ c ∷ ys) → Q (xs ++ ys)
   dropped xs ys c low h = let p = cut xs ys c low h in join xs ys p.0 p.1
 
   moved : (xs ys zs : List ℕ) → Q (xs ++ (ys ++ zs)) → Q ((xs ++ ys) ++ zs)
   moved xs ys zs h = subst Q (sym (append_assoc xs ys zs)) h
 
-  quoted_read : (xs : List ℕ) (qs : List Quoted) (rest : List ℕ) → Q (xs ++ (flat_map quoted_text qs ++ rest)) → Q (xs ++ (flat_map quoted_bytes qs ++ rest))
+  quoted_read : (xs : List ℕ) (qs : List Quoted) (rest : List ℕ) → Q (xs ++ (flat_map quoted_text qs ++ rest))
+      → Q (xs ++ (flat_map quoted_bytes qs ++ rest))
   quoted_read xs [] rest h = h
-  quoted_read xs (literal c ∷ qs) rest h = subst Q (append_assoc xs (c ∷ []) (flat_map quoted_bytes qs ++ rest)) (quoted_read (xs ++ c ∷ []) qs rest (moved xs (c ∷ []) (flat_map quoted_text qs ++ rest) h))
-  quoted_read xs (kept c ∷ qs) rest h = subst Q (append_assoc xs (backslash ∷ c ∷ []) (flat_map quoted_bytes qs ++ rest)) (quoted_read (xs ++ backslash ∷ c ∷ []) qs rest (moved xs (backslash ∷ c ∷ []) (flat_map quoted_text qs ++ rest) h))
-  quoted_read xs (escaped c ∷ qs) rest h = subst Q (append_assoc xs (c ∷ []) (flat_map quoted_bytes qs ++ rest)) (quoted_read (xs ++ c ∷ []) qs rest (moved xs (c ∷ []) (flat_map quoted_text qs ++ rest) (dropped xs (c ∷ (flat_map quoted_text qs ++ rest)) backslash (omega arith) h)))
+  quoted_read xs (literal c ∷ qs) rest h =
+      subst Q (append_assoc xs (c ∷ []) (flat_map quoted_bytes qs ++ rest))
+      (quoted_read (xs ++ c ∷ []) qs rest (moved xs (c ∷ []) (flat_map quoted_text qs ++ rest) h))
+  quoted_read xs (kept c ∷ qs) rest h =
+      subst Q (append_assoc xs (backslash ∷ c ∷ []) (flat_map quoted_bytes qs ++ rest))
+      (quoted_read (xs ++ backslash ∷ c ∷ []) qs rest (moved xs (backslash ∷ c ∷ []) (flat_map quoted_text qs ++ rest) h))
+  quoted_read xs (escaped c ∷ qs) rest h =
+      subst Q (append_assoc xs (c ∷ []) (flat_map quoted_bytes qs ++ rest))
+      (quoted_read (xs ++ c ∷ []) qs rest
+      (moved xs (c ∷ []) (flat_map quoted_text qs ++ rest) (dropped xs (c ∷ (flat_map quoted_text qs ++ rest)) backslash (omega arith) h)))
 
   -- the quotes on both sides are dropped
   between : (xs ys rest : List ℕ) (c : ℕ) → c < 128 → Q (xs ++ c ∷ ((ys ++ c ∷ []) ++ rest)) → Q ((xs ++ ys) ++ rest)
@@ -45,7 +57,8 @@ module _ (Q : List ℕ → Type 0) (cut : (xs ys : List ℕ) (c : ℕ) → c < 1
       let shut = moved xs ys (c ∷ rest) (subst (λ t. Q (xs ++ t)) (append_assoc ys (c ∷ []) rest) open_dropped) in
       dropped (xs ++ ys) rest c low shut
 
-  part_read : (xs : List ℕ) (p : Part) (rest : List ℕ) → goes_on (p ∷ []) ≡ true → Q (xs ++ (part_text p ++ rest)) → Q ((xs ++ part_bytes p) ++ rest)
+  part_read : (xs : List ℕ) (p : Part) (rest : List ℕ) → goes_on (p ∷ []) ≡ true → Q (xs ++ (part_text p ++ rest))
+      → Q ((xs ++ part_bytes p) ++ rest)
   part_read xs (blank c) rest on h = absurd cc
   part_read xs (bare c) rest on h = moved xs (c ∷ []) rest h
   part_read xs (after_backslash c) rest on h = moved xs (c ∷ []) rest (dropped xs (c ∷ rest) backslash (omega arith) h)
@@ -61,9 +74,12 @@ module _ (Q : List ℕ → Type 0) (cut : (xs ys : List ℕ) (c : ℕ) → c < 1
   abbrev NextWords : List Part → Type 0
   NextWords ps = Q (flat_map part_text ps) → Each Q (words_of ps)
 
-  word_next : (p : Part) (ps : List Part) → goes_on (p ∷ []) ≡ true → words_of (p ∷ ps) ≡ onto_words (goes_on ps) (part_bytes p) (words_of ps) → goes_on (p ∷ ps) ≡ true → OpenWords ps → OpenWords (p ∷ ps) × NextWords (p ∷ ps)
+  word_next : (p : Part) (ps : List Part) → goes_on (p ∷ []) ≡ true
+      → words_of (p ∷ ps) ≡ onto_words (goes_on ps) (part_bytes p) (words_of ps) → goes_on (p ∷ ps) ≡ true → OpenWords ps
+      → OpenWords (p ∷ ps) × NextWords (p ∷ ps)
   word_next p ps on words goes later = (
-    λ word h. subst (Each Q) (sym (ap (λ b. onto_words b word (words_of (p ∷ ps))) goes ∙ ap (onto_words true word) words ∙ onto_onto word (part_bytes p) (goes_on ps) (words_of ps)))
+    λ word h. subst (Each Q) (sym (ap (λ b. onto_words b word (words_of (p ∷ ps))) goes ∙ ap (onto_words true word) words
+        ∙ onto_onto word (part_bytes p) (goes_on ps) (words_of ps)))
         (later (word ++ part_bytes p) (part_read word p (flat_map part_text ps) on h)),
     λ h. subst (Each Q) (sym words) (later (part_bytes p) (part_read [] p (flat_map part_text ps) on h)),
   )
@@ -149,8 +165,11 @@ job_words line words plain is h =
     let split = h.split in
     let legible = h.legible in
     record {
-      some = subst (λ (ws : List (List ℕ)). 1 ≤ length ws) (sym split.meant) (some_words split.parts split.right (ap is_job (sym split.spelled) ∙ is));
-      printable = each_all IsPrintable words (printables words (line_words Passes pass_cut (all_append (λ c. printable c ≡ true)) line words split (line_passes line plain legible.plain)));
+      some = subst (λ (ws : List (List ℕ)). 1 ≤ length ws) (sym split.meant)
+          (some_words split.parts split.right (ap is_job (sym split.spelled) ∙ is));
+      printable = each_all IsPrintable words
+          (printables words (line_words Passes pass_cut (all_append (λ c. printable c ≡ true)) line words split
+          (line_passes line plain legible.plain)));
       utf8 = each_all IsUtf8 words (line_words IsUtf8 utf8_cut IsUtf8-append line words split legible.utf8);
     }
   where
@@ -158,12 +177,14 @@ job_words line words plain is h =
     printables [] h = tt
     printables (w ∷ ws) h = (each_all (λ c. printable c ≡ true) w h.0, printables ws h.1)
 
-jobs_words : (number : ℕ) (ls : List (List ℕ)) (jobs : List (List (List ℕ))) → Each NoFeed ls → AreJobs (jobs_from number ls) jobs → Each AreJobWords jobs
+jobs_words : (number : ℕ) (ls : List (List ℕ)) (jobs : List (List (List ℕ))) → Each NoFeed ls → AreJobs (jobs_from number ls) jobs
+    → Each AreJobWords jobs
 jobs_words number [] [] plain h = tt
 jobs_words number [] (j ∷ js) plain h = absurd h
 jobs_words number (l ∷ ls) jobs plain h = by (is_job l) refl jobs h (λ js p. jobs_words (number + 1) ls js plain.1 p)
   where
-    by : (b : Bool) → is_job l ≡ b → (js : List (List (List ℕ))) → AreJobs (jobs_from number (l ∷ ls)) js → ((ks : List (List (List ℕ))) → AreJobs (jobs_from (number + 1) ls) ks → Each AreJobWords ks) → Each AreJobWords js
+    by : (b : Bool) → is_job l ≡ b → (js : List (List (List ℕ))) → AreJobs (jobs_from number (l ∷ ls)) js
+        → ((ks : List (List (List ℕ))) → AreJobs (jobs_from (number + 1) ls) ks → Each AreJobWords ks) → Each AreJobWords js
     by false e js h more = more js (rw e at h)
     by true e [] h more = tt
     by true e (j ∷ js) h more = let p = rw e at h in (job_words l j plain.0 e p.0, more js p.1)
@@ -171,6 +192,7 @@ jobs_words number (l ∷ ls) jobs plain h = by (is_job l) refl jobs h (λ js p. 
 pub text_words : (text : List ℕ) (jobs : List (List (List ℕ))) → JobsOf text jobs → All AreJobWords jobs
 text_words text jobs h = each_all AreJobWords jobs (jobs_words 1 (lines_of text) jobs (lines_feeds text) h.each)
 
-pub answer_words : {E : Type 0} (r : Result (List (List (List ℕ))) E) (text : List ℕ) → IfOk r (λ jobs. JobsOf text jobs) → IfOk r (λ jobs. All AreJobWords jobs)
+pub answer_words : {E : Type 0} (r : Result (List (List (List ℕ))) E) (text : List ℕ) → IfOk r (λ jobs. JobsOf text jobs)
+    → IfOk r (λ jobs. All AreJobWords jobs)
 answer_words (Ok jobs) text h = text_words text jobs h
 answer_words (Err e) text h = tt

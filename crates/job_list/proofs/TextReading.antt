@@ -1,5 +1,6 @@
 -- One reading of each text.
-use Rattle.std.proofs.Common.{◌≡◌, ℕ, suc, ◌+◌, ◌≤◌, Bool, true, false, cond, List, [], ◌∷◌, ◌++◌, length, Option, Some, None, Ok, Err, refl, ap, sym, ◌∙◌, inl, inr, subst, arith}
+use Rattle.std.proofs.Common.{◌≡◌, ℕ, suc, ◌+◌, ◌≤◌, Bool, true, false, cond, List, [], ◌∷◌, ◌++◌, length, Option, Some, None, Ok, Err}
+use Rattle.std.proofs.Common.{refl, ap, sym, ◌∙◌, inl, inr, subst, arith}
 use Rattle.std.specs.Prelude.{◌==◌, not, ◌&&◌, if◌then◌else◌}
 use Rattle.std.specs.List.{slice_get, list_all}
 use Rattle.std.specs.Str.{is_utf8}
@@ -97,7 +98,8 @@ passed count (l ∷ ls) (j ∷ js) rest h few =
     let e : count + 1 + length js ≡ count + suc (length js) = omega arith in
     here ∙ later ∙ ap (λ n. first_wrong n rest) e
 
-stopped : (count : ℕ) (l : NumberedLine) (ls : List NumberedLine) (fault : JobFault) → IsWrongLine count l.bytes fault → first_wrong count (l ∷ ls) ≡ Some (l.number, fault)
+stopped : (count : ℕ) (l : NumberedLine) (ls : List NumberedLine) (fault : JobFault) → IsWrongLine count l.bytes fault
+    → first_wrong count (l ∷ ls) ≡ Some (l.number, fault)
 stopped count l ls fault (inl p) = let is = job_no_text l.bytes p.1 in rw is (ap (λ f. Some (l.number, f)) (sym p.0))
 stopped count l ls fault (inr (inl p)) = let is = job_breaks l.bytes fault p.0 p.1 in rw is refl
 stopped count l ls fault (inr (inr p)) =
@@ -113,7 +115,8 @@ one_wrong : (lines : List NumberedLine) (at : ℕ) (fault : JobFault) → HasWro
 one_wrong lines at fault h =
     let zero : 0 + length h.jobs ≡ length h.jobs = omega arith in
     ap (first_wrong 0) h.split ∙ passed 0 h.before h.jobs (h.line ∷ h.after) h.right (let few = h.few in omega arith)
-    ∙ ap (λ n. first_wrong n (h.line ∷ h.after)) zero ∙ stopped (length h.jobs) h.line h.after fault h.wrong ∙ ap (λ n. Some (n, fault)) (sym h.place)
+    ∙ ap (λ n. first_wrong n (h.line ∷ h.after)) zero ∙ stopped (length h.jobs) h.line h.after fault h.wrong
+    ∙ ap (λ n. Some (n, fault)) (sym h.place)
 
 wrong_right : (lines : List NumberedLine) (at : ℕ) (fault : JobFault) (jobs : List (List (List ℕ))) → HasWrongLine lines at fault
     → AreJobs lines jobs → length jobs ≤ jobs_max → ⊥
@@ -124,7 +127,8 @@ wrong_right lines at fault jobs h each few = let e = sym (one_wrong lines at fau
 abbrev Same : ℕ → ℕ → JobFault → JobFault → Type 0
 Same at there fault other = (at ≡ there) × (fault ≡ other)
 
-same_wrong : (lines : List NumberedLine) (at there : ℕ) (fault other : JobFault) → HasWrongLine lines at fault → HasWrongLine lines there other → Same at there fault other
+same_wrong : (lines : List NumberedLine) (at there : ℕ) (fault other : JobFault) → HasWrongLine lines at fault
+    → HasWrongLine lines there other → Same at there fault other
 same_wrong lines at there fault other h k =
     let e = sym (one_wrong lines at fault h) ∙ one_wrong lines there other k in
     let both : (at, fault) ≡ (there, other) = cc in
@@ -136,17 +140,20 @@ no_line_wrong lines at fault none h = let e = sym (ap (first_wrong 0) none) ∙ 
 none_shares : (lines : List NumberedLine) (at : ℕ) (fault : JobFault) → lines ≡ [] → SharesOutput lines at fault → ⊥
 none_shares lines at fault none h = let e : Some h.line ≡ None = sym h.there ∙ ap (λ ls. slice_get ls h.second) none in cc
 
-same_share : (lines : List NumberedLine) (at there : ℕ) (fault other : JobFault) → SharesOutput lines at fault → SharesOutput lines there other → Same at there fault other
+same_share : (lines : List NumberedLine) (at there : ℕ) (fault other : JobFault) → SharesOutput lines at fault
+    → SharesOutput lines there other → Same at there fault other
 same_share lines at there fault other h k =
     let jobs : k.jobs ≡ h.jobs = one_list lines k.jobs h.jobs k.each h.each in
-    let pair = one_pair (outputs_of h.jobs) h.first h.second k.first k.second h.pair (subst (λ js. IsLeastPair (outputs_of js) k.first k.second) jobs k.pair) in
+    let pair = one_pair (outputs_of h.jobs) h.first h.second k.first k.second h.pair
+    (subst (λ js. IsLeastPair (outputs_of js) k.first k.second) jobs k.pair) in
     let e = sym h.there ∙ ap (slice_get lines) pair.1 ∙ k.there in
     let line : h.line ≡ k.line = cc in (
       h.place ∙ ap (λ (l : NumberedLine). l.number) line ∙ sym k.place,
       h.named ∙ ap (λ n. SameOutput (n + 1) (h.second + 1)) pair.0 ∙ ap (λ n. SameOutput (k.first + 1) (n + 1)) pair.1 ∙ sym k.named,
     )
 
-same_lines : (lines : List NumberedLine) (at there : ℕ) (fault other : JobFault) → LinesFault lines at fault → LinesFault lines there other → Same at there fault other
+same_lines : (lines : List NumberedLine) (at there : ℕ) (fault other : JobFault) → LinesFault lines at fault
+    → LinesFault lines there other → Same at there fault other
 same_lines lines at there fault other (inl h) (inl k) = same_wrong lines at there fault other h k
 same_lines lines at there fault other (inl h) (inr (inl k)) = absurd (no_line_wrong lines at fault k.0 h)
 same_lines lines at there fault other (inl h) (inr (inr k)) = absurd (wrong_right lines at fault k.jobs h k.each k.few)
@@ -157,7 +164,8 @@ same_lines lines at there fault other (inr (inr h)) (inl k) = absurd (wrong_righ
 same_lines lines at there fault other (inr (inr h)) (inr (inl k)) = absurd (none_shares lines at fault k.0 h)
 same_lines lines at there fault other (inr (inr h)) (inr (inr k)) = same_share lines at there fault other h k
 
-pub one_fault : (text : List ℕ) (at there : ℕ) (fault other : JobFault) → JobFaultStands text at fault → JobFaultStands text there other → (at ≡ there) × (fault ≡ other)
+pub one_fault : (text : List ℕ) (at there : ℕ) (fault other : JobFault) → JobFaultStands text at fault
+    → JobFaultStands text there other → (at ≡ there) × (fault ≡ other)
 one_fault text at there fault other (inl h) (inl k) = (h.1 ∙ sym k.1, h.2 ∙ sym k.2)
 one_fault text at there fault other (inl h) (inr k) = let long = h.0 in let short = k.0 in absurd (omega arith)
 one_fault text at there fault other (inr h) (inl k) = let short = h.0 in let long = k.0 in absurd (omega arith)
@@ -173,13 +181,15 @@ no_jobs_none lines jobs none each some = by jobs (subst (λ ls. AreJobs ls jobs)
     by [] h some = omega arith
     by (j ∷ js) h some = h
 
-right_lines : (text : List ℕ) (jobs : List (List (List ℕ))) (at : ℕ) (fault : JobFault) → JobsOf text jobs → LinesFault (job_lines text) at fault → ⊥
+right_lines : (text : List ℕ) (jobs : List (List (List ℕ))) (at : ℕ) (fault : JobFault) → JobsOf text jobs
+    → LinesFault (job_lines text) at fault → ⊥
 right_lines text jobs at fault h (inl k) = wrong_right (job_lines text) at fault jobs k h.each h.few
 right_lines text jobs at fault h (inr (inl k)) = no_jobs_none (job_lines text) jobs k.0 h.each h.some
 right_lines text jobs at fault h (inr (inr k)) =
     let same : k.jobs ≡ jobs = one_list (job_lines text) k.jobs jobs k.each h.each in
     pair_not_apart (outputs_of jobs) k.first k.second (subst (λ js. IsLeastPair (outputs_of js) k.first k.second) same k.pair) h.apart
 
-pub no_both : (text : List ℕ) (jobs : List (List (List ℕ))) (at : ℕ) (fault : JobFault) → JobsOf text jobs → JobFaultStands text at fault → ⊥
+pub no_both : (text : List ℕ) (jobs : List (List (List ℕ))) (at : ℕ) (fault : JobFault) → JobsOf text jobs
+    → JobFaultStands text at fault → ⊥
 no_both text jobs at fault h (inl k) = let short = h.short in let long = k.0 in omega arith
 no_both text jobs at fault h (inr k) = right_lines text jobs at fault h k.1

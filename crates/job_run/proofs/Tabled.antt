@@ -18,7 +18,7 @@ use Rattle.farm_machine.specs.Course.{after_preprocessor, or_here, after_broken,
 use Rattle.farm_machine.specs.Course.{Next, Ends, Reach, From, Course}
 use Rattle.farm_machine.specs.Jobs.{Job, CanRequest, output_name}
 use Rattle.course_laws.proofs.InTable.{in-table, from-table}
-use Rattle.course_laws.proofs.Tables.{table}
+use Rattle.course_laws.proofs.TablesBack.{table}
 use Rattle.job_run.specs.Courses.{AreCompiles, AreBounded, IsCourseFront, IsJobCourse}
 use Rattle.job_run.specs.Gives.{IsUnhurt}
 use Rattle.job_run.specs.Strict.{IsStrict}

@@ -1,5 +1,6 @@
 -- When an exchange over a loop is broken.
-use Rattle.std.proofs.Common.{◌≡◌, ◌⊎◌, ℕ, ◌+◌, ◌-◌, ◌^◌, ◌≤◌, ◌||◌, min, Bool, true, false, List, [], ◌∷◌, ◌++◌, length, take, drop, inl, inr, refl, sym, ◌∙◌, ap, subst, arith}
+use Rattle.std.proofs.Common.{◌≡◌, ◌⊎◌, ℕ, ◌+◌, ◌-◌, ◌^◌, ◌≤◌, ◌||◌, min, Bool, true, false, List, [], ◌∷◌, ◌++◌, length, take, drop, inl}
+use Rattle.std.proofs.Common.{inr, refl, sym, ◌∙◌, ap, subst, arith}
 use Rattle.std.proofs.lemmas.List.{take-append-drop, append-nil}
 use Rattle.farm_types.specs.declared.placed.Word.{Word}
 use Rattle.farm_types.specs.declared.ran.Ran.{Ran}
@@ -30,7 +31,9 @@ rose_of_test false o faults overruns test = inr (overruns test)
 
 -- a test that says so is right
 pub rose_by_test : (before now : StationView) → station_rose before now ≡ true → StationRose before now
-rose_by_test before now test = rose_of_test (count_rose before.faults now.faults) (count_rose before.overruns now.overruns) (leb-true (min (before.faults + 1) (2 ^ 64 - 1)) now.faults) (leb-true (min (before.overruns + 1) (2 ^ 64 - 1)) now.overruns) test
+rose_by_test before now test =
+    rose_of_test (count_rose before.faults now.faults) (count_rose before.overruns now.overruns)
+    (leb-true (min (before.faults + 1) (2 ^ 64 - 1)) now.faults) (leb-true (min (before.overruns + 1) (2 ^ 64 - 1)) now.overruns) test
 
 test_of_rose : (f o : Bool) → (f ≡ true) ⊎ (o ≡ true) → f || o ≡ true
 test_of_rose true o is = refl
@@ -39,19 +42,30 @@ test_of_rose false false (inl is) = is
 test_of_rose false false (inr is) = is
 
 pub test_by_rose : (before now : StationView) → StationRose before now → station_rose before now ≡ true
-test_by_rose before now (inl rose) = test_of_rose (count_rose before.faults now.faults) (count_rose before.overruns now.overruns) (inl (le-leb (min (before.faults + 1) (2 ^ 64 - 1)) now.faults rose))
-test_by_rose before now (inr rose) = test_of_rose (count_rose before.faults now.faults) (count_rose before.overruns now.overruns) (inr (le-leb (min (before.overruns + 1) (2 ^ 64 - 1)) now.overruns rose))
+test_by_rose before now (inl rose) =
+    test_of_rose (count_rose before.faults now.faults) (count_rose before.overruns now.overruns)
+    (inl (le-leb (min (before.faults + 1) (2 ^ 64 - 1)) now.faults rose))
+test_by_rose before now (inr rose) =
+    test_of_rose (count_rose before.faults now.faults) (count_rose before.overruns now.overruns)
+    (inr (le-leb (min (before.overruns + 1) (2 ^ 64 - 1)) now.overruns rose))
 
 module _ (table : List Compiler) (ran : List Word → List ℕ → Ran → Type 0) where
   -- no fault stands in a front of a reply
   faultless : (sent given : List ℕ) (at : ℕ) (fault : ReplyFault) → Gives table ran sent given → ReplyFaultStands given at fault → ⊥
-  faultless sent given at fault (inr none) stands = replies.empty_is_short.no_fault at fault (subst (λ t. ReplyFaultStands t at fault) none stands)
+  faultless sent given at fault (inr none) stands =
+      replies.empty_is_short.no_fault at fault (subst (λ t. ReplyFaultStands t at fault) none stands)
   faultless sent given at fault (inl front) stands =
       let is = front.is_reply in
       let answers = is.asked.answers in
-      let own : BeginsReply (reply_text is.o) (length (reply_text is.o)) is.o = subst (λ t. BeginsReply t (length (reply_text is.o)) is.o) (append-nil (reply_text is.o)) (replies.written_again is.o [] answers.fits answers.small) in
-      let longer : ReplyFaultStands front.reply at fault = subst (λ t. ReplyFaultStands t at fault) (take-append-drop front.at front.reply) (replies.fault_longer (take front.at front.reply) (drop front.at front.reply) at fault (subst (λ t. ReplyFaultStands t at fault) front.front stands)) in
-      replies.spelled_or_fault (reply_text is.o) (length (reply_text is.o)) at is.o fault own (subst (λ t. ReplyFaultStands t at fault) is.text longer)
+      let own : BeginsReply (reply_text is.o) (length (reply_text is.o)) is.o =
+      subst (λ t. BeginsReply t (length (reply_text is.o)) is.o) (append-nil (reply_text is.o))
+      (replies.written_again is.o [] answers.fits answers.small) in
+      let longer : ReplyFaultStands front.reply at fault =
+      subst (λ t. ReplyFaultStands t at fault) (take-append-drop front.at front.reply)
+      (replies.fault_longer (take front.at front.reply) (drop front.at front.reply) at fault
+      (subst (λ t. ReplyFaultStands t at fault) front.front stands)) in
+      replies.spelled_or_fault (reply_text is.o) (length (reply_text is.o)) at is.o fault own
+      (subst (λ t. ReplyFaultStands t at fault) is.text longer)
 
   module _ (q : Request) (h : Host) (x : Exchange) (there : Bool) (before now : StationView) (fits : RequestFits q.words q.source)
       (no_fault : x.faults ≡ 0) (no_stop : x.stopped ≡ false) (away : x.dialed ≡ false → there ≡ false)
@@ -63,11 +77,13 @@ module _ (table : List Compiler) (ran : List Word → List ℕ → Ran → Type 
       ended = ended;
       q = q;
       used = length (request_text q);
-      asked = subst (λ t. BeginsRequest t (length (request_text q)) q) (append-nil (request_text q) ∙ sym shown.sent) (requests.written_again q [] fits);
+      asked = subst (λ t. BeginsRequest t (length (request_text q)) q) (append-nil (request_text q) ∙ sym shown.sent)
+          (requests.written_again q [] fits);
       short = shown.short;
     })))
 
-    bad : (dialed : Bool) (at : ℕ) (fault : ReplyFault) → x.dialed ≡ dialed → ReplyFaultStands x.given at fault → (there ≡ false) ⊎ StationRose before now
+    bad : (dialed : Bool) (at : ℕ) (fault : ReplyFault) → x.dialed ≡ dialed → ReplyFaultStands x.given at fault
+        → (there ≡ false) ⊎ StationRose before now
     bad false at fault is stands = inl (away is)
     bad true at fault is stands = absurd (faultless x.sent x.given at fault (may is) stands)
 
@@ -80,11 +96,16 @@ module _ (table : List Compiler) (ran : List Word → List ℕ → Ran → Type 
     unbroken Stopped is = absurd (cc (is.shown.1, no_stop))
 
   -- a request that was sent whole before the first receive, and got no whole reply
-  pub unanswered_rose : (sent given : List ℕ) (x : Exchange) (before dialed now : StationView) → before.faults ≤ dialed.faults → before.overruns ≤ dialed.overruns → x.sent ≡ sent → x.given ≡ given → IsUnanswered x → Serves table ran sent dialed now given → station_rose before now ≡ true
+  pub unanswered_rose : (sent given : List ℕ) (x : Exchange) (before dialed now : StationView) → before.faults ≤ dialed.faults
+      → before.overruns ≤ dialed.overruns → x.sent ≡ sent → x.given ≡ given → IsUnanswered x
+      → Serves table ran sent dialed now given → station_rose before now ≡ true
   unanswered_rose sent given x before dialed now faults overruns is_sent is_given none (inl is) =
       let answers = is.asked.answers in
-      let own : BeginsReply (reply_text is.o) (length (reply_text is.o)) is.o = subst (λ t. BeginsReply t (length (reply_text is.o)) is.o) (append-nil (reply_text is.o)) (replies.written_again is.o [] answers.fits answers.small) in
-      absurd (none.short.no_value (length (reply_text is.o)) is.o (subst (λ t. BeginsReply t (length (reply_text is.o)) is.o) (sym (is_given ∙ is.text)) own))
+      let own : BeginsReply (reply_text is.o) (length (reply_text is.o)) is.o =
+      subst (λ t. BeginsReply t (length (reply_text is.o)) is.o) (append-nil (reply_text is.o))
+      (replies.written_again is.o [] answers.fits answers.small) in
+      absurd (none.short.no_value (length (reply_text is.o)) is.o
+      (subst (λ t. BeginsReply t (length (reply_text is.o)) is.o) (sym (is_given ∙ is.text)) own))
   unanswered_rose sent given x before dialed now faults overruns is_sent is_given none (inr (nothing, inl no_request)) =
       absurd (no_request none.used none.q (subst (λ t. BeginsRequest t none.used none.q) is_sent none.asked))
   unanswered_rose sent given x before dialed now faults overruns is_sent is_given none (inr (nothing, inr (inl rose))) =
@@ -93,7 +114,8 @@ module _ (table : List Compiler) (ran : List Word → List ℕ → Ran → Type 
       test_by_rose before now (inr (later-RoseBy 1 before.overruns dialed.overruns now.overruns overruns rose))
 
 -- a link that closes at its first receive, and has ended: its service saw all that was sent
-pub all_seen : (served closes ended : Bool) (seen at : ℕ) (sent reply : List ℕ) → closes ≡ true → ended ≡ true → BeginsEmpty served ended at reply → SeesAll closes served seen sent → take seen sent ≡ sent
+pub all_seen : (served closes ended : Bool) (seen at : ℕ) (sent reply : List ℕ) → closes ≡ true → ended ≡ true
+    → BeginsEmpty served ended at reply → SeesAll closes served seen sent → take seen sent ≡ sent
 all_seen true closes ended seen at sent reply closing end empty all = ap (λ k. take k sent) (all closing refl) ∙ take-length sent
 all_seen false closes ended seen at sent reply closing end empty all = absurd (cc ((empty refl).0, end))
 

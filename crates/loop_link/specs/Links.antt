@@ -65,7 +65,8 @@ abbrev pub after_send : {E : Type 0} → LoopState → List ℕ → Result ℕ E
 after_send link piece result = record link { sent = link.sent ++ moved result piece }
 
 -- The service runs at the first receive, on what was sent before it, and never again.
-pub record IsServed (table : List Compiler) (ran : List Word → List ℕ → Ran → Type 0) (before after : StationView) (old new : LoopState) : Type 0 where
+pub record IsServed (table : List Compiler) (ran : List Word → List ℕ → Ran → Type 0) (before after : StationView)
+    (old new : LoopState) : Type 0 where
   pub done : new.served ≡ true
   pub serves : old.served ≡ false → Serves table ran old.sent before after new.reply
   pub seen : old.served ≡ false → new.seen ≡ length old.sent
@@ -75,18 +76,21 @@ pub record IsServed (table : List Compiler) (ran : List Word → List ℕ → Ra
 
 -- What a link holds after its dial, at which the station stood at the first of these: the station's counts haven't fallen, and
 -- where the service ran, the reply is what it gave for the bytes that it saw.
-pub record Holds (table : List Compiler) (ran : List Word → List ℕ → Ran → Type 0) (dialed now : StationView) (link : LoopState) : Type 0 where
+pub record Holds (table : List Compiler) (ran : List Word → List ℕ → Ran → Type 0) (dialed now : StationView)
+    (link : LoopState) : Type 0 where
   pub faults : dialed.faults ≤ now.faults
   pub overruns : dialed.overruns ≤ now.overruns
   pub serves : link.served ≡ true → Serves table ran (take link.seen link.sent) dialed now link.reply
 
 -- the same of a link, by what its stations show and may leave
 abbrev pub LinkHolds : {S : Type 0} → (S → StationView) → (S → List Word → List ℕ → Ran → Type 0) → LoopLink S → Type 0
-LinkHolds shows ran link = Holds link.held.table.rows (ran link.held.station) (shows link.dialed.value) (shows link.held.station) (loop_state link)
+LinkHolds shows ran link = Holds link.held.table.rows (ran link.held.station) (shows link.dialed.value) (shows link.held.station)
+    (loop_state link)
 
 -- The first became the second, by calls of it: it is to the same host, over the same table and a station with the same
 -- programs, dialed where the station stood the same, and it holds a reply where the first did.
-pub record LoopFollows {S : Type 0} (shows : S → StationView) (ran : S → List Word → List ℕ → Ran → Type 0) (a b : LoopLink S) : Type 0 where
+pub record LoopFollows {S : Type 0} (shows : S → StationView) (ran : S → List Word → List ℕ → Ran → Type 0)
+    (a b : LoopLink S) : Type 0 where
   pub host : b.host ≡ a.host
   pub port : b.port ≡ a.port
   pub closes : b.closes ≡ a.closes

@@ -8,14 +8,17 @@ use Rattle.loop_link.specs.declared.link.LoopLink.{LoopLink}
 use Rattle.loop_link.specs.Links.{LinkHolds, LoopFollows}
 
 -- after the one dial, a link that closes at its first receive, dialed where the station's counts had not fallen
-pub record ComesOnce {S : Type 0} (shows : S → StationView) (ran : S → List Word → List ℕ → Ran → Type 0) (before : StationView) (dialed : Bool) (link : LoopLink S) : Type 0 where
+pub record ComesOnce {S : Type 0} (shows : S → StationView) (ran : S → List Word → List ℕ → Ran → Type 0) (before : StationView)
+    (dialed : Bool) (link : LoopLink S) : Type 0 where
   pub holds : LinkHolds shows ran link
   pub closes : link.closes ≡ true
   pub once : dialed ≡ true
   pub faults : before.faults ≤ (shows link.dialed.value).faults
   pub overruns : before.overruns ≤ (shows link.dialed.value).overruns
 
-pub comes_stays : {S : Type 0} (shows : S → StationView) (ran : S → List Word → List ℕ → Ran → Type 0) (before : StationView) (dialed : Bool) (a b : LoopLink S) → ComesOnce shows ran before dialed a → LoopFollows shows ran a b → ComesOnce shows ran before dialed b
+pub comes_stays : {S : Type 0} (shows : S → StationView) (ran : S → List Word → List ℕ → Ran → Type 0) (before : StationView)
+    (dialed : Bool) (a b : LoopLink S) → ComesOnce shows ran before dialed a → LoopFollows shows ran a b
+    → ComesOnce shows ran before dialed b
 comes_stays shows ran before dialed a b came f = record {
   holds = f.holds came.holds;
   closes = f.closes ∙ came.closes;

@@ -1,5 +1,6 @@
 -- Rows with one spelling are one row, so that at most one row fits a word.
-use Rattle.std.proofs.Common.{◌≡◌, ℕ, zero, suc, ◌<◌, ◌≤◌, Bool, true, false, ◌&&◌, ◌||◌, not, leb, List, [], ◌∷◌, ◌++◌, length, take, drop, get_or, Option, Some, None, refl, sym, ◌∙◌, ap, ◌⊎◌, inl, inr, arith}
+use Rattle.std.proofs.Common.{◌≡◌, ℕ, zero, suc, ◌<◌, ◌≤◌, Bool, true, false, ◌&&◌, ◌||◌, not, leb, List, [], ◌∷◌, ◌++◌, length, take}
+use Rattle.std.proofs.Common.{drop, get_or, Option, Some, None, refl, sym, ◌∙◌, ap, ◌⊎◌, inl, inr, arith}
 use Rattle.std.specs.Option.{option_or}
 use Rattle.std.proofs.lemmas.Grind.{common_steps}
 use Rattle.std.specs.Prelude.{bytes_eq, IsNone}
@@ -20,12 +21,14 @@ use Rattle.option_table.proofs.Positions.{fails_by, position_passes, position_fa
 abbrev nowhere : OptionRow
 nowhere = row [] form.None effect.Keep
 
-later_differs : (r : OptionRow) (rows : List OptionRow) (j : ℕ) → not (list_any (λ other. bytes_eq r.spelling other.spelling) rows) ≡ true → j < length rows → bytes_eq r.spelling (get_or rows j nowhere).spelling ≡ true → ⊥
+later_differs : (r : OptionRow) (rows : List OptionRow) (j : ℕ) → not (list_any (λ other. bytes_eq r.spelling other.spelling) rows)
+    ≡ true → j < length rows → bytes_eq r.spelling (get_or rows j nowhere).spelling ≡ true → ⊥
 later_differs r rows j apart within same =
     false≢true (sym (ap not (list_any_at (λ other. bytes_eq r.spelling other.spelling) rows j nowhere within same)) ∙ apart)
 
 -- two places whose rows have one spelling are one place
-pub same_place : (rows : List OptionRow) (i j : ℕ) → are_distinct rows ≡ true → i < length rows → j < length rows → (row_at rows i).spelling ≡ (row_at rows j).spelling → i ≡ j
+pub same_place : (rows : List OptionRow) (i j : ℕ) → are_distinct rows ≡ true → i < length rows → j < length rows
+    → (row_at rows i).spelling ≡ (row_at rows j).spelling → i ≡ j
 same_place [] i j distinct a b same = absurd (omega arith)
 same_place (r ∷ rows) zero zero distinct a b same = refl
 same_place (r ∷ rows) zero (suc j) distinct a b same =
@@ -40,8 +43,20 @@ pub distinct_from : (rows : List OptionRow) → AreApart rows → are_distinct r
 distinct_from [] apart = refl
 distinct_from (r ∷ rows) apart =
     and_from _ _
-    (ap not (list_any_none _ rows (All-from_get_or (λ other. bytes_eq r.spelling other.spelling ≡ false) rows nowhere (λ k within. fails_by _ (λ same. apart zero (suc k) record { before = omega arith; within = omega arith; alike = (bytes_eq-Decides _ _).0 same })))))
-    (distinct_from rows (λ i j alike. apart (suc i) (suc j) record { before = omega (arith, alike.before); within = omega (arith, alike.within); alike = alike.alike }))
+    (ap not (list_any_none _ rows
+    (All-from_get_or (λ other. bytes_eq r.spelling other.spelling ≡ false) rows nowhere
+    (λ k within. fails_by _ (λ same. apart zero (suc k) record {
+      before = omega arith;
+      within = omega arith;
+      alike =
+          (bytes_eq-Decides _ _).0 same;
+    })))))
+    (distinct_from rows (λ i j alike. apart (suc i) (suc j) record {
+      before = omega (arith, alike.before);
+      within =
+          omega (arith, alike.within);
+      alike = alike.alike;
+    }))
 
 -- the spelling of a row that equals the word
 pub equal_spelt : (word : List ℕ) (r : OptionRow) → fits_equal word r ≡ true → r.spelling ≡ word
@@ -52,7 +67,8 @@ pub begin_spelt : (word : List ℕ) (r : OptionRow) → fits_begin word r ≡ tr
 begin_spelt word r h = (starts_is Decides-eqb word r.spelling _ refl).0 (and_parts _ _ h).1
 
 -- places of rows that equal the word
-equals_once : (rows : List OptionRow) (word : List ℕ) (i j : ℕ) → are_distinct rows ≡ true → i < length rows → j < length rows → fits_equal word (row_at rows i) ≡ true → fits_equal word (row_at rows j) ≡ true → i ≡ j
+equals_once : (rows : List OptionRow) (word : List ℕ) (i j : ℕ) → are_distinct rows ≡ true → i < length rows → j < length rows
+    → fits_equal word (row_at rows i) ≡ true → fits_equal word (row_at rows j) ≡ true → i ≡ j
 equals_once rows word i j distinct a b at_i at_j =
     same_place rows i j distinct a b (equal_spelt word (row_at rows i) at_i ∙ sym (equal_spelt word (row_at rows j) at_j))
 
@@ -64,18 +80,22 @@ same_begin word a b rest more is also same =
     take_front : (x y : List ℕ) → take (length x) (x ++ y) ≡ x
     take_front x y = grind (arith, common_steps)
 
-longest_le : (rows : List OptionRow) (word : List ℕ) (i j : ℕ) → i < length rows → fits_begin word (row_at rows i) ≡ true → fits_longest rows word (row_at rows j) ≡ true → length (row_at rows i).spelling ≤ length (row_at rows j).spelling
+longest_le : (rows : List OptionRow) (word : List ℕ) (i j : ℕ) → i < length rows → fits_begin word (row_at rows i) ≡ true
+    → fits_longest rows word (row_at rows j) ≡ true → length (row_at rows i).spelling ≤ length (row_at rows j).spelling
 longest_le rows word i j within begins longest =
     elim (leb_tells (length (row_at rows i).spelling) (length (row_at rows j).spelling)) [
       | inl h ↦ h.1
-      | inr h ↦ absurd (false≢true (sym (list_all_at (λ other. not (fits_begin word other) || leb (length other.spelling) (length (row_at rows j).spelling)) rows i nowhere within (neither _ _ begins h.0)) ∙ (and_parts _ _ longest).1))
+      | inr h ↦ absurd (false≢true
+          (sym (list_all_at (λ other. not (fits_begin word other) || leb (length other.spelling) (length (row_at rows j).spelling))
+          rows i nowhere within (neither _ _ begins h.0)) ∙ (and_parts _ _ longest).1))
     ]
   where
     neither : (a b : Bool) → a ≡ true → b ≡ false → (not a || b) ≡ false
     neither a b h k = cc
 
 -- places of rows with the longest spelling that the word begins with
-longest_once : (rows : List OptionRow) (word : List ℕ) (i j : ℕ) → are_distinct rows ≡ true → i < length rows → j < length rows → fits_longest rows word (row_at rows i) ≡ true → fits_longest rows word (row_at rows j) ≡ true → i ≡ j
+longest_once : (rows : List OptionRow) (word : List ℕ) (i j : ℕ) → are_distinct rows ≡ true → i < length rows → j < length rows
+    → fits_longest rows word (row_at rows i) ≡ true → fits_longest rows word (row_at rows j) ≡ true → i ≡ j
 longest_once rows word i j distinct a b at_i at_j =
     let begins_i = (and_parts _ _ at_i).0 in
     let begins_j = (and_parts _ _ at_j).0 in
@@ -90,7 +110,8 @@ either true any longest h = inl refl
 either false true longest h = cc
 either false false longest h = inr (refl, h)
 
-either_at : (rows : List OptionRow) (word : List ℕ) (at : ℕ) → FitsAt rows word at → (fits_equal word (row_at rows at) ≡ true) ⊎ ((list_any (fits_equal word) rows ≡ false) × (fits_longest rows word (row_at rows at) ≡ true))
+either_at : (rows : List OptionRow) (word : List ℕ) (at : ℕ) → FitsAt rows word at → (fits_equal word (row_at rows at) ≡ true)
+    ⊎ ((list_any (fits_equal word) rows ≡ false) × (fits_longest rows word (row_at rows at) ≡ true))
 either_at rows word at h = either _ _ _ h.fits
 
 first : (equal rest : Bool) → equal ≡ true → (equal || rest) ≡ true
@@ -107,11 +128,13 @@ not_right : (a b : Bool) → b ≡ true → not (a || b) ≡ false
 not_right true b h = refl
 not_right false b h = cc
 
-any_equals : (rows : List OptionRow) (word : List ℕ) (i : ℕ) → i < length rows → fits_equal word (row_at rows i) ≡ true → list_any (fits_equal word) rows ≡ false → ⊥
+any_equals : (rows : List OptionRow) (word : List ℕ) (i : ℕ) → i < length rows → fits_equal word (row_at rows i) ≡ true
+    → list_any (fits_equal word) rows ≡ false → ⊥
 any_equals rows word i within equal none = false≢true (sym none ∙ list_any_at _ rows i nowhere within equal)
 
 -- at most one row fits
-pub fits_once : (rows : List OptionRow) (word : List ℕ) (i j : ℕ) → are_distinct rows ≡ true → FitsAt rows word i → FitsAt rows word j → i ≡ j
+pub fits_once : (rows : List OptionRow) (word : List ℕ) (i j : ℕ) → are_distinct rows ≡ true → FitsAt rows word i
+    → FitsAt rows word j → i ≡ j
 fits_once rows word i j distinct at_i at_j =
     elim (either_at rows word i at_i) [
       | inl x ↦ elim (either_at rows word j at_j) [
@@ -133,10 +156,13 @@ place_fits rows word at h = by_equal (position (fits_equal word) rows) refl h
         let passes = position_passes (fits_longest rows word) rows at nowhere some in
         record {
           within = passes.0;
-          fits = second _ _ _ (list_any_none _ rows (All-from_get_or (λ r. fits_equal word r ≡ false) rows nowhere (λ k within. position_fails _ rows k nowhere none within))) passes.1;
+          fits = second _ _ _ (list_any_none _ rows
+              (All-from_get_or (λ r. fits_equal word r ≡ false) rows nowhere
+              (λ k within. position_fails _ rows k nowhere none within))) passes.1;
         }
 
-    by_equal : (equal : Option ℕ) → position (fits_equal word) rows ≡ equal → option_or equal (position (fits_longest rows word) rows) ≡ Some at → FitsAt rows word at
+    by_equal : (equal : Option ℕ) → position (fits_equal word) rows ≡ equal
+        → option_or equal (position (fits_longest rows word) rows) ≡ Some at → FitsAt rows word at
     by_equal None is some = by_longest is some
     by_equal (Some k) is some =
         let passes = position_passes (fits_equal word) rows at nowhere (is ∙ some) in
@@ -146,7 +172,8 @@ place_fits rows word at h = by_equal (position (fits_equal word) rows) refl h
 pub none_fits : (rows : List OptionRow) (word : List ℕ) (at : ℕ) → place_of rows word ≡ None → FitsAt rows word at → ⊥
 none_fits rows word at h fits = by_equal (position (fits_equal word) rows) refl h
   where
-    by_equal : (equal : Option ℕ) → position (fits_equal word) rows ≡ equal → option_or equal (position (fits_longest rows word) rows) ≡ None → ⊥
+    by_equal : (equal : Option ℕ) → position (fits_equal word) rows ≡ equal
+        → option_or equal (position (fits_longest rows word) rows) ≡ None → ⊥
     by_equal (Some k) is none = cc
     by_equal None is none =
         elim (either_at rows word at fits) [
@@ -164,10 +191,15 @@ begin_is_in word r h = not_right _ _ h
 pub fits_some : (rows : List OptionRow) (word : List ℕ) (at : ℕ) → FitsAt rows word at → list_all (fits_not word) rows ≡ false
 fits_some rows word at fits =
     list_all_at (fits_not word) rows at nowhere fits.within
-    (elim (either_at rows word at fits) [ inl x ↦ equal_is_in word (row_at rows at) x | inr x ↦ begin_is_in word (row_at rows at) (and_parts _ _ x.1).0 ])
+    (elim (either_at rows word at fits) [
+      | inl x ↦ equal_is_in word (row_at rows at) x
+      | inr x ↦
+          begin_is_in word (row_at rows at) (and_parts _ _ x.1).0
+    ])
 
 -- the place that fits is the one that `place_of` answers
-pub place_found : (rows : List OptionRow) (word : List ℕ) (at : ℕ) → are_distinct rows ≡ true → FitsAt rows word at → place_of rows word ≡ Some at
+pub place_found : (rows : List OptionRow) (word : List ℕ) (at : ℕ) → are_distinct rows ≡ true → FitsAt rows word at
+    → place_of rows word ≡ Some at
 place_found rows word at distinct fits = by_place (place_of rows word) refl
   where
     by_place : (place : Option ℕ) → place_of rows word ≡ place → place ≡ Some at
@@ -183,23 +215,29 @@ none_found rows word fails = by_place (place_of rows word) refl
     by_place (Some k) is = absurd (fails k (place_fits rows word k is))
 
 -- a row that equals the word fits it
-pub equal_fits : (rows : List OptionRow) (word : List ℕ) (at : ℕ) → at < length rows → fits_equal word (row_at rows at) ≡ true → FitsAt rows word at
+pub equal_fits : (rows : List OptionRow) (word : List ℕ) (at : ℕ) → at < length rows → fits_equal word (row_at rows at) ≡ true
+    → FitsAt rows word at
 equal_fits rows word at within equal = record { within = within; fits = first _ _ equal }
 
 -- the longest row that the word begins with fits it, where none equals it
-pub longest_fits : (rows : List OptionRow) (word : List ℕ) (at : ℕ) → at < length rows → ((k : ℕ) → k < length rows → fits_equal word (row_at rows k) ≡ false) → fits_longest rows word (row_at rows at) ≡ true → FitsAt rows word at
+pub longest_fits : (rows : List OptionRow) (word : List ℕ) (at : ℕ) → at < length rows
+    → ((k : ℕ) → k < length rows → fits_equal word (row_at rows k) ≡ false) → fits_longest rows word (row_at rows at) ≡ true
+    → FitsAt rows word at
 longest_fits rows word at within none longest = record {
   within = within;
   fits = second _ _ _ (list_any_none _ rows (All-from_get_or (λ r. fits_equal word r ≡ false) rows nowhere none)) longest;
 }
 
 -- a row that fits equals the word, or the word begins with it
-pub fits_either : (rows : List OptionRow) (word : List ℕ) (at : ℕ) → FitsAt rows word at → (fits_equal word (row_at rows at) ≡ true) ⊎ (fits_begin word (row_at rows at) ≡ true)
+pub fits_either : (rows : List OptionRow) (word : List ℕ) (at : ℕ) → FitsAt rows word at → (fits_equal word (row_at rows at) ≡ true)
+    ⊎ (fits_begin word (row_at rows at) ≡ true)
 fits_either rows word at fits =
     elim (either_at rows word at fits) [ inl x ↦ inl x | inr x ↦ inr (and_parts _ _ x.1).0 ]
 
 -- rows that neither equal the word nor begin it don't fit it
-pub none_fit : (rows : List OptionRow) (word : List ℕ) → ((k : ℕ) → k < length rows → (fits_equal word (row_at rows k) ≡ false) × (fits_begin word (row_at rows k) ≡ false)) → list_all (fits_not word) rows ≡ true
+pub none_fit : (rows : List OptionRow) (word : List ℕ)
+    → ((k : ℕ) → k < length rows → (fits_equal word (row_at rows k) ≡ false) × (fits_begin word (row_at rows k) ≡ false))
+    → list_all (fits_not word) rows ≡ true
 none_fit rows word none =
     list_all-from_AllPass _ rows
     (All-from_get_or (λ r. fits_not word r ≡ true) rows nowhere (λ k within. neither _ _ (none k within).0 (none k within).1))
@@ -208,11 +246,14 @@ none_fit rows word none =
     neither a b h k = cc
 
 -- whether a place was found tells whether a row fits
-pub none_iff : (rows : List OptionRow) (word : List ℕ) (place : Option ℕ) → place ≡ place_of rows word → (IsNone place → list_all (fits_not word) rows ≡ true) → (IsNone place → list_all (fits_not word) rows ≡ true) × (list_all (fits_not word) rows ≡ true → IsNone place)
+pub none_iff : (rows : List OptionRow) (word : List ℕ) (place : Option ℕ) → place ≡ place_of rows word
+    → (IsNone place → list_all (fits_not word) rows ≡ true) → (IsNone place → list_all (fits_not word) rows ≡ true)
+    × (list_all (fits_not word) rows ≡ true → IsNone place)
 none_iff rows word (Some k) h none =
     (none, λ all. absurd (false≢true (sym (fits_some rows word k (place_fits rows word k (sym h))) ∙ all)))
 none_iff rows word None h none = (none, λ _. refl)
 
 -- the place that was found is the only one that fits
-pub only_place : (rows : List OptionRow) (word : List ℕ) (at i : ℕ) → are_distinct rows ≡ true → Some at ≡ place_of rows word → FitsAt rows word i → at ≡ i
+pub only_place : (rows : List OptionRow) (word : List ℕ) (at i : ℕ) → are_distinct rows ≡ true → Some at ≡ place_of rows word
+    → FitsAt rows word i → at ≡ i
 only_place rows word at i distinct h fits = fits_once rows word at i distinct (place_fits rows word at (sym h)) fits

@@ -18,14 +18,21 @@ use Rattle.option_table.proofs.Searching.{long_at}
 pub table_has_none : (rows : List OptionRow) (fault : TableFault) → is_table rows ≡ true → TableFaultStands rows fault → ⊥
 table_has_none rows (Doubled first second) table stands =
     let alike = stands.alike in
-    omega (arith, alike.before, same_place rows first second (and_parts _ _ table).0 (omega (arith, alike.before, alike.within)) alike.within alike.alike)
+    omega (
+      arith,
+      alike.before,
+      same_place rows first second (and_parts _ _ table).0 (omega (arith, alike.before, alike.within))
+          alike.within alike.alike,
+    )
 table_has_none rows (Short at) table stands = omega (arith, stands.short, long_at rows at table stands.within)
 
 -- rows that are apart and long make a table
-pub table_from : (rows : List OptionRow) → AreApart rows → ((k : ℕ) → k < length rows → 2 ≤ length (row_at rows k).spelling) → is_table rows ≡ true
+pub table_from : (rows : List OptionRow) → AreApart rows → ((k : ℕ) → k < length rows → 2 ≤ length (row_at rows k).spelling)
+    → is_table rows ≡ true
 table_from rows apart long =
     and_from _ _ (distinct_from rows apart)
-    (list_all-from_AllPass _ rows (All-from_get_or (λ r. is_long r ≡ true) rows (row [] form.None effect.Keep) (λ k within. le_is _ (long k within))))
+    (list_all-from_AllPass _ rows
+    (All-from_get_or (λ r. is_long r ≡ true) rows (row [] form.None effect.Keep) (λ k within. le_is _ (long k within))))
   where
     le_is : (n : ℕ) → 2 ≤ n → leb 2 n ≡ true
     le_is n h = grind (arith, nat_tests)
@@ -33,7 +40,16 @@ table_from rows apart long =
 -- of two rows alike with a third, the later two are alike
 first_once : (rows : List OptionRow) (i j second : ℕ) → AreFirstAlike rows i second → AreAlike rows j second → i < j → ⊥
 first_once rows i j second a b less =
-    omega (arith, a.least i j record { before = less; within = omega (arith, b.before, b.within); alike = a.alike.alike ∙ sym b.alike }, b.before)
+    omega (
+      arith,
+      a.least i j record {
+        before = less;
+        within = omega (arith, b.before, b.within);
+        alike =
+            a.alike.alike ∙ sym b.alike;
+      },
+      b.before,
+    )
 
 -- of two numbers of which neither is less
 neither_less : (m n : ℕ) → (m < n → ⊥) → (n < m → ⊥) → m ≡ n

@@ -18,22 +18,26 @@ none_when n m same = grind (arith, nat_tests)
 chosen_is : (n m at : ℕ) → cond (ltb n m) (Some n) None ≡ Some at → (n ≡ at) × (at < m)
 chosen_is n m at h = (grind (arith, nat_tests), grind (arith, nat_tests))
 
-pub position_is : {X : Type 0} (p : X → Bool) (xs : List X) (at : ℕ) (d : X) → at < length xs → ((k : ℕ) → k < at → p (get_or xs k d) ≡ false) → p (get_or xs at d) ≡ true → position p xs ≡ Some at
+pub position_is : {X : Type 0} (p : X → Bool) (xs : List X) (at : ℕ) (d : X) → at < length xs
+    → ((k : ℕ) → k < at → p (get_or xs k d) ≡ false) → p (get_or xs at d) ≡ true → position p xs ≡ Some at
 position_is p xs at d within before here =
     chosen_when _ _ at (position_or_len_is p xs at d (omega arith) before (λ _. here)) within
 
-pub position_none : {X : Type 0} (p : X → Bool) (xs : List X) (d : X) → ((k : ℕ) → k < length xs → p (get_or xs k d) ≡ false) → position p xs ≡ None
+pub position_none : {X : Type 0} (p : X → Bool) (xs : List X) (d : X) → ((k : ℕ) → k < length xs → p (get_or xs k d) ≡ false)
+    → position p xs ≡ None
 position_none p xs d fails = none_when _ _ (position_or_len_is p xs (length xs) d (omega arith) fails (λ h. absurd (omega arith)))
 
 -- the place that was found is within the list, and its element passes
-pub position_passes : {X : Type 0} (p : X → Bool) (xs : List X) (at : ℕ) (d : X) → position p xs ≡ Some at → (at < length xs) × (p (get_or xs at d) ≡ true)
+pub position_passes : {X : Type 0} (p : X → Bool) (xs : List X) (at : ℕ) (d : X) → position p xs ≡ Some at
+    → (at < length xs) × (p (get_or xs at d) ≡ true)
 position_passes p xs at d h =
     let is = chosen_is (position_or_len p xs) (length xs) at h in
     let inside : position_or_len p xs < length xs = omega arith in
     (is.1, ap (λ k. p (get_or xs k d)) (sym is.0) ∙ passes_at_first p xs d inside)
 
 -- where no place was found no element passes
-pub position_fails : {X : Type 0} (p : X → Bool) (xs : List X) (k : ℕ) (d : X) → position p xs ≡ None → k < length xs → p (get_or xs k d) ≡ false
+pub position_fails : {X : Type 0} (p : X → Bool) (xs : List X) (k : ℕ) (d : X) → position p xs ≡ None → k < length xs
+    → p (get_or xs k d) ≡ false
 position_fails p xs k d h within = fails_before_first p xs k d (none_is _ _ k h within)
   where
     none_is : (n m k : ℕ) → cond (ltb n m) (Some n) None ≡ None → k < m → k < n

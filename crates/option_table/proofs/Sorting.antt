@@ -1,5 +1,6 @@
 -- Places sorted by the second byte and then by the spelling, and where a byte's span starts.
-use Rattle.std.proofs.Common.{◌≡◌, ℕ, ◌+◌, ◌-◌, ◌<◌, ◌≤◌, Bool, true, false, ltb, nat_eq, List, ◌∷◌, length, take, drop, get_or, slice_index, slice_set, refl, sym, subst, ◌∙◌, ap, arith}
+use Rattle.std.proofs.Common.{◌≡◌, ℕ, ◌+◌, ◌-◌, ◌<◌, ◌≤◌, Bool, true, false, ltb, nat_eq, List, ◌∷◌, length, take, drop, get_or}
+use Rattle.std.proofs.Common.{slice_index, slice_set, refl, sym, subst, ◌∙◌, ap, arith}
 use Rattle.std.specs.declared.cmp.Ordering.{Ordering}
 use Rattle.std.specs.declared.cmp.Ordering.TheVariants.{Less}
 use Rattle.std.specs.Cmp.{IsStrictWeakOrder}
@@ -42,25 +43,34 @@ not_above a b h = by_test (ltb a b) refl
 sorted_letters : (rows : List OptionRow) (places : List ℕ) → IsSortedBy (comes_before rows) places → AreSorted rows places
 sorted_letters rows places up = λ i j d before within.
     not_above (letter_at rows (get_or places j d)) (letter_at rows (get_or places i d))
-    (λ less. false≢true (sym (sorted_far (comes_before rows) (ranks_by nat_list_cmp_total (sort_key rows)) places up i j d before within) ∙ first_less _ _ (spelling_at rows (get_or places j d)) (spelling_at rows (get_or places i d)) less))
+    (λ less. false≢true (sym (sorted_far (comes_before rows) (ranks_by nat_list_cmp_total (sort_key rows)) places up i j d before
+    within) ∙ first_less _ _ (spelling_at rows (get_or places j d)) (spelling_at rows (get_or places i d)) less))
 
 -- the same of a sort by a closure that compares the keys
-pub sorted_by_keys : (rows : List OptionRow) {F : Type 0} {g : Mut F (Bor ℕ × (Bor ℕ × Unit {0})) Ordering} {f : F} (places : List ℕ) → ((lt : ℕ → ℕ → Bool) → IsStrictWeakOrder lt → ComparesAs g lt f → IsSortedBy lt places) → ((a : Bor ℕ × (Bor ℕ × Unit {0})) (r : Ordering) (f' : F) → Called g f a r f' → (r ≡ slice_cmp nat_cmp (sort_key rows a.0.now) (sort_key rows a.1.0.now)) × (f' ≡ f)) → AreSorted rows places
+pub sorted_by_keys : (rows : List OptionRow) {F : Type 0} {g : Mut F (Bor ℕ × (Bor ℕ × Unit {0})) Ordering} {f : F}
+    (places : List ℕ) → ((lt : ℕ → ℕ → Bool) → IsStrictWeakOrder lt → ComparesAs g lt f → IsSortedBy lt places)
+    → ((a : Bor ℕ × (Bor ℕ × Unit {0})) (r : Ordering) (f' : F) → Called g f a r f'
+    → (r ≡ slice_cmp nat_cmp (sort_key rows a.0.now) (sort_key rows a.1.0.now)) × (f' ≡ f)) → AreSorted rows places
 sorted_by_keys rows {g = g} {f = f} places up h =
     sorted_letters rows places
     (up (comes_before rows) (ranks_by nat_list_cmp_total (sort_key rows))
-    (always_returns_same g (λ a r. is_lt r ≡ comes_before rows a.0.now a.1.0.now) f (λ a r f' k. (ap is_lt (h a r f' k).0, (h a r f' k).1))))
+    (always_returns_same g (λ a r. is_lt r ≡ comes_before rows a.0.now a.1.0.now) f
+    (λ a r f' k. (ap is_lt (h a r f' k).0, (h a r f' k).1))))
 
 -- each place is among the places that were listed, in whatever order
-pub all_places : (rows : List OptionRow) (listed places : List ℕ) → length listed ≡ length rows → ((k : ℕ) → k < length rows → slice_index listed k ≡ k) → IsPermutation listed places → AreAllPlaces rows places
+pub all_places : (rows : List OptionRow) (listed places : List ℕ) → length listed ≡ length rows
+    → ((k : ℕ) → k < length rows → slice_index listed k ≡ k) → IsPermutation listed places → AreAllPlaces rows places
 all_places rows listed places same each moved = λ place within.
-    contained places place (Contains-permutation listed places place moved (place, omega arith, get_or_default listed place place 0 (omega arith) ∙ each place within))
+    contained places place (Contains-permutation listed places place moved
+    (place, omega arith, get_or_default listed place place 0 (omega arith) ∙ each place within))
   where
     contained : (xs : List ℕ) (x : ℕ) → Contains xs x → list_any (nat_eq x) xs ≡ true
     contained xs x h = list_any_at (nat_eq x) xs h.0 x h.1 ((Decides-eqb x _).1 (sym h.2))
 
 -- the point between the lesser second bytes and the others
-pub starts_at : (rows : List OptionRow) (places : List ℕ) (letter start : ℕ) → start ≤ length places → IsPartitionPoint (λ place. ltb (letter_at rows place) letter ≡ true) (λ place. ltb (letter_at rows place) letter ≡ false) places start → IsStart rows places letter start
+pub starts_at : (rows : List OptionRow) (places : List ℕ) (letter start : ℕ) → start ≤ length places
+    → IsPartitionPoint (λ place. ltb (letter_at rows place) letter ≡ true) (λ place. ltb (letter_at rows place) letter ≡ false)
+    places start → IsStart rows places letter start
 starts_at rows places letter start within parted = record {
   within = within;
   before = λ k h. is_below _ _ (parted.0 k 0 (omega arith) h);
@@ -74,30 +84,39 @@ starts_at rows places letter start within parted = record {
     is_above a b h = grind (arith, nat_tests)
 
 -- one start more
-pub more_starts : (rows : List OptionRow) (places starts : List ℕ) (letter start : ℕ) → letter < 257 → (length starts ≡ 257) × ((k : ℕ) → k < letter → IsStart rows places k (slice_index starts k)) → IsStart rows places letter start → (length (slice_set starts letter start) ≡ 257) × ((k : ℕ) → k < letter + 1 → IsStart rows places k (slice_index (slice_set starts letter start) k))
+pub more_starts : (rows : List OptionRow) (places starts : List ℕ) (letter start : ℕ) → letter < 257
+    → (length starts ≡ 257) × ((k : ℕ) → k < letter → IsStart rows places k (slice_index starts k))
+    → IsStart rows places letter start → (length (slice_set starts letter start) ≡ 257)
+    × ((k : ℕ) → k < letter + 1 → IsStart rows places k (slice_index (slice_set starts letter start) k))
 more_starts rows places starts letter start within (len, before) here =
     (length-set starts letter start ∙ len, λ k below. by_place k below (ltb k letter) refl)
   where
-    by_place : (k : ℕ) → k < letter + 1 → (t : Bool) → ltb k letter ≡ t → IsStart rows places k (slice_index (slice_set starts letter start) k)
+    by_place : (k : ℕ) → k < letter + 1 → (t : Bool) → ltb k letter ≡ t
+        → IsStart rows places k (slice_index (slice_set starts letter start) k)
     by_place k below true is =
         let lower : k < letter = grind (arith, nat_tests) in
         subst (λ n. IsStart rows places k n) (sym (get_or-set_other starts letter k start 0 (omega arith))) (before k lower)
     by_place k below false is =
         let same : k ≡ letter = grind (arith, nat_tests) in
-        subst (λ n. IsStart rows places k n) (sym (get_or-set_at starts letter k start 0 same (omega arith))) (subst (λ n. IsStart rows places n start) (sym same) here)
+        subst (λ n. IsStart rows places k n) (sym (get_or-set_at starts letter k start 0 same (omega arith)))
+        (subst (λ n. IsStart rows places n start) (sym same) here)
 
 part_at : (xs : List ℕ) (s e k : ℕ) → s ≤ k → k < e → slice_index (take (e - s) (drop s xs)) (k - s) ≡ slice_index xs k
 part_at xs s e k from below = grind (arith, common_steps)
 
 -- the places from one start to the next are those of that second byte
-pub span_covers : (rows : List OptionRow) (places starts : List ℕ) (letter : ℕ) → letter < 256 → IsIndexed rows places starts → IsSpan rows letter (take (slice_index starts (letter + 1) - slice_index starts letter) (drop (slice_index starts letter) places))
+pub span_covers : (rows : List OptionRow) (places starts : List ℕ) (letter : ℕ) → letter < 256 → IsIndexed rows places starts
+    → IsSpan rows letter (take (slice_index starts (letter + 1) - slice_index starts letter) (drop (slice_index starts letter) places))
 span_covers rows places starts letter byte indexed = λ place within same.
     let h = Contains-from_any {eq = nat_eq} (λ x y e. (Decides-eqb x y).0 e) place places (indexed.all place within) in
     let read : slice_index places h.0 ≡ place = get_or_default places h.0 0 place h.1 ∙ h.2 in
     let lower = indexed.spans letter (omega arith) in
     let upper = indexed.spans (letter + 1) (omega arith) in
-    let from : slice_index starts letter ≤ h.0 = not_above h.0 (slice_index starts letter) (λ less. omega (arith, lower.before h.0 less, ap (letter_at rows) read ∙ same)) in
-    let below : h.0 < slice_index starts (letter + 1) = not_from h.0 (slice_index starts (letter + 1)) (λ after. omega (arith, upper.after h.0 after h.1, ap (letter_at rows) read ∙ same)) in
+    let from : slice_index starts letter ≤ h.0 =
+    not_above h.0 (slice_index starts letter) (λ less. omega (arith, lower.before h.0 less, ap (letter_at rows) read ∙ same)) in
+    let below : h.0 < slice_index starts (letter + 1) =
+    not_from h.0 (slice_index starts (letter + 1))
+    (λ after. omega (arith, upper.after h.0 after h.1, ap (letter_at rows) read ∙ same)) in
     in_part places place (slice_index starts letter) (slice_index starts (letter + 1)) h.0 from below h.1 read
   where
     not_from : (a b : ℕ) → (b ≤ a → ⊥) → a < b
@@ -107,7 +126,8 @@ span_covers rows places starts letter byte indexed = λ place within same.
         by_test true is = grind (arith, nat_tests)
         by_test false is = absurd (h (grind (arith, nat_tests)))
 
-    in_part : (xs : List ℕ) (x s e k : ℕ) → s ≤ k → k < e → k < length xs → slice_index xs k ≡ x → list_any (nat_eq x) (take (e - s) (drop s xs)) ≡ true
+    in_part : (xs : List ℕ) (x s e k : ℕ) → s ≤ k → k < e → k < length xs → slice_index xs k ≡ x
+        → list_any (nat_eq x) (take (e - s) (drop s xs)) ≡ true
     in_part xs x s e k from below within is =
         let part = take (e - s) (drop s xs) in
         let inside : k - s < length part = grind (arith, common_steps) in

@@ -9,7 +9,8 @@ use Rattle.reply_stream.specs.declared.answers.Part.TheVariants.{More, Whole, Ba
 use Rattle.reply_stream.specs.Objects.{with_object, spanned}
 use Rattle.reply_stream.specs.Reader.{Says, IsWholeWith, IsBadAt, IsMore}
 
-pub only_whole : (text object piece : List ℕ) (part : Part) → Says text object piece part → (used : ℕ) (o : Outcome) → BeginsReply (text ++ piece) used o → IsWholeWith object piece (used - length text) o part
+pub only_whole : (text object piece : List ℕ) (part : Part) → Says text object piece part → (used : ℕ) (o : Outcome)
+    → BeginsReply (text ++ piece) used o → IsWholeWith object piece (used - length text) o part
 only_whole text object piece (More n span) s used o b = s.no_value used o b
 only_whole text object piece (Whole n span p) s used o b =
     let z = one_value (text ++ piece) (length text + n) used (with_object p (object ++ spanned span piece)) o s b in
@@ -17,9 +18,11 @@ only_whole text object piece (Whole n span p) s used o b =
 only_whole text object piece (Bad at fault) s used o b = spelled_or_fault (text ++ piece) used at o fault b s
 only_whole text object piece Memory s used o b = tt
 
-pub only_bad : (text object piece : List ℕ) (part : Part) → Says text object piece part → (at : ℕ) (fault : ReplyFault) → ReplyFaultStands (text ++ piece) at fault → IsBadAt at fault part
+pub only_bad : (text object piece : List ℕ) (part : Part) → Says text object piece part → (at : ℕ) (fault : ReplyFault)
+    → ReplyFaultStands (text ++ piece) at fault → IsBadAt at fault part
 only_bad text object piece (More n span) s at fault t = s.no_fault at fault t
-only_bad text object piece (Whole n span p) s at fault t = spelled_or_fault (text ++ piece) (length text + n) at (with_object p (object ++ spanned span piece)) fault s t
+only_bad text object piece (Whole n span p) s at fault t =
+    spelled_or_fault (text ++ piece) (length text + n) at (with_object p (object ++ spanned span piece)) fault s t
 only_bad text object piece (Bad i f) s at fault t = one_fault (text ++ piece) i at f fault s t
 only_bad text object piece Memory s at fault t = tt
 

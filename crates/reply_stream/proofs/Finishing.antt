@@ -19,7 +19,8 @@ use Rattle.reply_stream.specs.declared.partial.Partial.{Partial}
 use Rattle.reply_stream.specs.Taking.{fields_of, bytes_of, due_in, IsPlaced, Counts, Holds, IsReady}
 
 -- what is due after the fields before a part
-due_before : (part : Part) (status : ℕ) (err out : List ℕ) → IsAtPart part status → reply_due (fields_before part status err out) ≡ Some (due_of part)
+due_before : (part : Part) (status : ℕ) (err out : List ℕ) → IsAtPart part status
+    → reply_due (fields_before part status err out) ≡ Some (due_of part)
 due_before Done status err out at = refl
 due_before Stat status err out at = refl
 due_before Serr status err out at = refl
@@ -41,11 +42,14 @@ holds_afresh p counts left given body token = record {
   });
 }
 
-pub placed_afresh : (p : Partial) (text object : List ℕ) (fields : List Field) → p.body ≡ [] → p.token ≡ [] → p.given ≡ 0 → object ≡ [] → fields ≡ fields_of p → Progress reply_format text fields [] → IsPlaced p text object
+pub placed_afresh : (p : Partial) (text object : List ℕ) (fields : List Field) → p.body ≡ [] → p.token ≡ [] → p.given ≡ 0
+    → object ≡ [] → fields ≡ fields_of p → Progress reply_format text fields [] → IsPlaced p text object
 placed_afresh p text object fields body token given none same g =
-    let bytes : [] ≡ bytes_of p ++ object = sym (ap (λ (x : List ℕ). (x ++ p.body) ++ object) token ∙ ap (λ (x : List ℕ). x ++ object) body ∙ none) in
+    let bytes : [] ≡ bytes_of p ++ object =
+    sym (ap (λ (x : List ℕ). (x ++ p.body) ++ object) token ∙ ap (λ (x : List ℕ). x ++ object) body ∙ none) in
     record {
-      progress = subst (λ (x : List Field × List ℕ). Progress reply_format text x.0 x.1) (ap (λ (x : List Field). (x, [])) same ∙ ap (λ (x : List ℕ). (fields_of p, x)) bytes) g;
+      progress = subst (λ (x : List Field × List ℕ). Progress reply_format text x.0 x.1)
+          (ap (λ (x : List Field). (x, [])) same ∙ ap (λ (x : List ℕ). (fields_of p, x)) bytes) g;
       given = ap length none ∙ sym given;
     }
 
@@ -53,7 +57,8 @@ abbrev pub done_field : ℕ → List ℕ → Field
 done_field n body = record { number = n; body = body }
 
 -- the field is one more
-pub field_done : (p : Partial) (n : ℕ) → IsReady p n → (text object : List ℕ) → IsPlaced p text object → Progress reply_format text (fields_of p ++ done_field n (p.body ++ object) ∷ []) []
+pub field_done : (p : Partial) (n : ℕ) → IsReady p n → (text object : List ℕ) → IsPlaced p text object
+    → Progress reply_format text (fields_of p ++ done_field n (p.body ++ object) ∷ []) []
 field_done p n r text object g =
     let due : Due ReplyFault = due_in p in
     let e : reply_due (fields_of p) ≡ Some due = due_is p r.counts in
@@ -67,7 +72,8 @@ field_done p n r text object g =
 at_part : (p : Partial) (n : ℕ) (part : Part) → p.part ≡ part → IsReady p n → IsReady (record p { part = part }) n
 at_part p n part e r = subst (λ (x : Part). IsReady (record p { part = x }) n) e r
 
-placed_at : (p : Partial) (part : Part) (text object : List ℕ) → p.part ≡ part → IsPlaced p text object → IsPlaced (record p { part = part }) text object
+placed_at : (p : Partial) (part : Part) (text object : List ℕ) → p.part ≡ part → IsPlaced p text object
+    → IsPlaced (record p { part = part }) text object
 placed_at p part text object e g = subst (λ (x : Part). IsPlaced (record p { part = x }) text object) e g
 
 -- what was not counted isn't there
@@ -77,14 +83,17 @@ none_given p text object given g = nil_from_length object (g.given ∙ given)
 -- a message that is whole
 whole_text : (n : ℕ) (body object : List ℕ) → n ≡ length body → object ≡ [] → done_field n (body ++ object) ≡ text_field body
 whole_text n body object len none =
-    ap (λ (x : List ℕ). done_field n (body ++ x)) none ∙ ap (λ (x : List ℕ). done_field n x) (append-nil body) ∙ ap (λ (k : ℕ). done_field k body) len
+    ap (λ (x : List ℕ). done_field n (body ++ x)) none ∙ ap (λ (x : List ℕ). done_field n x) (append-nil body)
+    ∙ ap (λ (k : ℕ). done_field k body) len
 
 -- a number that is whole
 whole_number : (n m : ℕ) (body object : List ℕ) → n ≡ m → body ≡ [] → object ≡ [] → done_field n (body ++ object) ≡ number_field m
 whole_number n m body object is bare none =
-    ap (λ (x : List ℕ). done_field n (body ++ x)) none ∙ ap (λ (x : List ℕ). done_field n (x ++ [])) bare ∙ ap (λ (k : ℕ). done_field k []) is
+    ap (λ (x : List ℕ). done_field n (body ++ x)) none ∙ ap (λ (x : List ℕ). done_field n (x ++ [])) bare
+    ∙ ap (λ (k : ℕ). done_field k []) is
 
-pub after_done : (old new : Partial) (n : ℕ) → old.part ≡ Done → IsReady old n → new.part ≡ Stat → new.err ≡ old.err → new.out ≡ old.out → new.left ≡ 0 → new.given ≡ old.given → new.body ≡ [] → new.token ≡ []
+pub after_done : (old new : Partial) (n : ℕ) → old.part ≡ Done → IsReady old n → new.part ≡ Stat → new.err ≡ old.err
+    → new.out ≡ old.out → new.left ≡ 0 → new.given ≡ old.given → new.body ≡ [] → new.token ≡ []
     → Holds new × ((text object : List ℕ) → IsPlaced old text object → IsPlaced new text object)
 after_done old new n is r part err out left given body token =
     let q = at_part old n Done is r in
@@ -100,12 +109,14 @@ after_done old new n is r part err out left given body token =
       λ text object g.
           let none = none_given old text object uncounted g in
           let fields : done_field n (old.body ++ object) ∷ [] ≡ fields_of new =
-          ap (λ (x : Field). x ∷ []) (whole_number n 1 old.body object one bare none) ∙ ap (λ (x : Part). fields_before x new.status new.err new.out) (sym part) in
+          ap (λ (x : Field). x ∷ []) (whole_number n 1 old.body object one bare none)
+          ∙ ap (λ (x : Part). fields_before x new.status new.err new.out) (sym part) in
           placed_afresh new text object (done_field n (old.body ++ object) ∷ []) body token (given ∙ uncounted) none fields
           (field_done (record old { part = Done }) n q text object (placed_at old Done text object is g)),
     )
 
-pub after_stat : (old new : Partial) (n : ℕ) → old.part ≡ Stat → IsReady old n → new.part ≡ Serr → new.status ≡ n → new.err ≡ old.err → new.out ≡ old.out → new.left ≡ 0 → new.given ≡ old.given → new.body ≡ [] → new.token ≡ []
+pub after_stat : (old new : Partial) (n : ℕ) → old.part ≡ Stat → IsReady old n → new.part ≡ Serr → new.status ≡ n
+    → new.err ≡ old.err → new.out ≡ old.out → new.left ≡ 0 → new.given ≡ old.given → new.body ≡ [] → new.token ≡ []
     → Holds new × ((text object : List ℕ) → IsPlaced old text object → IsPlaced new text object)
 after_stat old new n is r part status err out left given body token =
     let q = at_part old n Stat is r in
@@ -120,12 +131,14 @@ after_stat old new n is r part status err out left given body token =
       λ text object g.
           let none = none_given old text object uncounted g in
           let fields : number_field 1 ∷ done_field n (old.body ++ object) ∷ [] ≡ fields_of new =
-          ap (λ (x : Field). number_field 1 ∷ x ∷ []) (whole_number n new.status old.body object (sym status) bare none) ∙ ap (λ (x : Part). fields_before x new.status new.err new.out) (sym part) in
+          ap (λ (x : Field). number_field 1 ∷ x ∷ []) (whole_number n new.status old.body object (sym status) bare none)
+          ∙ ap (λ (x : Part). fields_before x new.status new.err new.out) (sym part) in
           placed_afresh new text object (number_field 1 ∷ done_field n (old.body ++ object) ∷ []) body token (given ∙ uncounted) none fields
           (field_done (record old { part = Stat }) n q text object (placed_at old Stat text object is g)),
     )
 
-pub after_serr : (old new : Partial) (n : ℕ) → old.part ≡ Serr → IsReady old n → new.part ≡ Sout → new.status ≡ old.status → new.err ≡ old.body → new.out ≡ old.out → new.left ≡ 0 → new.given ≡ old.given → new.body ≡ [] → new.token ≡ []
+pub after_serr : (old new : Partial) (n : ℕ) → old.part ≡ Serr → IsReady old n → new.part ≡ Sout → new.status ≡ old.status
+    → new.err ≡ old.body → new.out ≡ old.out → new.left ≡ 0 → new.given ≡ old.given → new.body ≡ [] → new.token ≡ []
     → Holds new × ((text object : List ℕ) → IsPlaced old text object → IsPlaced new text object)
 after_serr old new n is r part status err out left given body token =
     let q = at_part old n Serr is r in
@@ -145,11 +158,14 @@ after_serr old new n is r part status err out left given body token =
           ∙ ap (λ (x : List ℕ). number_field 1 ∷ number_field old.status ∷ text_field x ∷ []) (sym err)
           ∙ ap (λ (k : ℕ). number_field 1 ∷ number_field k ∷ text_field new.err ∷ []) (sym status)
           ∙ ap (λ (x : Part). fields_before x new.status new.err new.out) (sym part) in
-          placed_afresh new text object (number_field 1 ∷ number_field old.status ∷ done_field n (old.body ++ object) ∷ []) body token (given ∙ uncounted) none fields
+          placed_afresh new text object (number_field 1 ∷ number_field old.status ∷ done_field n (old.body ++ object) ∷ []) body
+          token (given ∙ uncounted) none fields
           (field_done (record old { part = Serr }) n q text object (placed_at old Serr text object is g)),
     )
 
-pub after_sout : (old new : Partial) (n : ℕ) → old.part ≡ Sout → IsReady old n → new.part ≡ Doto old.status → new.status ≡ old.status → new.err ≡ old.err → new.out ≡ old.body → new.left ≡ 0 → new.given ≡ old.given → new.body ≡ [] → new.token ≡ []
+pub after_sout : (old new : Partial) (n : ℕ) → old.part ≡ Sout → IsReady old n → new.part ≡ Doto old.status
+    → new.status ≡ old.status → new.err ≡ old.err → new.out ≡ old.body → new.left ≡ 0 → new.given ≡ old.given → new.body ≡ []
+    → new.token ≡ []
     → Holds new × ((text object : List ℕ) → IsPlaced old text object → IsPlaced new text object)
 after_sout old new n is r part status err out left given body token =
     let q = at_part old n Sout is r in
@@ -164,13 +180,16 @@ after_sout old new n is r part status err out left given body token =
       holds_afresh new counts left (given ∙ uncounted) body token,
       λ text object g.
           let none = none_given old text object uncounted g in
-          let fields : number_field 1 ∷ number_field old.status ∷ text_field old.err ∷ done_field n (old.body ++ object) ∷ [] ≡ fields_of new =
+          let fields : number_field 1 ∷ number_field old.status ∷ text_field old.err ∷ done_field n (old.body ++ object) ∷ []
+          ≡ fields_of new =
           ap (λ (x : Field). number_field 1 ∷ number_field old.status ∷ text_field old.err ∷ x ∷ []) (whole_text n old.body object len none)
           ∙ ap (λ (x : List ℕ). number_field 1 ∷ number_field old.status ∷ text_field old.err ∷ text_field x ∷ []) (sym out)
           ∙ ap (λ (x : List ℕ). number_field 1 ∷ number_field old.status ∷ text_field x ∷ text_field new.out ∷ []) (sym err)
           ∙ ap (λ (k : ℕ). number_field 1 ∷ number_field k ∷ text_field new.err ∷ text_field new.out ∷ []) (sym status)
           ∙ ap (λ (x : Part). fields_before x new.status new.err new.out) (sym part) in
-          placed_afresh new text object (number_field 1 ∷ number_field old.status ∷ text_field old.err ∷ done_field n (old.body ++ object) ∷ []) body token (given ∙ uncounted) none fields
+          placed_afresh new text object
+          (number_field 1 ∷ number_field old.status ∷ text_field old.err ∷ done_field n (old.body ++ object) ∷ []) body token
+          (given ∙ uncounted) none fields
           (field_done (record old { part = Sout }) n q text object (placed_at old Sout text object is g)),
     )
 
@@ -186,11 +205,15 @@ after_doto old beside n is r text object g =
     let bare : old.body ≡ [] = q.kept in
     let len : n ≡ length object = q.no_more ∙ ap (λ (x : List ℕ). length x + old.given) bare ∙ omega (arith, g.given) in
     let o : Outcome = record { status = old.status; err = old.err; out = old.out; object = object } in
-    let fields : List Field = number_field 1 ∷ number_field old.status ∷ text_field old.err ∷ text_field old.out ∷ done_field n (old.body ++ object) ∷ [] in
-    let done : Progress reply_format text fields [] = field_done (record old { part = Doto beside }) n q text object (placed_at old (Doto beside) text object is g) in
+    let fields : List Field = number_field 1 ∷ number_field old.status ∷ text_field old.err ∷ text_field old.out
+    ∷ done_field n (old.body ++ object) ∷ [] in
+    let done : Progress reply_format text fields [] =
+    field_done (record old { part = Doto beside }) n q text object (placed_at old (Doto beside) text object is g) in
     let whole : text ≡ done.front = done.parts ∙ append-nil done.front in
     let z = front-spelled fields done.front done.is_front refl in
-    let last : done_field n (old.body ++ object) ≡ text_field object = ap (λ (x : List ℕ). done_field n (x ++ object)) bare ∙ ap (λ (k : ℕ). done_field k object) len in
-    let same : fields ≡ reply_fields o = ap (λ (x : Field). number_field 1 ∷ number_field old.status ∷ text_field old.err ∷ text_field old.out ∷ x ∷ []) last in
+    let last : done_field n (old.body ++ object) ≡ text_field object = ap (λ (x : List ℕ). done_field n (x ++ object)) bare
+    ∙ ap (λ (k : ℕ). done_field k object) len in
+    let same : fields ≡ reply_fields o =
+    ap (λ (x : Field). number_field 1 ∷ number_field old.status ∷ text_field old.err ∷ text_field old.out ∷ x ∷ []) last in
     let one : z.0 ≡ o = same_outcome z.0 o (sym z.2 ∙ same) in
     subst (λ (x : List ℕ). SpellsReply x o) (sym whole) (subst (SpellsReply done.front) one z.1)

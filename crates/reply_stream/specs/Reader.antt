@@ -11,13 +11,15 @@ use Rattle.reply_stream.specs.declared.answers.Part.TheVariants.{More, Whole, Ba
 use Rattle.reply_stream.specs.Objects.{with_object, spanned, IsSpan, object_so_far}
 use Rattle.reply_stream.specs.Taking.{fields_of, bytes_of, IsReading, Holds}
 
--- Some fields have come, some bytes of the next one, and behind these so many of the object's; or the text was refused; or the reader is spent.
+-- Some fields have come, some bytes of the next one, and behind these so many of the object's; or the text was refused; or the
+-- reader is spent.
 pub data Place : Type 0 where
   reading : List Field → List ℕ → ℕ → Place
   refused : ℕ → ReplyFault → Place
   spent : Place
 
--- A reader that was given this text, in whatever pieces, may be at this place, where the spans of these pieces join to the object's bytes so far.
+-- A reader that was given this text, in whatever pieces, may be at this place, where the spans of these pieces join to the object's
+-- bytes so far.
 abbrev pub IsAt : Place → List ℕ → List ℕ → Type 0
 IsAt (reading fields bytes given) text object = IsReading fields bytes given text object
 IsAt (refused at fault) text object = ReplyFaultStands text at fault

@@ -74,8 +74,12 @@ hands piece taken object = object ++ take taken piece
 
 -- What a turn makes of the bytes that it takes from the front of a piece.
 abbrev pub Says : (ℕ → List ℕ → List ℕ) → Partial → Partial → List ℕ → Turn → Type 0
-Says grown old new piece (More taken) = (taken ≤ length piece) × Holds new × ((text object : List ℕ) → IsPlaced old text object → IsPlaced new (text ++ take taken piece) (grown taken object))
-Says grown old new piece (Whole o taken) = (taken ≤ length piece) × (o.object ≡ []) × ((text object : List ℕ) → IsPlaced old text object → SpellsReply (text ++ take taken piece) (with_object o (grown taken object)))
+Says grown old new piece (More taken) =
+    (taken ≤ length piece) × Holds new
+    × ((text object : List ℕ) → IsPlaced old text object → IsPlaced new (text ++ take taken piece) (grown taken object))
+Says grown old new piece (Whole o taken) =
+    (taken ≤ length piece) × (o.object ≡ [])
+    × ((text object : List ℕ) → IsPlaced old text object → SpellsReply (text ++ take taken piece) (with_object o (grown taken object)))
 Says grown old new piece (Bad at fault) = (text object : List ℕ) → IsPlaced old text object → Stands reply_format (text ++ piece) at fault
 Says grown old new piece Memory = Unit {0}
 
@@ -110,7 +114,8 @@ GoesOn part Memory = Unit {0}
 -- What the end of a field makes of the text.
 abbrev pub Finishes : Partial → Partial → ℕ → Turn → Type 0
 Finishes old new n (More taken) = (taken ≡ n) × Holds new × ((text object : List ℕ) → IsPlaced old text object → IsPlaced new text object)
-Finishes old new n (Whole o taken) = (taken ≡ n) × (o.object ≡ []) × ((text object : List ℕ) → IsPlaced old text object → SpellsReply text (with_object o object))
+Finishes old new n (Whole o taken) =
+    (taken ≡ n) × (o.object ≡ []) × ((text object : List ℕ) → IsPlaced old text object → SpellsReply text (with_object o object))
 Finishes old new n (Bad at fault) = ⊥
 Finishes old new n Memory = Unit {0}
 
@@ -130,7 +135,10 @@ part_from from Memory = answers.Memory
 
 -- What a piece makes of the text, and the bytes of it that are the object's.
 abbrev pub Runs : Partial → Partial → List ℕ → Part → Type 0
-Runs old new piece (answers.More used span) = (used ≡ length piece) × IsSpan span used × Holds new × ((text object : List ℕ) → IsPlaced old text object → IsPlaced new (text ++ piece) (object ++ spanned span piece))
-Runs old new piece (answers.Whole used span o) = (used ≤ length piece) × IsSpan span used × (o.object ≡ []) × ((text object : List ℕ) → IsPlaced old text object → SpellsReply (text ++ take used piece) (with_object o (object ++ spanned span piece)))
+Runs old new piece (answers.More used span) = (used ≡ length piece) × IsSpan span used × Holds new
+    × ((text object : List ℕ) → IsPlaced old text object → IsPlaced new (text ++ piece) (object ++ spanned span piece))
+Runs old new piece (answers.Whole used span o) = (used ≤ length piece) × IsSpan span used × (o.object ≡ [])
+    × ((text object : List ℕ) → IsPlaced old text object
+    → SpellsReply (text ++ take used piece) (with_object o (object ++ spanned span piece)))
 Runs old new piece (answers.Bad at fault) = (text object : List ℕ) → IsPlaced old text object → Stands reply_format (text ++ piece) at fault
 Runs old new piece answers.Memory = Unit {0}

@@ -1,6 +1,7 @@
 -- The exit status of a build.
 use Rattle.std.specs.Prelude.{ℕ, if◌then◌else◌, List, [], ◌∷◌}
-use Rattle.farm_types.specs.Exits.{exit_code_of, no_link_status, memory_status, fault_status, truncated_status, bad_text_status, no_host_status}
+use Rattle.farm_types.specs.Exits.{exit_code_of, no_link_status, memory_status, fault_status, truncated_status, bad_text_status}
+use Rattle.farm_types.specs.Exits.{no_host_status}
 use Rattle.edge_traits.specs.declared.cause.Cause.{Cause}
 use Rattle.edge_traits.specs.declared.cause.Cause.TheVariants.{Dial, Send, Recv, Truncated, BadReply, Stopped}
 use Rattle.farm_machine.specs.declared.reports.Why5.{Why5}

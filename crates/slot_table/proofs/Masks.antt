@@ -1,5 +1,6 @@
 -- Which entries the masks have.
-use Rattle.std.proofs.Common.{◌≡◌, ◌≢◌, inl, inr, ℕ, ◌-◌, ◌*◌, ◌%◌, ◌^◌, ◌<◌, ◌≤◌, Bool, true, false, ◌&&◌, not, nat_lt, nat_eq, min, bit_and, refl, sym, ap, ◌∙◌, arith, eq-eqb, ne_eqb, w64}
+use Rattle.std.proofs.Common.{◌≡◌, ◌≢◌, inl, inr, ℕ, ◌-◌, ◌*◌, ◌%◌, ◌^◌, ◌<◌, ◌≤◌, Bool, true, false, ◌&&◌, not, nat_lt, nat_eq, min}
+use Rattle.std.proofs.Common.{bit_and, refl, sym, ap, ◌∙◌, arith, eq-eqb, ne_eqb, w64}
 use Rattle.std.proofs.lemmas.Nat.{one_shl}
 use Rattle.std.proofs.lemmas.Nat.Bits.{bit_at_ones, bit_at_ones_above, bit_at_clear_same, bit_at_clear_other, bit_at_above, bit_at_and}
 use Rattle.std.proofs.lemmas.Bool.{cases_eq}
@@ -38,15 +39,21 @@ others k = 18446744073709551615 - 1 * 2 ^ k % 18446744073709551616
 
 other-bit : (bits k i : ℕ) → bits < 2 ^ 64 → k < 64 → i ≢ k → bit_at (bit_and bits (others k)) i ≡ bit_at bits i
 other-bit bits k i fits below apart = elim (leb_tells 64 i) [
-  | inl h ↦ let none = bit_at_above bits 64 i fits h.1 in bit_at_and bits (others k) i ∙ ap (λ (b : ℕ). min b (bit_at (others k) i)) none ∙ min_zero (bit_at (others k) i) ∙ sym none
+  | inl h ↦ let none = bit_at_above bits 64 i fits h.1 in
+      bit_at_and bits (others k) i ∙ ap (λ (b : ℕ). min b (bit_at (others k) i)) none ∙ min_zero (bit_at (others k) i) ∙ sym none
   | inr h ↦ bit_at_clear_other w64 bits k below i h.1 apart
 ]
   where
     min_zero : (n : ℕ) → min 0 n ≡ 0
     min_zero n = omega arith
 
-pub mask-without : (bits k i : ℕ) → bits < 2 ^ 64 → k < 64 → nat_eq (bit_at (bit_and bits (18446744073709551615 - 1 * 2 ^ k % 18446744073709551616)) i) 1 ≡ (nat_eq (bit_at bits i) 1 && not (nat_eq i k))
+pub mask-without : (bits k i : ℕ) → bits < 2 ^ 64 → k < 64
+    → nat_eq (bit_at (bit_and bits (18446744073709551615 - 1 * 2 ^ k % 18446744073709551616)) i) 1
+    ≡ (nat_eq (bit_at bits i) 1 && not (nat_eq i k))
 mask-without bits k i fits below = elim (cases_eq i k) [
-  | inl e ↦ ap (λ (j : ℕ). nat_eq (bit_at (bit_and bits (others k)) j) 1) e ∙ ap (λ (b : ℕ). nat_eq b 1) (bit_at_clear_same w64 bits k below) ∙ and-false (nat_eq (bit_at bits i) 1) ∙ ap (λ (b : Bool). nat_eq (bit_at bits i) 1 && not b) (sym (eq-eqb i k e))
-  | inr n ↦ ap (λ (b : ℕ). nat_eq b 1) (other-bit bits k i fits below n) ∙ and-true (nat_eq (bit_at bits i) 1) ∙ ap (λ (b : Bool). nat_eq (bit_at bits i) 1 && not b) (sym (ne_eqb i k n))
+  | inl e ↦ ap (λ (j : ℕ). nat_eq (bit_at (bit_and bits (others k)) j) 1) e
+      ∙ ap (λ (b : ℕ). nat_eq b 1) (bit_at_clear_same w64 bits k below) ∙ and-false (nat_eq (bit_at bits i) 1)
+      ∙ ap (λ (b : Bool). nat_eq (bit_at bits i) 1 && not b) (sym (eq-eqb i k e))
+  | inr n ↦ ap (λ (b : ℕ). nat_eq b 1) (other-bit bits k i fits below n) ∙ and-true (nat_eq (bit_at bits i) 1)
+      ∙ ap (λ (b : Bool). nat_eq (bit_at bits i) 1 && not b) (sym (ne_eqb i k n))
 ]

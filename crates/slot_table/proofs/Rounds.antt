@@ -12,7 +12,8 @@ use Rattle.slot_table.specs.History.{entry, Holding, holding, has, without, outs
 use Rattle.slot_table.proofs.Holdings.{holding_eq-refl}
 use Rattle.slot_table.proofs.Histories.{outstanding_from-append}
 
-pub outstanding-more : (old new : List CallEntry) (e : CallEntry) → new ≡ old ++ e ∷ [] → outstanding new ≡ outstanding_then (outstanding old) e
+pub outstanding-more : (old new : List CallEntry) (e : CallEntry) → new ≡ old ++ e ∷ []
+    → outstanding new ≡ outstanding_then (outstanding old) e
 outstanding-more old new e is = ap outstanding is ∙ outstanding_from-append [] old (e ∷ [])
 
 -- what was taken last is outstanding
@@ -24,15 +25,19 @@ pub without-first : (a : Holding) (held : List Holding) → without a (a ∷ hel
 without-first a held = ap (λ (b : Bool). cond b held (a ∷ without a held)) (holding_eq-refl a)
 
 -- a grant that a take answers is outstanding
-pub is-outstanding : (t : Take) (caller job : ℕ) (mask : Mask) (now : ℕ) (old new : List CallEntry) → IsGrantFor caller job t → new ≡ old ++ entry caller (AskTake job mask now) (reply_of t) ∷ [] → IsOutstanding caller (outstanding new) t
+pub is-outstanding : (t : Take) (caller job : ℕ) (mask : Mask) (now : ℕ) (old new : List CallEntry) → IsGrantFor caller job t
+    → new ≡ old ++ entry caller (AskTake job mask now) (reply_of t) ∷ [] → IsOutstanding caller (outstanding new) t
 is-outstanding (Got g) caller job mask now old new grant is =
     let a : Holding = holding caller job (Some (host_of g)) in
-    ap (λ (j : ℕ). has (holding caller j (Some (host_of g))) (outstanding new)) grant.1 ∙ ap (has a) (outstanding-more old new (entry caller (AskTake job mask now) (reply_of (Got g))) is) ∙ has-first a (outstanding old)
+    ap (λ (j : ℕ). has (holding caller j (Some (host_of g))) (outstanding new)) grant.1
+    ∙ ap (has a) (outstanding-more old new (entry caller (AskTake job mask now) (reply_of (Got g))) is) ∙ has-first a (outstanding old)
 is-outstanding Full caller job mask now old new grant is = tt
 is-outstanding Down caller job mask now old new grant is = tt
 
-pub is-local_outstanding : (t : Option LocalGrant) (caller job : ℕ) (old new : List CallEntry) → IsLocalGrantFor caller job t → new ≡ old ++ entry caller (TakeLocal job) (Local (is_some t)) ∷ [] → IsLocalOutstanding caller (outstanding new) t
+pub is-local_outstanding : (t : Option LocalGrant) (caller job : ℕ) (old new : List CallEntry) → IsLocalGrantFor caller job t
+    → new ≡ old ++ entry caller (TakeLocal job) (Local (is_some t)) ∷ [] → IsLocalOutstanding caller (outstanding new) t
 is-local_outstanding (Some g) caller job old new grant is =
     let a : Holding = holding caller job None in
-    ap (λ (j : ℕ). has (holding caller j None) (outstanding new)) grant.1 ∙ ap (has a) (outstanding-more old new (entry caller (TakeLocal job) (Local true)) is) ∙ has-first a (outstanding old)
+    ap (λ (j : ℕ). has (holding caller j None) (outstanding new)) grant.1
+    ∙ ap (has a) (outstanding-more old new (entry caller (TakeLocal job) (Local true)) is) ∙ has-first a (outstanding old)
 is-local_outstanding None caller job old new grant is = tt

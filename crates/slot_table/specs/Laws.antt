@@ -12,7 +12,8 @@ use Rattle.slot_table.specs.Mask.{in_mask}
 use Rattle.slot_table.specs.declared.calls.CallEntry.{CallEntry}
 use Rattle.slot_table.specs.Limits.{AreValid, is_local}
 use Rattle.slot_table.specs.Step.{slot_step, CanStep}
-use Rattle.slot_table.specs.History.{entry, Holding, has, count_at, IsLegal, may_call, state_after, outstanding, calls_by, held_by, jobs_drawn}
+use Rattle.slot_table.specs.History.{entry, Holding, has, count_at, IsLegal, may_call, state_after, outstanding, calls_by, held_by}
+use Rattle.slot_table.specs.History.{jobs_drawn}
 
 -- A state agrees with the outstanding grants: each entry's slots that are given out are its grants, never more than its limit, and
 -- the same for local slots. Each grant is of an entry, a local entry is never left alone, and no number past the last job is drawn
@@ -43,7 +44,8 @@ pub record Steps {h : ℕ} (l : Limits h) (es : List CallEntry) (caller : ℕ) (
   pub legal : IsLegal l (es ++ entry caller call (slot_step l (state_after l es) call).1 ∷ [])
 
 abbrev pub PermittedSteps : Type 0
-PermittedSteps = (h : ℕ) (l : Limits h) (es : List CallEntry) (caller : ℕ) (call : SlotCall) → l.count ≤ h → IsLegal l es → may_call l caller (outstanding es) call ≡ true → Steps l es caller call
+PermittedSteps = (h : ℕ) (l : Limits h) (es : List CallEntry) (caller : ℕ) (call : SlotCall) → l.count ≤ h → IsLegal l es
+    → may_call l caller (outstanding es) call ≡ true → Steps l es caller call
 
 -- entry i may be taken at this moment
 pub record MayBeTaken {h : ℕ} (l : Limits h) (s : SlotState h) (mask : Mask) (now i : ℕ) : Type 0 where
@@ -57,10 +59,12 @@ pub record MayBeTaken {h : ℕ} (l : Limits h) (s : SlotState h) (mask : Mask) (
 pub record TakeTells {h : ℕ} (l : Limits h) (s : SlotState h) (mask : Mask) (now : ℕ) (reply : SlotReply) : Type 0 where
   pub got : (i : ℕ) → reply ≡ Got i → MayBeTaken l s mask now i
   pub down : (reply ≡ Down) ↔ ((i : ℕ) → i < l.count → in_mask mask i ≡ true → now < slice_index s.until i)
-  pub full : reply ≡ Full → (i : ℕ) → i < l.count → in_mask mask i ≡ true → slice_index s.until i ≤ now → slice_index l.limit i ≤ slice_index s.held i
+  pub full : reply ≡ Full → (i : ℕ) → i < l.count → in_mask mask i ≡ true → slice_index s.until i ≤ now
+      → slice_index l.limit i ≤ slice_index s.held i
 
 abbrev pub TakesTell : Type 0
-TakesTell = (h : ℕ) (l : Limits h) (s : SlotState h) (job : ℕ) (mask : Mask) (now : ℕ) → TakeTells l s mask now (slot_step l s (Take job mask now)).1
+TakesTell = (h : ℕ) (l : Limits h) (s : SlotState h) (job : ℕ) (mask : Mask) (now : ℕ)
+    → TakeTells l s mask now (slot_step l s (Take job mask now)).1
 
 -- where nothing is outstanding, no take is answered Full and no local slot is refused
 pub record NothingIsFull {h : ℕ} (l : Limits h) (s : SlotState h) : Type 0 where
@@ -68,4 +72,5 @@ pub record NothingIsFull {h : ℕ} (l : Limits h) (s : SlotState h) : Type 0 whe
   pub local : (job : ℕ) → (slot_step l s (TakeLocal job)).1 ≡ Local true
 
 abbrev pub FreeWhereAllIsBack : Type 0
-FreeWhereAllIsBack = (h : ℕ) (l : Limits h) (es : List CallEntry) → AreValid l → IsLegal l es → outstanding es ≡ [] → NothingIsFull l (state_after l es)
+FreeWhereAllIsBack = (h : ℕ) (l : Limits h) (es : List CallEntry) → AreValid l → IsLegal l es → outstanding es ≡ []
+    → NothingIsFull l (state_after l es)

@@ -1,5 +1,6 @@
 -- What one call does to the slots, and what it answers.
-use Rattle.std.specs.Prelude.{◌≡◌, ℕ, ◌+◌, ◌-◌, ◌%◌, ◌<◌, max, Bool, true, false, ◌&&◌, ◌||◌, not, if◌then◌else◌, List, ◌++◌, take, drop, find, replicate, slice_index, slice_set, Option, Some, None, nat_lt}
+use Rattle.std.specs.Prelude.{◌≡◌, ℕ, ◌+◌, ◌-◌, ◌%◌, ◌<◌, max, Bool, true, false, ◌&&◌, ◌||◌, not, if◌then◌else◌, List, ◌++◌, take, drop}
+use Rattle.std.specs.Prelude.{find, replicate, slice_index, slice_set, Option, Some, None, nat_lt}
 use Rattle.std.specs.List.{range_with_len, list_all}
 use Rattle.slot_table.specs.declared.limits.Limits.{Limits}
 use Rattle.slot_table.specs.declared.state.SlotState.{SlotState}
@@ -70,7 +71,8 @@ slot_step l s Draw = if nat_lt s.next l.jobs then (drawn s, Drawn (Some s.next))
 slot_step l s (Take job mask now) = take_free s (find (is_free l s mask now) (search_order l job)) (is_down l s mask now)
 slot_step l s (Give host job) = (given s host, Given)
 slot_step l s (GiveBad host job until) = (left_alone (given s host) host until, Given)
-slot_step l s (TakeLocal job) = if nat_lt s.local_held l.local_slots then (record s { local_held = s.local_held + 1 }, Local true) else (s, Local false)
+slot_step l s (TakeLocal job) =
+    if nat_lt s.local_held l.local_slots then (record s { local_held = s.local_held + 1 }, Local true) else (s, Local false)
 slot_step l s (GiveLocal job) = (record s { local_held = s.local_held - 1 }, Given)
 
 -- entry i has a slot that can be given back

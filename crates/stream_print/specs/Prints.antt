@@ -79,7 +79,8 @@ pub record IsCutPiece (pieces done : List Piece) (next : Piece) : Type 0 where
   pub within : count < length next.bytes
   pub cut_short : done ≡ first ++ cut count next ∷ []
 
--- The sinks got a part of the pieces. Where the printing stopped, it was because the next piece's sink did, and the other had not; where memory was wanting, neither had.
+-- The sinks got a part of the pieces. Where the printing stopped, it was because the next piece's sink did, and the other had not;
+-- where memory was wanting, neither had.
 pub record PrintedPart (pieces : List Piece) (stop : PrintStop) (old new : SinksView) : Type 0 where
   pub done : List Piece
   pub next : Piece

@@ -1,5 +1,6 @@
 -- Digits and what they stand for.
-use Rattle.std.proofs.Common.{◌≡◌, ℕ, zero, suc, ◌+◌, ◌*◌, ◌/◌, ◌%◌, ◌^◌, ◌<◌, ◌≤◌, true, List, [], ◌∷◌, ◌++◌, length, get_or, take, refl, ap, ◌∙◌, append_assoc, arith}
+use Rattle.std.proofs.Common.{◌≡◌, ℕ, zero, suc, ◌+◌, ◌*◌, ◌/◌, ◌%◌, ◌^◌, ◌<◌, ◌≤◌, true, List, [], ◌∷◌, ◌++◌, length, get_or, take, refl}
+use Rattle.std.proofs.Common.{ap, ◌∙◌, append_assoc, arith}
 use Rattle.std.specs.List.{AllPass}
 use Rattle.std.proofs.lemmas.Bool.Decides.{nat_tests}
 use Rattle.std.proofs.lemmas.List.{length-append, take_more}
@@ -28,7 +29,8 @@ number_of-push (b ∷ cs) c =
     let p : 16 ^ (length cs + 1) ≡ 16 ^ length cs * 16 = pow_more 16 (length cs) in
     rw (len, p, number_of-push cs c) (omega arith)
 
-pub number_of-more : (cs : List ℕ) (i : ℕ) → i < length cs → number_of (take (i + 1) cs) ≡ number_of (take i cs) * 16 + digit_of (get_or cs i 0)
+pub number_of-more : (cs : List ℕ) (i : ℕ) → i < length cs
+    → number_of (take (i + 1) cs) ≡ number_of (take i cs) * 16 + digit_of (get_or cs i 0)
 number_of-more cs i h = rw (take_more cs i 0 h) (number_of-push (take i cs) (get_or cs i 0))
 
 pub small_power : (i : ℕ) → i < 8 → 16 ^ i ≤ 268435456
@@ -37,12 +39,15 @@ small_power i h = let p : 16 ^ i ≤ 16 ^ 7 = pow-le-pow_right {n = 16} (omega a
 pub length-lower_digits : (k n : ℕ) → length (lower_digits k n) ≡ k
 unfolding lower_digits
 length-lower_digits zero n = refl
-length-lower_digits (suc k) n = length-append (lower_digits k (n / 16)) (lower_digit (n % 16) ∷ []) ∙ ap (λ (x : ℕ). x + 1) (length-lower_digits k (n / 16)) ∙ omega arith
+length-lower_digits (suc k) n = length-append (lower_digits k (n / 16)) (lower_digit (n % 16) ∷ [])
+    ∙ ap (λ (x : ℕ). x + 1) (length-lower_digits k (n / 16)) ∙ omega arith
 
 pub each-lower_digits : (k n : ℕ) → AllPass is_hex_digit (lower_digits k n)
 unfolding lower_digits
 each-lower_digits zero n = λ i d h. absurd (omega arith)
-each-lower_digits (suc k) n = All-push (λ (c : ℕ). is_hex_digit c ≡ true) (lower_digits k (n / 16)) (lower_digit (n % 16)) (each-lower_digits k (n / 16)) (is_hex_digit-lower_digit (n % 16) (omega arith))
+each-lower_digits (suc k) n =
+    All-push (λ (c : ℕ). is_hex_digit c ≡ true) (lower_digits k (n / 16)) (lower_digit (n % 16)) (each-lower_digits k (n / 16))
+    (is_hex_digit-lower_digit (n % 16) (omega arith))
 
 pub number_of-lower_digits : (k n : ℕ) → n < 16 ^ k → number_of (lower_digits k n) ≡ n
 unfolding lower_digits
@@ -52,10 +57,15 @@ number_of-lower_digits (suc k) n h =
     let e : k + 1 ≡ suc k = omega arith in
     let small : n < 16 ^ k * 16 = rw (← p, e) h in
     let less : n / 16 < 16 ^ k = omega arith in
-    rw (number_of-push (lower_digits k (n / 16)) (lower_digit (n % 16)), number_of-lower_digits k (n / 16) less, digit_of-lower_digit (n % 16) (omega arith)) (omega arith)
+    rw (
+      number_of-push (lower_digits k (n / 16)) (lower_digit (n % 16)),
+      number_of-lower_digits k (n / 16) less,
+      digit_of-lower_digit (n % 16) (omega arith),
+    ) (omega arith)
 
 -- one digit more, from the least significant on
-pub lower_digits-more : (k : ℕ) (n : ℕ) (rest : List ℕ) → lower_digits (suc k) n ++ rest ≡ lower_digits k (n / 16) ++ (lower_digit (n % 16) ∷ rest)
+pub lower_digits-more : (k : ℕ) (n : ℕ) (rest : List ℕ)
+    → lower_digits (suc k) n ++ rest ≡ lower_digits k (n / 16) ++ (lower_digit (n % 16) ∷ rest)
 unfolding lower_digits
 lower_digits-more k n rest = append_assoc (lower_digits k (n / 16)) (lower_digit (n % 16) ∷ []) rest
 

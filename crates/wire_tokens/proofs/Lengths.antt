@@ -1,5 +1,6 @@
 -- How long the texts that are written are, and which short texts are the longest.
-use Rattle.std.proofs.Common.{◌≡◌, ℕ, zero, suc, ◌+◌, ◌-◌, ◌*◌, ◌^◌, ◌<◌, ◌≤◌, List, [], ◌∷◌, ◌++◌, length, take, drop, replicate, All, refl, sym, ap, subst, ◌∙◌, arith}
+use Rattle.std.proofs.Common.{◌≡◌, ℕ, zero, suc, ◌+◌, ◌-◌, ◌*◌, ◌^◌, ◌<◌, ◌≤◌, List, [], ◌∷◌, ◌++◌, length, take, drop, replicate, All}
+use Rattle.std.proofs.Common.{refl, sym, ap, subst, ◌∙◌, arith}
 use Rattle.std.specs.Prelude.{codes, sum_by}
 use Rattle.std.specs.List.{flat_map}
 use Rattle.std.proofs.lemmas.List.{length-append, length-drop, length-take, length-replicate, take-append-drop}
@@ -22,7 +23,8 @@ token_len : (name : List ℕ) (n : ℕ) → length name ≡ 4 → length (token 
 token_len name n four = simp (length-append, length-lower_digits) (omega (arith, four))
 
 field_len : (name body rest : List ℕ) (n : ℕ) → length name ≡ 4 → length (token name n ++ (body ++ rest)) ≡ 12 + (length body + length rest)
-field_len name body rest n four = length-append (token name n) (body ++ rest) ∙ omega (arith, token_len name n four, length-append body rest)
+field_len name body rest n four = length-append (token name n) (body ++ rest)
+    ∙ omega (arith, token_len name n four, length-append body rest)
 
 plain_len : (name rest : List ℕ) (n : ℕ) → length name ≡ 4 → length (token name n ++ rest) ≡ 12 + length rest
 plain_len name rest n four = length-append (token name n) rest ∙ omega (arith, token_len name n four)
@@ -42,8 +44,12 @@ length-reply_text o =
     plain_len (codes "DONE") stat 1 refl ∙ omega (arith, e1, e2, e3, e4)
 
 -- the text without its last byte
-cut_one : (text : List ℕ) → 1 ≤ length text → (drop (length text - 1) text ≡ [] → ⊥) × (length (take (length text - 1) text) + 1 ≡ length text)
-cut_one text some = (λ e. absurd (omega (arith, ap length e, length-drop (length text - 1) text)), omega (arith, length-take (length text - 1) text))
+cut_one : (text : List ℕ) → 1 ≤ length text → (drop (length text - 1) text ≡ [] → ⊥)
+    × (length (take (length text - 1) text) + 1 ≡ length text)
+cut_one text some = (
+  λ e. absurd (omega (arith, ap length e, length-drop (length text - 1) text)),
+  omega (arith, length-take (length text - 1) text),
+)
 
 longest_reply_of : (err out object : ℕ) → err ≤ messages_max → out ≤ messages_max → object ≤ object_max
     → (text : List ℕ) × IsShortReply text × (length text + 1 ≡ 60 + (err + out + object))
@@ -52,13 +58,18 @@ longest_reply_of err out object a b c =
     let le : length o.err ≡ err = length-replicate err 0 in
     let lo : length o.out ≡ out = length-replicate out 0 in
     let lb : length o.object ≡ object = length-replicate object 0 in
-    let fits : OutcomeFits o.status o.err o.out o.object = record { err_fits = omega arith; out_fits = omega arith; object_fits = omega arith; failure = λ h. absurd (h refl) } in
+    let fits : OutcomeFits o.status o.err o.out o.object =
+    record { err_fits = omega arith; out_fits = omega arith; object_fits = omega arith; failure = λ h. absurd (h refl) } in
     let all : List ℕ = reply_text o in
     let len = length-reply_text o in
     let cut = cut_one all (omega (arith, len)) in
     let spelled : SpellsReply all o = reply_written o fits (omega arith) in
-    let parts : SpellsReply (take (length all - 1) all ++ drop (length all - 1) all) o = subst (λ (x : List ℕ). SpellsReply x o) (sym (take-append-drop (length all - 1) all)) spelled in
-    (take (length all - 1) all, replies.cut_is_short (take (length all - 1) all) (drop (length all - 1) all) o parts cut.0, omega (arith, cut.1, len))
+    let parts : SpellsReply (take (length all - 1) all ++ drop (length all - 1) all) o =
+    subst (λ (x : List ℕ). SpellsReply x o) (sym (take-append-drop (length all - 1) all)) spelled in (
+      take (length all - 1) all,
+      replies.cut_is_short (take (length all - 1) all) (drop (length all - 1) all) o parts cut.0,
+      omega (arith, cut.1, len),
+    )
 
 -- Some short text of a reply has 35,651,643 bytes.
 pub longest_short_reply : (text : List ℕ) × IsShortReply text × (length text ≡ 35651643)
@@ -71,7 +82,8 @@ longest_short_reply =
 length-words_text : (words : List (List ℕ)) → length (flat_map word_text words) ≡ 12 * length words + sum_by length words
 length-words_text [] = refl
 length-words_text (word ∷ words) =
-    let cons : length (flat_map word_text (word ∷ words)) ≡ length (word_text word) + length (flat_map word_text words) = ap length (flat_map-cons word_text word words) ∙ length-append (word_text word) (flat_map word_text words) in
+    let cons : length (flat_map word_text (word ∷ words)) ≡ length (word_text word) + length (flat_map word_text words) =
+    ap length (flat_map-cons word_text word words) ∙ length-append (word_text word) (flat_map word_text words) in
     cons ∙ omega (arith, plain_len (codes "ARGV") word (length word) refl, length-words_text words, sum_by-cons length word words)
 
 pub length-request_text : (q : Request) → length (request_text q) ≡ 36 + (12 * length q.words + sum_by length q.words + length q.source)
@@ -105,13 +117,24 @@ longest_request_of count size source some few small together last =
     let sum : sum_by length w.0 ≡ count * size = w.3 ∙ ap (λ (k : ℕ). count * k) lw in
     let q : Request = record { words = w.0; source = replicate source 0 } in
     let ls : length q.source ≡ source = length-replicate source 0 in
-    let fits : RequestFits q.words q.source = record { some = omega (arith, w.1); count = omega (arith, w.1); words_fit = record { each = w.2; together = omega (arith, sum) }; source_fits = omega arith } in
+    let fits : RequestFits q.words q.source =
+    record {
+      some = omega (arith, w.1);
+      count = omega (arith, w.1);
+      words_fit =
+          record { each = w.2; together = omega (arith, sum) };
+      source_fits = omega arith;
+    } in
     let all : List ℕ = request_text q in
     let len = length-request_text q in
     let cut = cut_one all (omega (arith, len)) in
     let spelled : SpellsRequest all q = request_written q fits in
-    let parts : SpellsRequest (take (length all - 1) all ++ drop (length all - 1) all) q = subst (λ (x : List ℕ). SpellsRequest x q) (sym (take-append-drop (length all - 1) all)) spelled in
-    (take (length all - 1) all, requests.cut_is_short (take (length all - 1) all) (drop (length all - 1) all) q parts cut.0, omega (arith, cut.1, len, w.1, sum))
+    let parts : SpellsRequest (take (length all - 1) all ++ drop (length all - 1) all) q =
+    subst (λ (x : List ℕ). SpellsRequest x q) (sym (take-append-drop (length all - 1) all)) spelled in (
+      take (length all - 1) all,
+      requests.cut_is_short (take (length all - 1) all) (drop (length all - 1) all) q parts cut.0,
+      omega (arith, cut.1, len, w.1, sum),
+    )
 
 -- Some short text of a request has 34,615,331 bytes.
 pub longest_short_request : (text : List ℕ) × IsShortRequest text × (length text ≡ 34615331)

@@ -1,5 +1,6 @@
 -- The texts that spell outcomes are the whole fronts of the format of replies.
-use Rattle.std.proofs.Common.{◌≡◌, ◌≢◌, ℕ, ◌≤◌, true, eqb, List, [], ◌∷◌, ◌++◌, length, get_or, None, refl, sym, ap, subst, ◌∙◌, append_assoc, arith, inl, inr}
+use Rattle.std.proofs.Common.{◌≡◌, ◌≢◌, ℕ, ◌≤◌, true, eqb, List, [], ◌∷◌, ◌++◌, length, get_or, None, refl, sym, ap, subst, ◌∙◌}
+use Rattle.std.proofs.Common.{append_assoc, arith, inl, inr}
 use Rattle.std.specs.Prelude.{codes, nat_le, ◌||◌}
 use Rattle.std.proofs.lemmas.Bool.{leb-true, le-leb, eqb-true, eq-eqb, or_cases, or_left, or_right, cases_lt}
 use Rattle.std.proofs.lemmas.List.{append-nil, nil_from_length}
@@ -9,7 +10,8 @@ use Rattle.wire_tokens.specs.Token.{IsToken}
 use Rattle.wire_tokens.specs.Format.{Field, IsFront}
 use Rattle.wire_tokens.specs.Reply.{SpellsReply, version_fault, err_fault, out_fault, object_fault, reply_due, reply_format}
 use Rattle.wire_tokens.proofs.Readings.{FourLetters}
-use Rattle.wire_tokens.proofs.Fields.{four_of_due, plain, plain_field, bodied, bodied_field, allowed, allowed_twice, due_again, token_of, same_field}
+use Rattle.wire_tokens.proofs.Fields.{four_of_due, plain, plain_field, bodied, bodied_field, allowed, allowed_twice, due_again, token_of}
+use Rattle.wire_tokens.proofs.Fields.{same_field}
 use Rattle.wire_tokens.proofs.Texts.{Spelling}
 
 pub four_reply : FourLetters reply_format
@@ -47,7 +49,8 @@ spelled-front text o s =
     let after_serr : List ℕ = s.serr ++ (o.err ++ after_sout) in
     let ok_err : err_fault (length o.err) ≡ None = rw (le-leb _ _ s.fits.err_fits) refl in
     let ok_out : out_fault (length o.out) ≡ None = rw (le-leb _ _ s.fits.out_fits) refl in
-    let ok_object : object_fault o.status (length o.object) ≡ None = rw (le-leb _ _ s.fits.object_fits, zero_either o.status (length o.object) (λ h. ap length (s.fits.failure h))) refl in (
+    let ok_object : object_fault o.status (length o.object) ≡ None =
+    rw (le-leb _ _ s.fits.object_fits, zero_either o.status (length o.object) (λ h. ap length (s.fits.failure h))) refl in (
       _,
       s.done,
       s.stat ++ after_serr,
@@ -75,7 +78,15 @@ spelled-front text o s =
             refl,
             bodied_field _ o.out s.sout refl ok_out s.is_sout,
             sym (append_assoc s.sout o.out (s.doto ++ o.object)),
-            (_, s.doto ++ o.object, [], refl, bodied_field _ o.object s.doto refl ok_object s.is_doto, sym (append-nil (s.doto ++ o.object)), refl),
+            (
+              _,
+              s.doto ++ o.object,
+              [],
+              refl,
+              bodied_field _ o.object s.doto refl ok_object s.is_doto,
+              sym (append-nil (s.doto ++ o.object)),
+              refl,
+            ),
           ),
         ),
       ),
@@ -84,7 +95,8 @@ spelled-front text o s =
 version_is : (n : ℕ) → version_fault n ≡ None → n ≡ 1
 version_is n e = eqb-true n 1 (allowed (eqb n 1) _ e)
 
-pub front-spelled : (fields : List Field) (text : List ℕ) → IsFront reply_format [] fields text → reply_due fields ≡ None → (o : Outcome) × SpellsReply text o × (fields ≡ reply_fields o)
+pub front-spelled : (fields : List Field) (text : List ℕ) → IsFront reply_format [] fields text → reply_due fields ≡ None
+    → (o : Outcome) × SpellsReply text o × (fields ≡ reply_fields o)
 unfolding reply_fields
 front-spelled [] text r e = absurd cc
 front-spelled (a ∷ []) text r e = absurd cc
@@ -114,9 +126,13 @@ front-spelled (a ∷ b ∷ c ∷ d ∷ f ∷ []) text r e =
     let o : Outcome = record { status = b.number; err = c.body; out = d.body; object = f.body } in
     let last : r5.1 ++ r5.2 ≡ ff.token ++ f.body = ap (λ (x : List ℕ). r5.1 ++ x) r5.6 ∙ append-nil r5.1 ∙ ff.parts in
     let parts5 : r4.2 ≡ ff.token ++ f.body = r5.5 ∙ last in
-    let parts4 : r3.2 ≡ fd.token ++ (d.body ++ (ff.token ++ f.body)) = r4.5 ∙ ap (λ (x : List ℕ). x ++ r4.2) fd.parts ∙ append_assoc fd.token d.body r4.2 ∙ ap (λ (x : List ℕ). fd.token ++ (d.body ++ x)) parts5 in
-    let parts3 : r2.2 ≡ fc.token ++ (c.body ++ (fd.token ++ (d.body ++ (ff.token ++ f.body)))) = r3.5 ∙ ap (λ (x : List ℕ). x ++ r3.2) fc.parts ∙ append_assoc fc.token c.body r3.2 ∙ ap (λ (x : List ℕ). fc.token ++ (c.body ++ x)) parts4 in
-    let parts2 : r.2 ≡ r2.1 ++ (fc.token ++ (c.body ++ (fd.token ++ (d.body ++ (ff.token ++ f.body))))) = r2.5 ∙ ap (λ (x : List ℕ). r2.1 ++ x) parts3 in (
+    let parts4 : r3.2 ≡ fd.token ++ (d.body ++ (ff.token ++ f.body)) = r4.5 ∙ ap (λ (x : List ℕ). x ++ r4.2) fd.parts
+    ∙ append_assoc fd.token d.body r4.2 ∙ ap (λ (x : List ℕ). fd.token ++ (d.body ++ x)) parts5 in
+    let parts3 : r2.2 ≡ fc.token ++ (c.body ++ (fd.token ++ (d.body ++ (ff.token ++ f.body)))) =
+    r3.5 ∙ ap (λ (x : List ℕ). x ++ r3.2) fc.parts ∙ append_assoc fc.token c.body r3.2
+    ∙ ap (λ (x : List ℕ). fc.token ++ (c.body ++ x)) parts4 in
+    let parts2 : r.2 ≡ r2.1 ++ (fc.token ++ (c.body ++ (fd.token ++ (d.body ++ (ff.token ++ f.body))))) =
+    r2.5 ∙ ap (λ (x : List ℕ). r2.1 ++ x) parts3 in (
       o,
       record {
         fits = record {
@@ -166,4 +182,12 @@ unfolding reply_fields
 whole_due o = refl
 
 abbrev pub reply_spelling : Spelling reply_format SpellsReply
-reply_spelling = record { four = four_reply; fields = reply_fields; front = spelled-front; whole_due = whole_due; spelled = front-spelled; same = same_outcome }
+reply_spelling = record {
+  four = four_reply;
+  fields = reply_fields;
+  front = spelled-front;
+  whole_due = whole_due;
+  spelled =
+      front-spelled;
+  same = same_outcome;
+}

@@ -1,5 +1,6 @@
 -- How long a short text can be.
-use Rattle.std.proofs.Common.{◌≡◌, ℕ, ◌+◌, ◌<◌, ◌≤◌, Bool, true, false, ltb, List, [], ◌∷◌, length, cond, Option, Some, None, subst, refl, sym, ap, arith}
+use Rattle.std.proofs.Common.{◌≡◌, ℕ, ◌+◌, ◌<◌, ◌≤◌, Bool, true, false, ltb, List, [], ◌∷◌, length, cond, Option, Some, None, subst, refl}
+use Rattle.std.proofs.Common.{sym, ap, arith}
 use Rattle.std.specs.Prelude.{nat_le}
 use Rattle.std.proofs.lemmas.Bool.{leb-true, ltb-true}
 use Rattle.std.proofs.lemmas.List.{length-append}
@@ -16,24 +17,31 @@ use Rattle.wire_tokens.proofs.Texts.{short-reads}
 use Rattle.wire_tokens.proofs.Fields.{due_is, due_again, plain, bodied, allowed, allowed_twice}
 use Rattle.wire_tokens.proofs.Reply.{four_reply, reply_spelling}
 
-wants_numbered : {F : Type 0} (due : Due F) (text : List ℕ) (n limit : ℕ) (o : Option F) (partial : Bool) → due.refused n ≡ o → ltb (length text) (12 + body_len due n) ≡ partial → ((m : ℕ) → due.refused m ≡ None → body_len due m ≤ limit) → numbered o partial n ≡ wants → length text < 12 + limit
+wants_numbered : {F : Type 0} (due : Due F) (text : List ℕ) (n limit : ℕ) (o : Option F) (partial : Bool) → due.refused n ≡ o
+    → ltb (length text) (12 + body_len due n) ≡ partial → ((m : ℕ) → due.refused m ≡ None → body_len due m ≤ limit)
+    → numbered o partial n ≡ wants → length text < 12 + limit
 wants_numbered due text n limit (Some f) p r l most e = absurd cc
 wants_numbered due text n limit None true r l most e = let lt = ltb-true _ _ l in omega (arith, lt, most n r)
 wants_numbered due text n limit None false r l most e = absurd cc
 
-wants_scanned : {F : Type 0} (format : Format F) (due : Due F) (text : List ℕ) (limit : ℕ) (s : Scan) → scan_of due.name text ≡ s → ((m : ℕ) → due.refused m ≡ None → body_len due m ≤ limit) → scanned format due text s ≡ wants → length text < 12 + limit
+wants_scanned : {F : Type 0} (format : Format F) (due : Due F) (text : List ℕ) (limit : ℕ) (s : Scan) → scan_of due.name text ≡ s
+    → ((m : ℕ) → due.refused m ≡ None → body_len due m ≤ limit) → scanned format due text s ≡ wants → length text < 12 + limit
 wants_scanned format due text limit (WrongName k) is most e = absurd cc
 wants_scanned format due text limit (BadDigit k) is most e = absurd cc
 wants_scanned format due text limit Short is most e = omega (arith, short-len due.name text is)
-wants_scanned format due text limit (Number n) is most e = wants_numbered due text n limit (due.refused n) (ltb (length text) (12 + body_len due n)) refl refl most e
+wants_scanned format due text limit (Number n) is most e =
+    wants_numbered due text n limit (due.refused n) (ltb (length text) (12 + body_len due n)) refl refl most e
 
 -- what is too short for a field is shorter than the longest one
-pub wants_len : {F : Type 0} (format : Format F) (due : Due F) (text : List ℕ) (limit : ℕ) → ((m : ℕ) → due.refused m ≡ None → body_len due m ≤ limit) → step_of format due text ≡ wants → length text < 12 + limit
+pub wants_len : {F : Type 0} (format : Format F) (due : Due F) (text : List ℕ) (limit : ℕ)
+    → ((m : ℕ) → due.refused m ≡ None → body_len due m ≤ limit) → step_of format due text ≡ wants → length text < 12 + limit
 unfolding step_of
 wants_len format due text limit most e = wants_scanned format due text limit (scan_of due.name text) refl most e
 
-pub last_len : {F : Type 0} (format : Format F) (due other : Due F) (rest : List ℕ) (limit : ℕ) → Some due ≡ Some other → step_of format other rest ≡ wants → ((m : ℕ) → due.refused m ≡ None → body_len due m ≤ limit) → length rest < 12 + limit
-last_len {F} format due other rest limit e w most = wants_len format due rest limit most (subst (λ (d : Due F). step_of format d rest ≡ wants) (sym (due_is due other e)) w)
+pub last_len : {F : Type 0} (format : Format F) (due other : Due F) (rest : List ℕ) (limit : ℕ) → Some due ≡ Some other
+    → step_of format other rest ≡ wants → ((m : ℕ) → due.refused m ≡ None → body_len due m ≤ limit) → length rest < 12 + limit
+last_len {F} format due other rest limit e w most =
+    wants_len format due rest limit most (subst (λ (d : Due F). step_of format d rest ≡ wants) (sym (due_is due other e)) w)
 
 pub at_most : {F : Type 0} (m most : ℕ) (f : F) → cond (nat_le m most) None (Some f) ≡ None → m ≤ most
 at_most m most f e = leb-true m most (allowed (nat_le m most) f e)
@@ -41,7 +49,8 @@ at_most m most f e = leb-true m most (allowed (nat_le m most) f e)
 pub at_most_twice : {F : Type 0} (m most : ℕ) (b : Bool) (f g : F) → cond (nat_le m most) (cond b None (Some f)) (Some g) ≡ None → m ≤ most
 at_most_twice m most b f g e = leb-true m most (allowed_twice (nat_le m most) b f g e).0
 
-by_fields : (fields : List Field) (front rest : List ℕ) → IsFront reply_format [] fields front → Ends reply_format fields rest short → fields_len fields + length rest < 35651644
+by_fields : (fields : List Field) (front rest : List ℕ) → IsFront reply_format [] fields front → Ends reply_format fields rest short
+    → fields_len fields + length rest < 35651644
 unfolding fields_len
 by_fields [] front rest r e =
     let l = last_len reply_format _ e.0 rest 0 e.1 e.2 (λ m ok. omega arith) in

@@ -30,15 +30,18 @@ pub one_fault : (text : List ℕ) (i j : ℕ) (f g : ReplyFault) → ReplyFaultS
 one_fault = one_standing_fault reply_format four_reply
 
 -- In a text that begins with a spelling no fault stands.
-pub spelled_or_fault : (text : List ℕ) (used at : ℕ) (o : Outcome) (fault : ReplyFault) → BeginsReply text used o → ReplyFaultStands text at fault → ⊥
+pub spelled_or_fault : (text : List ℕ) (used at : ℕ) (o : Outcome) (fault : ReplyFault) → BeginsReply text used o
+    → ReplyFaultStands text at fault → ⊥
 spelled_or_fault = texts.spelled_or_fault reply_format SpellsReply reply_spelling
 
 -- A prefix is a spelling, or a fault stands, or the text is short.
-pub one_of_three : (text : List ℕ) → ((used : ℕ) × (o : Outcome) × BeginsReply text used o) ⊎ (((at : ℕ) × (fault : ReplyFault) × ReplyFaultStands text at fault) ⊎ IsShortReply text)
+pub one_of_three : (text : List ℕ) → ((used : ℕ) × (o : Outcome) × BeginsReply text used o)
+    ⊎ (((at : ℕ) × (fault : ReplyFault) × ReplyFaultStands text at fault) ⊎ IsShortReply text)
 one_of_three = texts.one_of_three reply_format SpellsReply reply_spelling
 
 -- A fault that stands in a text stands in every longer text, at the same place.
-pub fault_longer : (text more : List ℕ) (at : ℕ) (fault : ReplyFault) → ReplyFaultStands text at fault → ReplyFaultStands (text ++ more) at fault
+pub fault_longer : (text more : List ℕ) (at : ℕ) (fault : ReplyFault) → ReplyFaultStands text at fault
+    → ReplyFaultStands (text ++ more) at fault
 fault_longer = stands-longer reply_format four_reply
 
 -- A text that begins with a spelling goes on beginning with it.
@@ -50,7 +53,8 @@ pub spelling_begins : (text more : List ℕ) (o : Outcome) → SpellsReply text 
 spelling_begins = texts.spells-begins SpellsReply
 
 -- What is written is read again, whatever follows it.
-pub written_again : (o : Outcome) (more : List ℕ) → OutcomeFits o.status o.err o.out o.object → o.status < 2 ^ 32 → BeginsReply (reply_text o ++ more) (length (reply_text o)) o
+pub written_again : (o : Outcome) (more : List ℕ) → OutcomeFits o.status o.err o.out o.object → o.status < 2 ^ 32
+    → BeginsReply (reply_text o ++ more) (length (reply_text o)) o
 written_again o more fits status = spelling_begins (reply_text o) more o (reply_written o fits status)
 
 -- The empty text is short.

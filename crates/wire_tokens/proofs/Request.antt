@@ -1,5 +1,6 @@
 -- The texts that spell requests are the whole fronts of the format of requests.
-use Rattle.std.proofs.Common.{◌≡◌, ℕ, suc, ◌+◌, ◌<◌, ◌≤◌, Bool, true, false, cond, eqb, List, [], ◌∷◌, ◌++◌, length, drop, map, All, Some, None, refl, sym, ap, subst, ◌∙◌, append_assoc, arith, inl, inr}
+use Rattle.std.proofs.Common.{◌≡◌, ℕ, suc, ◌+◌, ◌<◌, ◌≤◌, Bool, true, false, cond, eqb, List, [], ◌∷◌, ◌++◌, length, drop, map, All, Some}
+use Rattle.std.proofs.Common.{None, refl, sym, ap, subst, ◌∙◌, append_assoc, arith, inl, inr}
 use Rattle.std.specs.Prelude.{codes, nat_le, nat_lt, ◌&&◌, sum_by}
 use Rattle.std.proofs.lemmas.Bool.{leb-true, le-leb, eqb-true, eq-eqb, ne_eqb, le-ltb, lt-ltb, cases_lt}
 use Rattle.std.proofs.lemmas.List.{append-nil, length-append, same_from_push}
@@ -10,9 +11,11 @@ use Rattle.farm_types.specs.declared.request.Request.{Request}
 use Rattle.wire_tokens.specs.declared.faults.RequestFault.{RequestFault}
 use Rattle.wire_tokens.specs.Token.{IsToken}
 use Rattle.wire_tokens.specs.Format.{Field, Due, IsFront}
-use Rattle.wire_tokens.specs.Request.{SpellsWords, SpellsRequest, count_fault, word_fault, dist_due, argc_due, argv_due, doti_due, bodies_len, request_due, request_format, word_fields, dist_field, argc_field}
+use Rattle.wire_tokens.specs.Request.{SpellsWords, SpellsRequest, count_fault, word_fault, dist_due, argc_due, argv_due, doti_due}
+use Rattle.wire_tokens.specs.Request.{bodies_len, request_due, request_format, word_fields, dist_field, argc_field}
 use Rattle.wire_tokens.proofs.Readings.{FourLetters}
-use Rattle.wire_tokens.proofs.Fields.{four_of_due, plain, plain_field, bodied, bodied_field, allowed, allowed_twice, same_field, due_again, token_of}
+use Rattle.wire_tokens.proofs.Fields.{four_of_due, plain, plain_field, bodied, bodied_field, allowed, allowed_twice, same_field}
+use Rattle.wire_tokens.proofs.Fields.{due_again, token_of}
 use Rattle.wire_tokens.proofs.Texts.{Spelling}
 
 pub four_request : FourLetters request_format
@@ -20,7 +23,8 @@ four_request [] due e = four_of_due _ due refl e
 four_request (a ∷ []) due e = four_of_due _ due refl e
 four_request (a ∷ b ∷ words) due e = by_count (nat_lt (length words) b.number) (eqb (length words) b.number) (bodies_len words) due e
   where
-    by_count : (p q : Bool) (n : ℕ) (due : Due RequestFault) → cond p (Some (argv_due n)) (cond q (Some doti_due) None) ≡ Some due → length due.name ≡ 4
+    by_count : (p q : Bool) (n : ℕ) (due : Due RequestFault) → cond p (Some (argv_due n)) (cond q (Some doti_due) None) ≡ Some due
+        → length due.name ≡ 4
     by_count true q n due e = four_of_due _ due refl e
     by_count false true n due e = four_of_due _ due refl e
     by_count false false n due e = absurd cc
@@ -28,7 +32,8 @@ four_request (a ∷ b ∷ words) due e = by_count (nat_lt (length words) b.numbe
 -- ---- a request's fields
 
 unfoldable pub request_fields : Request → List Field
-request_fields q = dist_field ∷ argc_field (length q.words) ∷ (word_fields q.words ++ record { number = length q.source; body = q.source } ∷ [])
+request_fields q = dist_field ∷ argc_field (length q.words)
+    ∷ (word_fields q.words ++ record { number = length q.source; body = q.source } ∷ [])
 
 pub length-word_fields : (words : List (List ℕ)) → length (word_fields words) ≡ length words
 unfolding word_fields
@@ -39,16 +44,19 @@ pub bodies_len-word_fields : (words : List (List ℕ)) → bodies_len (word_fiel
 unfolding word_fields
 bodies_len-word_fields [] = refl
 bodies_len-word_fields (word ∷ words) =
-    sum_by-cons (λ (f : Field). length f.body) (record { number = length word; body = word }) (word_fields words) ∙ ap (λ (k : ℕ). length word + k) (bodies_len-word_fields words) ∙ sym (sum_by-cons length word words)
+    sum_by-cons (λ (f : Field). length f.body) (record { number = length word; body = word }) (word_fields words)
+    ∙ ap (λ (k : ℕ). length word + k) (bodies_len-word_fields words) ∙ sym (sum_by-cons length word words)
 
-pub word_fields-push : (words : List (List ℕ)) (word : List ℕ) → word_fields (words ++ word ∷ []) ≡ word_fields words ++ record { number = length word; body = word } ∷ []
+pub word_fields-push : (words : List (List ℕ)) (word : List ℕ)
+    → word_fields (words ++ word ∷ []) ≡ word_fields words ++ record { number = length word; body = word } ∷ []
 unfolding word_fields
 word_fields-push [] word = refl
 word_fields-push (w ∷ words) word = ap (λ (fs : List Field). record { number = length w; body = w } ∷ fs) (word_fields-push words word)
 
 -- ---- what is due
 
-pub due_word : (a b : Field) (words : List Field) → length words < b.number → request_due (a ∷ b ∷ words) ≡ Some (argv_due (bodies_len words))
+pub due_word : (a b : Field) (words : List Field) → length words < b.number
+    → request_due (a ∷ b ∷ words) ≡ Some (argv_due (bodies_len words))
 due_word a b words lt = rw (lt-ltb _ _ lt) refl
 
 pub due_source : (a b : Field) (words : List Field) → length words ≡ b.number → request_due (a ∷ b ∷ words) ≡ Some doti_due
@@ -64,7 +72,9 @@ source_field source = record { number = length source; body = source }
 
 words-front : (a b : Field) (done words : List (List ℕ)) (text doti source : List ℕ) → length done + length words ≡ b.number
     → sum_by length done + sum_by length words ≤ words_bytes_max → All (λ word. length word ≤ word_max) words → length source ≤ source_max
-    → SpellsWords words text → IsToken (codes "DOTI") (length source) doti → IsFront request_format (a ∷ b ∷ word_fields done) (word_fields words ++ record { number = length source; body = source } ∷ []) (text ++ (doti ++ source))
+    → SpellsWords words text → IsToken (codes "DOTI") (length source) doti
+    → IsFront request_format (a ∷ b ∷ word_fields done) (word_fields words ++ record { number = length source; body = source } ∷ [])
+    (text ++ (doti ++ source))
 unfolding word_fields
 words-front a b done [] text doti source count together each fits spelled is_doti =
     let all : length (word_fields done) ≡ b.number = omega (arith, length-word_fields done) in (
@@ -92,8 +102,12 @@ words-front a b done (word ∷ words) text doti source count together each fits 
       spelled.1 ++ (doti ++ source),
       due_word a b (word_fields done) some,
       bodied_field (argv_due (bodies_len (word_fields done))) word spelled.0 refl right spelled.2,
-      ap (λ (x : List ℕ). x ++ (doti ++ source)) spelled.3 ∙ append_assoc spelled.0 (word ++ spelled.1) (doti ++ source) ∙ ap (λ (x : List ℕ). spelled.0 ++ x) (append_assoc word spelled.1 (doti ++ source)) ∙ sym (append_assoc spelled.0 word (spelled.1 ++ (doti ++ source))),
-      subst (λ (fs : List Field). IsFront request_format (a ∷ b ∷ fs) (word_fields words ++ record { number = length source; body = source } ∷ []) (spelled.1 ++ (doti ++ source))) (word_fields-push done word) later,
+      ap (λ (x : List ℕ). x ++ (doti ++ source)) spelled.3 ∙ append_assoc spelled.0 (word ++ spelled.1) (doti ++ source)
+          ∙ ap (λ (x : List ℕ). spelled.0 ++ x) (append_assoc word spelled.1 (doti ++ source))
+          ∙ sym (append_assoc spelled.0 word (spelled.1 ++ (doti ++ source))),
+      subst (λ (fs : List Field). IsFront request_format (a ∷ b ∷ fs)
+          (word_fields words ++ record { number = length source; body = source } ∷ []) (spelled.1 ++ (doti ++ source)))
+          (word_fields-push done word) later,
     )
 
 count_right : (n : ℕ) → 1 ≤ n → n ≤ words_max → count_fault n ≡ None
@@ -117,7 +131,8 @@ spelled-front text q s =
         refl,
         plain_field argc_due n s.argc refl (count_right n s.fits.some s.fits.count) s.is_argc,
         refl,
-        words-front dist_field (argc_field n) [] q.words s.words s.doti q.source (omega arith) (omega (arith, s.fits.words_fit.together)) s.fits.words_fit.each s.fits.source_fits s.are_words s.is_doti,
+        words-front dist_field (argc_field n) [] q.words s.words s.doti q.source (omega arith)
+            (omega (arith, s.fits.words_fit.together)) s.fits.words_fit.each s.fits.source_fits s.are_words s.is_doti,
       ),
     )
 
@@ -198,21 +213,27 @@ front-words a b done (f ∷ fields) text count together r e =
           let push : sum_by length (done ++ f.body ∷ []) ≡ sum_by length done + length f.body = sum_by_push length done f.body in
           let len : length (done ++ f.body ∷ []) ≡ length done + 1 = length-append done (f.body ∷ []) in
           let one : f ≡ record { number = length f.body; body = f.body } = same_field f (length f.body) f.body k refl in
-          let fs : word_fields done ++ f ∷ [] ≡ word_fields (done ++ f.body ∷ []) = ap (λ (g : Field). word_fields done ++ g ∷ []) one ∙ sym (word_fields-push done f.body) in
-          let next : IsFront request_format (a ∷ b ∷ word_fields (done ++ f.body ∷ [])) fields r.2 = subst (λ (gs : List Field). IsFront request_format (a ∷ b ∷ gs) fields r.2) fs r.6 in
+          let fs : word_fields done ++ f ∷ [] ≡ word_fields (done ++ f.body ∷ []) =
+          ap (λ (g : Field). word_fields done ++ g ∷ []) one ∙ sym (word_fields-push done f.body) in
+          let next : IsFront request_format (a ∷ b ∷ word_fields (done ++ f.body ∷ [])) fields r.2 =
+          subst (λ (gs : List Field). IsFront request_format (a ∷ b ∷ gs) fields r.2) fs r.6 in
           let last : request_due (a ∷ b ∷ (word_fields (done ++ f.body ∷ []) ++ fields)) ≡ None =
-          subst (λ (gs : List Field). request_due (a ∷ b ∷ gs) ≡ None) (sym (append_assoc (word_fields done) (f ∷ []) fields) ∙ ap (λ (gs : List Field). gs ++ fields) fs) e in
+          subst (λ (gs : List Field). request_due (a ∷ b ∷ gs) ≡ None) (sym (append_assoc (word_fields done) (f ∷ []) fields)
+          ∙ ap (λ (gs : List Field). gs ++ fields) fs) e in
           let z = front-words a b (done ++ f.body ∷ []) fields r.2 (omega arith) (omega arith) next last in
           record {
             words = f.body ∷ z.words;
             source = z.source;
             spelled = is.token ++ (f.body ++ z.spelled);
             doti = z.doti;
-            fields_are = ap (λ (g : Field). g ∷ fields) one ∙ ap (λ (gs : List Field). record { number = length f.body; body = f.body } ∷ gs) z.fields_are;
+            fields_are = ap (λ (g : Field). g ∷ fields) one
+                ∙ ap (λ (gs : List Field). record { number = length f.body; body = f.body } ∷ gs) z.fields_are;
             are_words = (is.token, z.spelled, token_of due (codes "ARGV") f r.1 refl refl is, refl, z.are_words);
             is_doti = z.is_doti;
-            parts = r.5 ∙ ap (λ (x : List ℕ). x ++ r.2) is.parts ∙ append_assoc is.token f.body r.2 ∙ ap (λ (x : List ℕ). is.token ++ (f.body ++ x)) z.parts
-                ∙ ap (λ (x : List ℕ). is.token ++ x) (sym (append_assoc f.body z.spelled (z.doti ++ z.source))) ∙ sym (append_assoc is.token (f.body ++ z.spelled) (z.doti ++ z.source));
+            parts = r.5 ∙ ap (λ (x : List ℕ). x ++ r.2) is.parts ∙ append_assoc is.token f.body r.2
+                ∙ ap (λ (x : List ℕ). is.token ++ (f.body ++ x)) z.parts
+                ∙ ap (λ (x : List ℕ). is.token ++ x) (sym (append_assoc f.body z.spelled (z.doti ++ z.source)))
+                ∙ sym (append_assoc is.token (f.body ++ z.spelled) (z.doti ++ z.source));
             count = omega (arith, z.count);
             each = All-cons (λ (word : List ℕ). length word ≤ word_max) f.body z.words (subst (λ (m : ℕ). m ≤ word_max) k small) z.each;
             together = omega (arith, z.together, sum_by-cons length f.body z.words);
@@ -221,7 +242,8 @@ front-words a b done (f ∷ fields) text count together r e =
       | inr le ↦ front-last a b done f fields text (omega arith) together r
     ]
 
-pub front-spelled : (fields : List Field) (text : List ℕ) → IsFront request_format [] fields text → request_due fields ≡ None → (q : Request) × SpellsRequest text q × (fields ≡ request_fields q)
+pub front-spelled : (fields : List Field) (text : List ℕ) → IsFront request_format [] fields text → request_due fields ≡ None
+    → (q : Request) × SpellsRequest text q × (fields ≡ request_fields q)
 unfolding request_fields word_fields
 front-spelled [] text r e = absurd cc
 front-spelled (a ∷ []) text r e = absurd cc
@@ -263,7 +285,8 @@ front-spelled (a ∷ b ∷ fields) text r e =
 
 -- ---- the laws
 
-same_word_fields : (xs ys : List (List ℕ)) (s t : List ℕ) → word_fields xs ++ record { number = length s; body = s } ∷ [] ≡ word_fields ys ++ record { number = length t; body = t } ∷ [] → (xs ≡ ys) × (s ≡ t)
+same_word_fields : (xs ys : List (List ℕ)) (s t : List ℕ) → word_fields xs ++ record { number = length s; body = s } ∷ []
+    ≡ word_fields ys ++ record { number = length t; body = t } ∷ [] → (xs ≡ ys) × (s ≡ t)
 unfolding word_fields
 same_word_fields xs ys s t e =
     let words : word_fields xs ≡ word_fields ys = (same_from_push _ _ _ _ e).0 in
@@ -278,12 +301,22 @@ pub same_request : (q p : Request) → request_fields q ≡ request_fields p →
 unfolding request_fields
 same_request q p e =
     let z = same_word_fields q.words p.words q.source p.source (ap (drop 2) e) in
-    ap (λ (x : List (List ℕ)). let r : Request = record { words = x; source = q.source } in r) z.0 ∙ ap (λ (x : List ℕ). let r : Request = record { words = p.words; source = x } in r) z.1
+    ap (λ (x : List (List ℕ)). let r : Request = record { words = x; source = q.source } in r) z.0
+    ∙ ap (λ (x : List ℕ). let r : Request = record { words = p.words; source = x } in r) z.1
 
 pub whole_due : (q : Request) → request_due (request_fields q) ≡ None
 unfolding request_fields
-whole_due q = due_none dist_field (argc_field (length q.words)) (word_fields q.words ++ record { number = length q.source; body = q.source } ∷ [])
+whole_due q = due_none dist_field (argc_field (length q.words))
+    (word_fields q.words ++ record { number = length q.source; body = q.source } ∷ [])
     (omega (arith, length-append (word_fields q.words) (source_field q.source ∷ []), length-word_fields q.words))
 
 abbrev pub request_spelling : Spelling request_format SpellsRequest
-request_spelling = record { four = four_request; fields = request_fields; front = spelled-front; whole_due = whole_due; spelled = front-spelled; same = same_request }
+request_spelling = record {
+  four = four_request;
+  fields = request_fields;
+  front = spelled-front;
+  whole_due = whole_due;
+  spelled =
+      front-spelled;
+  same = same_request;
+}

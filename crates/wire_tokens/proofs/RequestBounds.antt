@@ -1,5 +1,6 @@
 -- How long a short text of a request can be.
-use Rattle.std.proofs.Common.{◌≡◌, ℕ, ◌+◌, ◌*◌, ◌<◌, ◌≤◌, List, [], ◌∷◌, ◌++◌, length, Some, refl, sym, ap, subst, ◌∙◌, append_assoc, arith, inl, inr}
+use Rattle.std.proofs.Common.{◌≡◌, ℕ, ◌+◌, ◌*◌, ◌<◌, ◌≤◌, List, [], ◌∷◌, ◌++◌, length, Some, refl, sym, ap, subst, ◌∙◌, append_assoc}
+use Rattle.std.proofs.Common.{arith, inl, inr}
 use Rattle.std.specs.Prelude.{nat_le}
 use Rattle.std.proofs.lemmas.Bool.{leb-true, cases_lt}
 use Rattle.std.proofs.lemmas.List.{length-append, append-nil}
@@ -7,7 +8,8 @@ use Rattle.std.proofs.lemmas.List.Sums.{sum_by-cons, sum_by_push}
 use Rattle.farm_types.specs.Limits.{word_max, words_bytes_max, words_max, source_max}
 use Rattle.wire_tokens.specs.declared.faults.RequestFault.{RequestFault}
 use Rattle.wire_tokens.specs.Format.{Field, Due, IsFront}
-use Rattle.wire_tokens.specs.Request.{request_format, request_due, dist_due, argc_due, argv_due, doti_due, bodies_len, SpellsRequest, IsShortRequest}
+use Rattle.wire_tokens.specs.Request.{request_format, request_due, dist_due, argc_due, argv_due, doti_due, bodies_len, SpellsRequest}
+use Rattle.wire_tokens.specs.Request.{IsShortRequest}
 use Rattle.wire_tokens.proofs.Readings.{short, Ends, front_of, front_len, fields_len}
 use Rattle.wire_tokens.proofs.Texts.{short-reads}
 use Rattle.wire_tokens.proofs.Fields.{allowed_twice, due_again, plain, bodied}
@@ -37,7 +39,8 @@ words_bound a b done (f ∷ fields) front due count together r e =
           let push : bodies_len (done ++ f ∷ []) ≡ bodies_len done + length f.body = sum_by_push (λ (f : Field). length f.body) done f in
           let len : length (done ++ f ∷ []) ≡ length done + 1 = length-append done (f ∷ []) in
           let same : (done ++ f ∷ []) ++ fields ≡ done ++ f ∷ fields = append_assoc done (f ∷ []) fields in
-          let z = words_bound a b (done ++ f ∷ []) fields r.2 due (omega arith) (omega arith) r.6 (subst (λ (x : List Field). request_due (a ∷ b ∷ x) ≡ Some due) (sym same) e) in
+          let z = words_bound a b (done ++ f ∷ []) fields r.2 due (omega arith) (omega arith) r.6
+          (subst (λ (x : List Field). request_due (a ∷ b ∷ x) ≡ Some due) (sym same) e) in
           subst (λ (x : List Field). (length x ≤ b.number) × (bodies_len x ≤ words_bytes_max)) same z
       | inr le ↦
           let past = due_none a b (done ++ f ∷ fields) (omega (arith, length-append done (f ∷ fields))) in
@@ -45,7 +48,8 @@ words_bound a b done (f ∷ fields) front due count together r e =
           absurd cc
     ]
 
-by_fields : (fields : List Field) (front rest : List ℕ) → IsFront request_format [] fields front → Ends request_format fields rest short → fields_len fields + length rest < 34615332
+by_fields : (fields : List Field) (front rest : List ℕ) → IsFront request_format [] fields front
+    → Ends request_format fields rest short → fields_len fields + length rest < 34615332
 unfolding fields_len
 by_fields [] front rest r e =
     let l = last_len request_format _ e.0 rest 0 e.1 e.2 (λ m ok. omega arith) in

@@ -26,19 +26,23 @@ pub no_longer_spelling : (text more : List ℕ) (q p : Request) → SpellsReques
 no_longer_spelling = texts.no_longer_spelling request_format SpellsRequest request_spelling
 
 -- At most one fault stands in a text.
-pub one_fault : (text : List ℕ) (i j : ℕ) (f g : RequestFault) → RequestFaultStands text i f → RequestFaultStands text j g → (i ≡ j) × (f ≡ g)
+pub one_fault : (text : List ℕ) (i j : ℕ) (f g : RequestFault) → RequestFaultStands text i f → RequestFaultStands text j g
+    → (i ≡ j) × (f ≡ g)
 one_fault = one_standing_fault request_format four_request
 
 -- In a text that begins with a spelling no fault stands.
-pub spelled_or_fault : (text : List ℕ) (used at : ℕ) (q : Request) (fault : RequestFault) → BeginsRequest text used q → RequestFaultStands text at fault → ⊥
+pub spelled_or_fault : (text : List ℕ) (used at : ℕ) (q : Request) (fault : RequestFault) → BeginsRequest text used q
+    → RequestFaultStands text at fault → ⊥
 spelled_or_fault = texts.spelled_or_fault request_format SpellsRequest request_spelling
 
 -- A prefix is a spelling, or a fault stands, or the text is short.
-pub one_of_three : (text : List ℕ) → ((used : ℕ) × (q : Request) × BeginsRequest text used q) ⊎ (((at : ℕ) × (fault : RequestFault) × RequestFaultStands text at fault) ⊎ IsShortRequest text)
+pub one_of_three : (text : List ℕ) → ((used : ℕ) × (q : Request) × BeginsRequest text used q)
+    ⊎ (((at : ℕ) × (fault : RequestFault) × RequestFaultStands text at fault) ⊎ IsShortRequest text)
 one_of_three = texts.one_of_three request_format SpellsRequest request_spelling
 
 -- A fault that stands in a text stands in every longer text, at the same place.
-pub fault_longer : (text more : List ℕ) (at : ℕ) (fault : RequestFault) → RequestFaultStands text at fault → RequestFaultStands (text ++ more) at fault
+pub fault_longer : (text more : List ℕ) (at : ℕ) (fault : RequestFault) → RequestFaultStands text at fault
+    → RequestFaultStands (text ++ more) at fault
 fault_longer = stands-longer request_format four_request
 
 -- A text that begins with a spelling goes on beginning with it.
@@ -50,7 +54,8 @@ pub spelling_begins : (text more : List ℕ) (q : Request) → SpellsRequest tex
 spelling_begins = texts.spells-begins SpellsRequest
 
 -- What is written is read again, whatever follows it.
-pub written_again : (q : Request) (more : List ℕ) → RequestFits q.words q.source → BeginsRequest (request_text q ++ more) (length (request_text q)) q
+pub written_again : (q : Request) (more : List ℕ) → RequestFits q.words q.source
+    → BeginsRequest (request_text q ++ more) (length (request_text q)) q
 written_again q more fits = spelling_begins (request_text q) more q (request_written q fits)
 
 -- The empty text is short.

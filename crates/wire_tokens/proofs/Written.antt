@@ -14,7 +14,14 @@ use Rattle.wire_tokens.specs.Request.{SpellsRequest, SpellsWords, word_text, req
 use Rattle.wire_tokens.proofs.Digits.{length-lower_digits, each-lower_digits, number_of-lower_digits}
 
 low_is : (name : List ℕ) (n : ℕ) → n < 4294967296 → IsToken name n (token name n)
-low_is name n h = record { digits = lower_digits 8 n; spelled = refl; eight = length-lower_digits 8 n; each = each-lower_digits 8 n; value = number_of-lower_digits 8 n h }
+low_is name n h = record {
+  digits = lower_digits 8 n;
+  spelled = refl;
+  eight = length-lower_digits 8 n;
+  each =
+      each-lower_digits 8 n;
+  value = number_of-lower_digits 8 n h;
+}
 
 pub reply_written : (o : Outcome) → OutcomeFits o.status o.err o.out o.object → o.status < 2 ^ 32 → SpellsReply (reply_text o) o
 reply_written o fits status = record {

@@ -3,7 +3,9 @@ use Rattle.std.specs.Prelude.{ℕ}
 use Rattle.wire_tokens.specs.declared.faults.RequestFault.{RequestFault}
 use Rattle.wire_tokens.specs.declared.faults.RequestFault.TheVariants.{WrongName, BadDigit, BadVersion, Count, TooLarge}
 use Rattle.wire_tokens.specs.declared.faults.ReplyFault.{ReplyFault}
-use Rattle.wire_tokens.specs.declared.faults.ReplyFault.TheVariants.{WrongName as ReplyWrongName, BadDigit as ReplyBadDigit, BadVersion as ReplyBadVersion, TooLarge as ReplyTooLarge, ObjectWithFailure}
+use Rattle.wire_tokens.specs.declared.faults.ReplyFault.TheVariants.{WrongName as ReplyWrongName, BadDigit as ReplyBadDigit}
+use Rattle.wire_tokens.specs.declared.faults.ReplyFault.TheVariants.{BadVersion as ReplyBadVersion, TooLarge as ReplyTooLarge}
+use Rattle.wire_tokens.specs.declared.faults.ReplyFault.TheVariants.{ObjectWithFailure}
 
 abbrev pub request_fault_number : RequestFault → ℕ
 request_fault_number WrongName = 1

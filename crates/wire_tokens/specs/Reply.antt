@@ -1,5 +1,6 @@
 -- Which texts spell an outcome, and what is wrong with a text.
-use Rattle.std.specs.Prelude.{ℕ, ◌≡◌, List, [], ◌∷◌, ◌++◌, length, Option, Some, None, nat_le, ◌==◌, ◌||◌, true, false, if◌then◌else◌, codes}
+use Rattle.std.specs.Prelude.{ℕ, ◌≡◌, List, [], ◌∷◌, ◌++◌, length, Option, Some, None, nat_le, ◌==◌, ◌||◌, true, false, if◌then◌else◌}
+use Rattle.std.specs.Prelude.{codes}
 use Rattle.farm_types.specs.Limits.{messages_max, object_max}
 use Rattle.farm_types.specs.declared.ran.Outcome.{Outcome}
 use Rattle.farm_types.specs.Fits.{OutcomeFits}

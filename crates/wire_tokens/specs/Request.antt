@@ -1,5 +1,6 @@
 -- Which texts spell a request, and what is wrong with a text.
-use Rattle.std.specs.Prelude.{ℕ, ◌≡◌, ◌+◌, List, [], ◌∷◌, ◌++◌, length, Option, Some, None, nat_le, nat_lt, ◌==◌, ◌&&◌, true, false, if◌then◌else◌, codes, sum_by}
+use Rattle.std.specs.Prelude.{ℕ, ◌≡◌, ◌+◌, List, [], ◌∷◌, ◌++◌, length, Option, Some, None, nat_le, nat_lt, ◌==◌, ◌&&◌, true, false}
+use Rattle.std.specs.Prelude.{if◌then◌else◌, codes, sum_by}
 use Rattle.std.specs.List.{flat_map}
 use Rattle.farm_types.specs.Limits.{words_max, word_max, words_bytes_max, source_max}
 use Rattle.farm_types.specs.declared.request.Request.{Request}
@@ -15,7 +16,8 @@ use Rattle.wire_tokens.specs.Texts.{Begins, IsShort}
 abbrev pub SpellsWords : List (List ℕ) → List ℕ → Type 0
 SpellsWords [] text = text ≡ []
 SpellsWords (word ∷ words) text =
-    (token : List ℕ) × (rest : List ℕ) × IsToken (codes "ARGV") (length word) token × (text ≡ token ++ (word ++ rest)) × SpellsWords words rest
+    (token : List ℕ) × (rest : List ℕ) × IsToken (codes "ARGV") (length word) token × (text ≡ token ++ (word ++ rest))
+    × SpellsWords words rest
 
 -- text spells the request
 pub record SpellsRequest (text : List ℕ) (q : Request) : Type 0 where
@@ -35,7 +37,8 @@ abbrev pub word_text : List ℕ → List ℕ
 word_text word = token (codes "ARGV") (length word) ++ word
 
 abbrev pub request_text : Request → List ℕ
-request_text q = token (codes "DIST") 1 ++ (token (codes "ARGC") (length q.words) ++ (flat_map word_text q.words ++ (token (codes "DOTI") (length q.source) ++ q.source)))
+request_text q = token (codes "DIST") 1
+    ++ (token (codes "ARGC") (length q.words) ++ (flat_map word_text q.words ++ (token (codes "DOTI") (length q.source) ++ q.source)))
 
 -- what is wrong with a number: of the version, of the count, of a word's length after words of so many bytes, and of the source's length
 abbrev pub version_fault : ℕ → Option RequestFault
@@ -45,7 +48,8 @@ abbrev pub count_fault : ℕ → Option RequestFault
 count_fault n = if nat_le 1 n && nat_le n words_max then None else Some (Count n)
 
 abbrev pub word_fault : ℕ → ℕ → Option RequestFault
-word_fault before n = if nat_le n word_max then (if nat_le (before + n) words_bytes_max then None else Some (TooLarge Words n)) else Some (TooLarge Argv n)
+word_fault before n = if nat_le n word_max then (if nat_le (before + n) words_bytes_max then None else Some (TooLarge Words n)) else
+    Some (TooLarge Argv n)
 
 abbrev pub source_fault : ℕ → Option RequestFault
 source_fault n = if nat_le n source_max then None else Some (TooLarge Doti n)

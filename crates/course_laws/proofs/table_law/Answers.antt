@@ -1,5 +1,5 @@
-use Rattle.course_laws.proofs.Cuts.{memory-law}
-use Rattle.course_laws.proofs.Tables.{table}
+use Rattle.course_laws.proofs.CutsByMemory.{memory-law}
+use Rattle.course_laws.proofs.TablesBack.{table}
 use Rattle.course_laws.proofs.table_law.Goals as goal
 
 pub returns-clause-table : goal.returns-clause-table

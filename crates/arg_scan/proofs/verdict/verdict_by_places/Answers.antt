@@ -7,7 +7,8 @@ pub returns-in-Some : goal.returns-in-Some
 returns-in-Some c =
     let words = c.args.words.now in
     let word_is = get_or_read words c.loop-at.at c.index-words-at.result c.loop-at-test.true c.index-words-at.is [] in
-    let reason = reason_is words c.loop-at.at c.loop-at.owner c.index-words-at.result c.loop-at.seen c.part_of-part.result c.part_of-part.ensures c.loop-at.invariant.0 word_is c.loop-at.invariant.1 in
+    let reason = reason_is words c.loop-at.at c.loop-at.owner c.index-words-at.result c.loop-at.seen c.part_of-part.result
+    c.part_of-part.ensures c.loop-at.invariant.0 word_is c.loop-at.invariant.1 in
     local_is words c.loop-at.at c.in-Some.why c.loop-at-test.true c.loop-at.invariant.2 (sym reason ∙ sym c.reason.ensures ∙ c.in-Some.is)
 
 pub loop-at-preserved : goal.loop-at-preserved
@@ -28,4 +29,5 @@ pub returns : goal.returns
 returns c =
     let words = c.args.words.now in
     c.verdict.ensures
-    ∙ final_is words c.loop-at.at c.loop-at.seen (some_words _ _ c.is_empty.ensures c.if-is_empty.false) (omega arith) c.loop-at.invariant.2 c.loop-at.invariant.1
+    ∙ final_is words c.loop-at.at c.loop-at.seen (some_words _ _ c.is_empty.ensures c.if-is_empty.false) (omega arith)
+    c.loop-at.invariant.2 c.loop-at.invariant.1

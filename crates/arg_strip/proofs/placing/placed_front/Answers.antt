@@ -14,5 +14,6 @@ loop-at-preserved c =
     let part = c.part_of-part.result in
     let part_is = c.part_of-part.ensures in (
       c.owed-owner.ensures ∙ owed_is words at c.loop-at.owner word part part_is c.loop-at.invariant.0 word_is,
-      gathered placed_word words at c.loop-at.owner word part c.loop-at.placed _ c.in_ok-placed_word.field-0 part_is c.loop-at.invariant.0 word_is c.in_ok-placed_word.ensures c.loop-at.invariant.1 c.in_ok-push_some.ensures.ok,
+      gathered placed_word words at c.loop-at.owner word part c.loop-at.placed _ c.in_ok-placed_word.field-0 part_is
+          c.loop-at.invariant.0 word_is c.in_ok-placed_word.ensures c.loop-at.invariant.1 c.in_ok-push_some.ensures.ok,
     )

@@ -17,7 +17,8 @@ of-sent words (Ok sent) Holds is holds = subst Holds (sym is) holds
 of-sent words (Err fault) Holds is holds = tt
 
 pub returns-clause-remote : goal.returns-clause-remote
-returns-clause-remote c = of-sent c.args.words.now c.strip_to.result IsRemote c.strip_to.ensures (stripped_is_remote c.args.words.now c.requires)
+returns-clause-remote c =
+    of-sent c.args.words.now c.strip_to.result IsRemote c.strip_to.ensures (stripped_is_remote c.args.words.now c.requires)
 
 pub returns-clause-same : goal.returns-clause-same
 returns-clause-same c =

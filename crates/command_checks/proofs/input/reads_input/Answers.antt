@@ -13,5 +13,6 @@ loop-at-preserved c =
     let part = c.part_of-part.result in
     let part_is = c.part_of-part.ensures in (
       c.owed-owner.ensures ∙ owed_is words at c.loop-at.owner word part part_is c.loop-at.invariant.0 word_is,
-      reads_is words at c.loop-at.owner word c.loop-at.reads _ c.is_dash-reads.result part part_is c.loop-at.invariant.0 word_is c.is_dash-reads.ensures refl c.loop-at.invariant.1,
+      reads_is words at c.loop-at.owner word c.loop-at.reads _ c.is_dash-reads.result part part_is c.loop-at.invariant.0 word_is
+          c.is_dash-reads.ensures refl c.loop-at.invariant.1,
     )

@@ -11,7 +11,8 @@ pub returns-else-rest-len-clause-exact : goal.returns-else-rest-len-clause-exact
 returns-else-rest-len-clause-exact c =
     let rest : List ℕ = c.args.rest.now in
     let n : ℕ = c.in-Number.n in
-    let scan : scan_of (due_of c.args.part).name rest ≡ Number n = ap (λ (x : List ℕ). scan_of x rest) (sym c.name_of.ensures) ∙ sym c.scan_token.ensures.scan ∙ c.in-Number.is in
+    let scan : scan_of (due_of c.args.part).name rest ≡ Number n = ap (λ (x : List ℕ). scan_of x rest) (sym c.name_of.ensures)
+    ∙ sym c.scan_token.ensures.scan ∙ c.in-Number.is in
     let right : (due_of c.args.part).refused n ≡ None = sym c.refusal.ensures ∙ c.in_default.is in
     let len : c.body_len-len.result ≡ body_len (due_of c.args.part) n = c.body_len-len.ensures in
     let first = c.split_at.ensures.back in

@@ -17,7 +17,8 @@ use Rattle.compile_reply.proofs.decoding.said.Goals as goal
 answer : (text : List ℕ) (r : Result (Outcome × ℕ) (Stopped ReplyFault)) → reply_of text ≡ r → Answers reply_format (Good text) text r
 answer text r e = subst (Answers reply_format (Good text) text) e (decoded text)
 
-says_whole : (text : List ℕ) (o : Outcome) (used : ℕ) (reply : Reply) → BeginsReply text used o → IsWholeUnlessMemory o used reply → Says text reply
+says_whole : (text : List ℕ) (o : Outcome) (used : ℕ) (reply : Reply) → BeginsReply text used o → IsWholeUnlessMemory o used reply
+    → Says text reply
 says_whole text o used (answers.Whole p n) begins is = subst (λ (y : Outcome × ℕ). BeginsReply text y.1 y.0) (cc) begins
 says_whole text o used answers.Short begins is = absurd is
 says_whole text o used (answers.Bad at fault) begins is = absurd is

@@ -13,7 +13,8 @@ loop-done-preserved c =
     record {
       within = omega (arith, s.0, length-drop i c.args.piece.now);
       holds = s.1;
-      placed = λ text g. subst (IsPlaced c.take_some.new.p) (join text c.args.piece.now i c.in-More.taken) (s.2 (text ++ take i c.args.piece.now) (c.loop-done.invariant.placed text g));
+      placed = λ text g. subst (IsPlaced c.take_some.new.p) (join text c.args.piece.now i c.in-More.taken)
+          (s.2 (text ++ take i c.args.piece.now) (c.loop-done.invariant.placed text g));
     }
 
 pub returns-in-Whole-clause-says : goal.returns-in-Whole-clause-says
@@ -21,11 +22,13 @@ returns-in-Whole-clause-says c =
     let s = rw take_rest at c.in-Whole.ensures.says in
     let i : ℕ = c.loop-done.done in (
       omega (arith, s.0, length-drop i c.args.piece.now),
-      λ text g. subst (λ (x : List ℕ). SpellsRequest x c.in-Whole.request) (join text c.args.piece.now i c.in-Whole.taken) (s.1 (text ++ take i c.args.piece.now) (c.loop-done.invariant.placed text g)),
+      λ text g. subst (λ (x : List ℕ). SpellsRequest x c.in-Whole.request) (join text c.args.piece.now i c.in-Whole.taken)
+          (s.1 (text ++ take i c.args.piece.now) (c.loop-done.invariant.placed text g)),
     )
 
 pub returns-in-Bad-clause-says : goal.returns-in-Bad-clause-says
 returns-in-Bad-clause-says c text g =
     let i : ℕ = c.loop-done.done in
     let s = rw take_rest at c.in-Bad.ensures.says in
-    subst (λ (x : List ℕ). Stands request_format x c.in-Bad.at c.in-Bad.fault) (join_all text c.args.piece.now i) (s (text ++ take i c.args.piece.now) (c.loop-done.invariant.placed text g))
+    subst (λ (x : List ℕ). Stands request_format x c.in-Bad.at c.in-Bad.fault) (join_all text c.args.piece.now i)
+    (s (text ++ take i c.args.piece.now) (c.loop-done.invariant.placed text g))

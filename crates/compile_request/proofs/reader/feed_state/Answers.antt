@@ -24,5 +24,6 @@ returns-in-Whole-clause-says c text g =
 
 pub returns-in-Refused-clause-says : goal.returns-in-Refused-clause-says
 returns-in-Refused-clause-says c text g =
-    let there : RequestFaultStands text c.in-Refused.at c.in-Refused.fault = subst (λ (s : State). IsAt (place_of s) text) c.in-Refused.is g in
+    let there : RequestFaultStands text c.in-Refused.at c.in-Refused.fault =
+    subst (λ (s : State). IsAt (place_of s) text) c.in-Refused.is g in
     fault_longer text c.args.piece.now c.in-Refused.at c.in-Refused.fault there

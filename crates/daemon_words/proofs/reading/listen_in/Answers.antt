@@ -7,4 +7,5 @@ use Rattle.daemon_words.proofs.reading.listen_in.Goals as goal
 
 pub returns-in-Some : goal.returns-in-Some
 returns-in-Some c = subst (λ value. GivenBy Listen (option_copied value) c.read_listen.result) (sym c.in-Some.is)
-    (given_read Listen c.in-Some.word.now c.as_bytes.result.now c.read_listen.result c.as_bytes.ensures.value c.read_listen.ensures.found c.read_listen.ensures.none)
+    (given_read Listen c.in-Some.word.now c.as_bytes.result.now c.read_listen.result c.as_bytes.ensures.value
+    c.read_listen.ensures.found c.read_listen.ensures.none)

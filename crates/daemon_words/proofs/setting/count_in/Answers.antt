@@ -3,4 +3,9 @@ use Rattle.daemon_words.proofs.Meaning.{count_none}
 use Rattle.daemon_words.proofs.setting.count_in.Goals as goal
 
 pub returns-clause-count : goal.returns-clause-count
-returns-clause-count c = omega (arith, c.counting.invariant.counted, count_none (string_bytes {Z = Global}) c.args.kind c.counting.rest.now (omega (arith, c.in_default.len_below)))
+returns-clause-count c = omega (
+  arith,
+  c.counting.invariant.counted,
+  count_none (string_bytes {Z = Global}) c.args.kind c.counting.rest.now
+      (omega (arith, c.in_default.len_below)),
+)

@@ -4,7 +4,8 @@ use Rattle.daemon_words.proofs.setting.count_in.Given as goal
 
 abbrev pub invariant-counting : goal.invariant-counting
 invariant-counting l = record {
-  counted : l.count + count_in l.kind (map (string_bytes {Z = Global}) l.rest) ≡ count_in l.kind (map (string_bytes {Z = Global}) l.fn.words);
+  counted : l.count + count_in l.kind (map (string_bytes {Z = Global}) l.rest)
+      ≡ count_in l.kind (map (string_bytes {Z = Global}) l.fn.words);
   few : l.count + length l.rest ≤ length l.fn.words;
 }
 

@@ -3,7 +3,8 @@ use Rattle.daemon_words.specs.Options.{named_in}
 use Rattle.daemon_words.proofs.setting.is_named.Given as goal
 
 abbrev pub invariant-seeking : goal.invariant-seeking
-invariant-seeking l = named_in (map (string_bytes {Z = Global}) l.fn.before) l.name ≡ named_in (map (string_bytes {Z = Global}) l.rest) l.name
+invariant-seeking l = named_in (map (string_bytes {Z = Global}) l.fn.before) l.name
+    ≡ named_in (map (string_bytes {Z = Global}) l.rest) l.name
 
 abbrev pub decreases-seeking : goal.decreases-seeking
 decreases-seeking l = length l.rest

@@ -4,7 +4,8 @@ use Rattle.daemon_words.specs.Tables.{AreRules}
 use Rattle.daemon_words.proofs.tables.rules_of.Given as goal
 
 abbrev pub invariant-gathering : goal.invariant-gathering
-invariant-gathering l = (more : List Rule) → AreRules (map (string_bytes {Z = Global}) l.rest) more → AreRules (map (string_bytes {Z = Global}) l.fn.words) (l.found ++ more)
+invariant-gathering l = (more : List Rule) → AreRules (map (string_bytes {Z = Global}) l.rest) more
+    → AreRules (map (string_bytes {Z = Global}) l.fn.words) (l.found ++ more)
 
 abbrev pub decreases-gathering : goal.decreases-gathering
 decreases-gathering l = length l.rest

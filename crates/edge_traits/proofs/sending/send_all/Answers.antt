@@ -21,7 +21,8 @@ loop-sent-preserved g c =
 
 pub returns-in-Ok-eq0-clause-part : goal.returns-in-Ok-eq0-clause-part
 returns-in-Ok-eq0-clause-part g c =
-    sent_part c.loop-sent.sent c.args.bytes.now c.loop-sent-test.true c.loop-sent.invariant.grew (Grew-by c.in-Ok-eq0.ensures.sent (grind (arith, common_steps)))
+    sent_part c.loop-sent.sent c.args.bytes.now c.loop-sent-test.true c.loop-sent.invariant.grew
+    (Grew-by c.in-Ok-eq0.ensures.sent (grind (arith, common_steps)))
 
 pub returns-in-Err-Failed-clause-part : goal.returns-in-Err-Failed-clause-part
 returns-in-Err-Failed-clause-part g c =

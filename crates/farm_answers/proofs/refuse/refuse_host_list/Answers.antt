@@ -11,4 +11,5 @@ returns g c =
     c.refuse_by.ensures told
     (IfOk-weaker _ _ (λ made. string_bytes made ≡ told) (λ made ok. ok
     ∙ regroup (codes "farm: host list: fault ") (decimal c.number-fault.result) (codes " at byte ") (decimal c.args.at) (codes "\n")
-    ∙ ap (λ n. codes "farm: host list: fault " ++ decimal n ++ codes " at byte " ++ decimal c.args.at ++ codes "\n") c.number-fault.ensures) c.format-text.ensures.ok)
+    ∙ ap (λ n. codes "farm: host list: fault " ++ decimal n ++ codes " at byte " ++ decimal c.args.at ++ codes "\n")
+    c.number-fault.ensures) c.format-text.ensures.ok)

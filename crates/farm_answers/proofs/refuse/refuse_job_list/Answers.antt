@@ -11,4 +11,5 @@ returns g c =
     c.refuse_by.ensures told
     (IfOk-weaker _ _ (λ made. string_bytes made ≡ told) (λ made ok. ok
     ∙ regroup (codes "farm: job list: fault ") (decimal c.number-fault.result) (codes " at line ") (decimal c.args.line) (codes "\n")
-    ∙ ap (λ n. codes "farm: job list: fault " ++ decimal n ++ codes " at line " ++ decimal c.args.line ++ codes "\n") c.number-fault.ensures) c.format-text.ensures.ok)
+    ∙ ap (λ n. codes "farm: job list: fault " ++ decimal n ++ codes " at line " ++ decimal c.args.line ++ codes "\n")
+    c.number-fault.ensures) c.format-text.ensures.ok)

@@ -9,6 +9,9 @@ pub returns : goal.returns
 returns c =
     let text : c.as_bytes.result.now
     ≡ codes "local " ++ decimal (number_of c.args.why) ++ codes " at " ++ decimal c.args.at ++ codes "\n" =
-    c.as_bytes.ensures.value ∙ c.in_ok-line.ensures.ok ∙ regroup (codes "local ") (decimal c.number-why.result) (codes " at ") (decimal c.args.at) (codes "\n")
+    c.as_bytes.ensures.value ∙ c.in_ok-line.ensures.ok ∙ regroup (codes "local ") (decimal c.number-why.result) (codes " at ")
+    (decimal c.args.at) (codes "\n")
     ∙ ap (λ n. codes "local " ++ decimal n ++ codes " at " ++ decimal c.args.at ++ codes "\n") c.number-why.ensures.number in
-    IfOk-weaker c.from_slice.result (λ made. made ≡ c.as_bytes.result.now) (λ line. line ≡ codes "local " ++ decimal (number_of c.args.why) ++ codes " at " ++ decimal c.args.at ++ codes "\n") (λ line is. is ∙ text) c.from_slice.ensures
+    IfOk-weaker c.from_slice.result (λ made. made ≡ c.as_bytes.result.now)
+    (λ line. line ≡ codes "local " ++ decimal (number_of c.args.why) ++ codes " at " ++ decimal c.args.at ++ codes "\n")
+    (λ line is. is ∙ text) c.from_slice.ensures

@@ -5,7 +5,8 @@ use Rattle.farm_cell.proofs.exchanges.exchange.Goals as goal
 
 pub stepped-next-requires-clause-can : goal.stepped-next-requires-clause-can
 stepped-next-requires-clause-can g c =
-    can-call {h = 16} c.args.limits.now (cell_view c.args.seat.now) c.loop.met (cell_view c.loop.seat) c.args.call c.requires.limits c.requires.valid c.requires.single c.requires.may c.loop.invariant.seen
+    can-call {h = 16} c.args.limits.now (cell_view c.args.seat.now) c.loop.met (cell_view c.loop.seat) c.args.call c.requires.limits
+    c.requires.valid c.requires.single c.requires.may c.loop.invariant.seen
 
 pub ask-requires : goal.ask-requires
 ask-requires g c =
@@ -26,13 +27,16 @@ loop-preserved g c =
     let e = c.in-Err.ensures in
     let i = c.loop.invariant in record {
       cell = (e.cell.0 ∙ i.cell.0, e.cell.1 ∙ i.cell.1);
-      seen = looked-again {h = 16} (cell_view c.args.seat.now) c.loop.met (cell_view c.loop.seat) c.in-Err.now (cell_view c.ask.new.seat) i.seen e.err;
+      seen = looked-again {h = 16} (cell_view c.args.seat.now) c.loop.met (cell_view c.loop.seat) c.in-Err.now
+          (cell_view c.ask.new.seat) i.seen e.err;
     }
 
 pub returns-in-Ok-clause-added : goal.returns-in-Ok-clause-added
 returns-in-Ok-clause-added g c =
-    added {h = 16} c.args.limits.now (cell_view c.args.seat.now) c.loop.met (cell_view c.loop.seat) c.args.call c.loop.met (cell_view c.ask.new.seat) c.requires.limits c.requires.single c.loop.invariant.seen c.in-Ok.ensures.ok
+    added {h = 16} c.args.limits.now (cell_view c.args.seat.now) c.loop.met (cell_view c.loop.seat) c.args.call c.loop.met
+    (cell_view c.ask.new.seat) c.requires.limits c.requires.single c.loop.invariant.seen c.in-Ok.ensures.ok
 
 pub returns-in-Ok-clause-can : goal.returns-in-Ok-clause-can
 returns-in-Ok-clause-can g c =
-    can-call {h = 16} c.args.limits.now (cell_view c.args.seat.now) c.loop.met (cell_view c.loop.seat) c.args.call c.requires.limits c.requires.valid c.requires.single c.requires.may c.loop.invariant.seen
+    can-call {h = 16} c.args.limits.now (cell_view c.args.seat.now) c.loop.met (cell_view c.loop.seat) c.args.call c.requires.limits
+    c.requires.valid c.requires.single c.requires.may c.loop.invariant.seen

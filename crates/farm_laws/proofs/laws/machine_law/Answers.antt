@@ -1,4 +1,4 @@
-use Rattle.farm_laws.proofs.Kept.{kept-law, prefix-law, run-law}
+use Rattle.farm_laws.proofs.KeptByAll.{kept-law, prefix-law, run-law}
 use Rattle.farm_laws.proofs.laws.machine_law.Goals as goal
 
 pub returns-clause-kept : goal.returns-clause-kept

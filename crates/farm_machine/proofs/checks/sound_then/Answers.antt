@@ -20,12 +20,15 @@ returns-then-follows-clause-some c =
     let stepped = c.in-Some.ensures.some in
     record {
       sound = sound-more l (unread c.args.reports.now) (wanted l) c.args.before.now c.args.entry.now c.requires.sound
-          (subst (λ s. IsNext l s (outstanding c.args.before.now) c.args.entry.now) c.requires.state stepped.legal) (c.follows.ensures.0 c.if-follows.true);
+          (subst (λ s. IsNext l s (outstanding c.args.before.now) c.args.entry.now) c.requires.state stepped.legal)
+          (c.follows.ensures.0 c.if-follows.true);
       limits = stepped.limits;
-      state = stepped.state ∙ ap (λ s. (slot_step l s c.args.entry.now.call).0) c.requires.state ∙ sym (state_from-append l (opening 16) c.args.before.now (c.args.entry.now ∷ []));
+      state = stepped.state ∙ ap (λ s. (slot_step l s c.args.entry.now.call).0) c.requires.state
+          ∙ sym (state_from-append l (opening 16) c.args.before.now (c.args.entry.now ∷ []));
     }
 
 pub returns-else-follows-clause-none : goal.returns-else-follows-clause-none
 returns-else-follows-clause-none c = λ none sound.
     let l = c.args.slots.now.limits in
-    false≢true (sym c.if-follows.false ∙ c.follows.ensures.1 (sound-follows l (unread c.args.reports.now) (wanted l) c.args.before.now c.args.entry.now sound))
+    false≢true (sym c.if-follows.false
+    ∙ c.follows.ensures.1 (sound-follows l (unread c.args.reports.now) (wanted l) c.args.before.now c.args.entry.now sound))

@@ -5,7 +5,10 @@ use Rattle.farm_machine.specs.Acts.{SlotEvent, Takes, Gives, GivesBad, FindsDown
 use Rattle.farm_machine.specs.Checking.{event_of}
 use Rattle.farm_machine.proofs.following.is_slot_event.Goals as goal
 
-written : (event : Event) → ((x : ℕ) × (event ≡ Took x)) ⊎ (((x : ℕ) × (event ≡ Gave x)) ⊎ (((x : ℕ) × (y : ℕ) × (event ≡ GaveBad x y)) ⊎ ((event ≡ Down) ⊎ ((event ≡ TookLocal) ⊎ (event ≡ GaveLocal))))) → (x : SlotEvent) × (event ≡ event_of x)
+written : (event : Event) → ((x : ℕ) × (event ≡ Took x))
+    ⊎ (((x : ℕ) × (event ≡ Gave x))
+    ⊎ (((x : ℕ) × (y : ℕ) × (event ≡ GaveBad x y)) ⊎ ((event ≡ Down) ⊎ ((event ≡ TookLocal) ⊎ (event ≡ GaveLocal)))))
+    → (x : SlotEvent) × (event ≡ event_of x)
 written event (inl h) = (Takes h.0, h.1)
 written event (inr (inl h)) = (Gives h.0, h.1)
 written event (inr (inr (inl h))) = (GivesBad h.0 h.1, h.2)

@@ -15,10 +15,12 @@ pub returns-then-contains-took : goal.returns-then-contains-took
 returns-then-contains-took c = λ r.
     let past = (last_progress (no_progress r) c.args.before.now).past c.args.job in
     c.loop-host.invariant r ∙ all-miss (is_as_wanted past c.args.mask) c.loop-host.host c.args.limits.now.count c.loop-host-test.true
-    (unwanted (took c.loop-host.host past) (in_mask c.args.mask c.loop-host.host) (both _ _ _ _ true c.contains.ensures (c.took.ensures r) c.if-contains-took.true))
+    (unwanted (took c.loop-host.host past) (in_mask c.args.mask c.loop-host.host)
+    (both _ _ _ _ true c.contains.ensures (c.took.ensures r) c.if-contains-took.true))
 
 pub loop-host-preserved : goal.loop-host-preserved
 loop-host-preserved c = λ r.
     let past = (last_progress (no_progress r) c.args.before.now).past c.args.job in
     c.loop-host.invariant r ∙ all-hit (is_as_wanted past c.args.mask) c.loop-host.host c.args.limits.now.count c.loop-host-test.true
-    (as-wanted (took c.loop-host.host past) (in_mask c.args.mask c.loop-host.host) (both _ _ _ _ false c.contains.ensures (c.took.ensures r) c.if-contains-took.false))
+    (as-wanted (took c.loop-host.host past) (in_mask c.args.mask c.loop-host.host)
+    (both _ _ _ _ false c.contains.ensures (c.took.ensures r) c.if-contains-took.false))

@@ -21,4 +21,6 @@ returns-in-Some c =
 pub returns-in-None : goal.returns-in-None
 returns-in-None c =
     let r = unread c.args.reports.now in
-    sym (ap (λ acts. option_map event_of (next_met acts)) (rest-empty (no_progress r) c.args.before.now c.args.job (sym (ap (λ (o : Option Report). map Met (slots_at o)) c.in-None.ensures))))
+    sym (ap (λ acts. option_map event_of (next_met acts))
+    (rest-empty (no_progress r) c.args.before.now c.args.job
+    (sym (ap (λ (o : Option Report). map Met (slots_at o)) c.in-None.ensures))))

@@ -8,5 +8,6 @@ step-requires c =
     let l = c.args.slots.now.limits in (
       omega arith,
       subst (λ s. CanStep l s c.args.entry.now.call) (sym c.requires.state)
-          (can-step l c.args.before.now c.args.entry.now.caller c.args.entry.now.call c.args.slots.now.valid.entries c.requires.legal (sym c.may_call.ensures ∙ c.if-not-may_call.false)),
+          (can-step l c.args.before.now c.args.entry.now.caller c.args.entry.now.call c.args.slots.now.valid.entries
+          c.requires.legal (sym c.may_call.ensures ∙ c.if-not-may_call.false)),
     )

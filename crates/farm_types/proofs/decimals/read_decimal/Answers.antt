@@ -7,7 +7,8 @@ use Rattle.farm_types.proofs.decimals.read_decimal.Goals as goal
 pub returns-then-not-is_ascii_digit-clause-none : goal.returns-then-not-is_ascii_digit-clause-none
 returns-then-not-is_ascii_digit-clause-none c n number =
     let small = digit_at c.args.text.now c.loop-digit.digit-index (omega arith) number.each in
-    let large = no_digit (get_or c.args.text.now c.loop-digit.digit-index 0) (sym c.is_ascii_digit.ensures.value ∙ c.if-not-is_ascii_digit.true) in
+    let large = no_digit (get_or c.args.text.now c.loop-digit.digit-index 0)
+    (sym c.is_ascii_digit.ensures.value ∙ c.if-not-is_ascii_digit.true) in
     omega arith
 
 pub overflow_mul-n : goal.overflow_mul-n

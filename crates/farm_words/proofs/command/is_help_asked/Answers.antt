@@ -7,4 +7,5 @@ returns-in-None c = nothing_asked (string_bytes {Z = Global}) c.args.name c.args
 
 pub returns-in-Some : goal.returns-in-Some
 returns-in-Some c =
-    c.is_help_word.ensures ∙ first_asked (string_bytes {Z = Global}) c.args.words.now c.in-Some.word.now c.in-Some.more.now c.as_str.result.now c.in-Some.ensures.cases.0 c.as_str.ensures.value c.args.name
+    c.is_help_word.ensures ∙ first_asked (string_bytes {Z = Global}) c.args.words.now c.in-Some.word.now c.in-Some.more.now
+    c.as_str.result.now c.in-Some.ensures.cases.0 c.as_str.ensures.value c.args.name

@@ -7,4 +7,5 @@ returns-in-None c = nothing_counted (string_bytes {Z = Global}) c.args.words.now
 
 pub returns-in-Some : goal.returns-in-Some
 returns-in-Some c =
-    c.with_jobs.ensures ∙ first_counted (string_bytes {Z = Global}) c.args.words.now c.in-Some.word.now c.in-Some.field-0-1.now c.as_str.result.now c.in-Some.ensures.cases.0 c.as_str.ensures.value
+    c.with_jobs.ensures ∙ first_counted (string_bytes {Z = Global}) c.args.words.now c.in-Some.word.now c.in-Some.field-0-1.now
+    c.as_str.result.now c.in-Some.ensures.cases.0 c.as_str.ensures.value

@@ -11,7 +11,8 @@ returns-clause-meant c = record {
   limit = c.in_ok-parts.parts.limit;
   parts = drop c.name_reach-reach.result c.args.word.now;
   spelled = sym (take-append-drop c.name_reach-reach.result c.args.word.now);
-  named = subst (λ n. IsHostName (take n c.args.word.now)) (sym c.name_reach-reach.ensures.reach) (name_front c.args.word.now (sym c.is_name_end.ensures ∙ c.if-not-is_name_end.false));
+  named = subst (λ n. IsHostName (take n c.args.word.now)) (sym c.name_reach-reach.ensures.reach)
+      (name_front c.args.word.now (sym c.is_name_end.ensures ∙ c.if-not-is_name_end.false));
   behind = c.in_ok-parts.ensures.parts;
   meant = c.in_ok-make_host.ensures;
 }

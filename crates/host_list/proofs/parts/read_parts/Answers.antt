@@ -33,7 +33,8 @@ loop-at-preserved c =
     let at : ℕ = c.loop-at.at in
     let end : ℕ = c.part_end-end.result in
     let more = range_more word from at end c.loop-at.invariant.low (omega arith) c.part_end-end.ensures.high in
-    let added = adds c.loop-at.parts c.in-Ok.more (get_or word at 0) (take (end - (at + 1)) (drop (at + 1) word)) (take (at - from) (drop from word)) c.in-Ok.ensures.adds c.loop-at.invariant.right in
+    let added = adds c.loop-at.parts c.in-Ok.more (get_or word at 0) (take (end - (at + 1)) (drop (at + 1) word))
+    (take (at - from) (drop from word)) c.in-Ok.ensures.adds c.loop-at.invariant.right in
     record {
       low = omega arith;
       high = c.part_end-end.ensures.high;

@@ -8,5 +8,7 @@ use Rattle.host_list.proofs.printing.print.Goals as goal
 pub returns-clause-again : goal.returns-clause-again
 returns-clause-again c h =
     let lines = take_all c.loop-host.host-index c.as_slice-host-items.result.now (omega arith) in
-    let text : c.put_options.new.text ≡ printed_hosts c.args.hosts.now = c.in_ok-put_options.ensures ∙ ap (λ t. t ++ options_text c.args.hosts.now) (c.loop-host.invariant ∙ ap (flat_map host_line) (lines ∙ c.as_slice-host-items.ensures)) in
+    let text : c.put_options.new.text ≡ printed_hosts c.args.hosts.now = c.in_ok-put_options.ensures
+    ∙ ap (λ t. t ++ options_text c.args.hosts.now)
+    (c.loop-host.invariant ∙ ap (flat_map host_line) (lines ∙ c.as_slice-host-items.ensures)) in
     subst (λ t. HostListOf t c.args.hosts.now) (sym text) (print_again c.args.hosts.now h)

@@ -6,5 +6,6 @@ pub loop-at-preserved-then-text-at-eq35 : goal.loop-at-preserved-then-text-at-eq
 loop-at-preserved-then-text-at-eq35 c = record {
   low = omega arith;
   high = c.line_end-at.ensures.high;
-  same = c.loop-at.invariant.same ∙ comment_at c.args.text.now c.loop-at.at c.line_end-at.result c.if-text-at-eq35.true (omega arith) c.line_end-at.ensures.high c.line_end-at.ensures.plain c.line_end-at.ensures.ends;
+  same = c.loop-at.invariant.same ∙ comment_at c.args.text.now c.loop-at.at c.line_end-at.result c.if-text-at-eq35.true
+      (omega arith) c.line_end-at.ensures.high c.line_end-at.ensures.plain c.line_end-at.ensures.ends;
 }

@@ -12,4 +12,6 @@ returns-in_err-listed-clause-fault c =
 
 pub returns-then-is_empty-clause-fault : goal.returns-then-is_empty-clause-fault
 returns-then-is_empty-clause-fault c =
-    text_empty c.args.text.now c.in_ok-listed.listed.jobs (omega arith) c.in_ok-listed.ensures.jobs (let e : (length c.in_ok-listed.listed.jobs == 0) ≡ true = sym c.is_empty.ensures ∙ c.if-is_empty.true in eqb-true (length c.in_ok-listed.listed.jobs) 0 e)
+    text_empty c.args.text.now c.in_ok-listed.listed.jobs (omega arith) c.in_ok-listed.ensures.jobs
+    (let e : (length c.in_ok-listed.listed.jobs == 0) ≡ true = sym c.is_empty.ensures ∙ c.if-is_empty.true in
+    eqb-true (length c.in_ok-listed.listed.jobs) 0 e)

@@ -11,7 +11,8 @@ check_outputs-requires-clause-numbers c =
 pub returns-clause-list : goal.returns-clause-list
 returns-clause-list c =
     let e = c.in_ok-listed.ensures in
-    list_answer c.check_outputs.result c.args.text.now c.in_ok-listed.listed e.short e.jobs e.some e.few c.check_outputs.ensures.jobs c.check_outputs.ensures.apart
+    list_answer c.check_outputs.result c.args.text.now c.in_ok-listed.listed e.short e.jobs e.some e.few
+    c.check_outputs.ensures.jobs c.check_outputs.ensures.apart
 
 pub returns-clause-fault : goal.returns-clause-fault
 returns-clause-fault c =

@@ -19,10 +19,13 @@ returns-clause-unbroken g c = λ cause is.
     let old = c.args.dialer in
     let before = g.B.Before.station in
     let now = station_of g.S.Station.shows once.dialer in
-    let adds = subst (λ (answer : Attempt). AttemptAdds (DialerGives g.S.Station.ran once.dialer) q host answer (dialer_shows (dialer_state old)).exchanges (dialer_shows (dialer_state once.dialer)).exchanges) is c.attempt-answer.ensures.adds in
-    let next : IsNext g.B.Before.exchanges once.dialer.exchanges adds.entry = adds.grew.grew refl ∙ ap (λ (list : List Exchange). list ++ adds.entry ∷ []) (sym c.requires.exchanges) in
+    let adds = subst (λ (answer : Attempt). AttemptAdds (DialerGives g.S.Station.ran once.dialer) q host answer
+    (dialer_shows (dialer_state old)).exchanges (dialer_shows (dialer_state once.dialer)).exchanges) is c.attempt-answer.ensures.adds in
+    let next : IsNext g.B.Before.exchanges once.dialer.exchanges adds.entry =
+    adds.grew.grew refl ∙ ap (λ (list : List Exchange). list ++ adds.entry ∷ []) (sym c.requires.exchanges) in
     let result = unbroken held.table.rows (g.S.Station.ran held.station) q host adds.entry g.B.Before.there before now c.requires.fits
-    (once.faultless adds.entry next) (once.unstopped adds.entry next) (once.away adds.entry next) (once.rose adds.entry next) (adds.may refl) cause adds.is.0 in
+    (once.faultless adds.entry next) (once.unstopped adds.entry next) (once.away adds.entry next) (once.rose adds.entry next)
+    (adds.may refl) cause adds.is.0 in
     subst (λ (s : StationView). (is_some old.held ≡ false) ⊎ StationRose s now) c.requires.station
     (subst (λ (there : Bool). (there ≡ false) ⊎ StationRose before now) c.requires.there result)
 

@@ -20,5 +20,6 @@ returns-clause-says c =
     let none = uncounted p.part p.body p.given p.left c.requires.in_body c.requires.kept b.kept in
     let more = ok_gives c.try_extend.result (sym c.is_err.ensures.value ∙ c.if-is_err.false) c.try_extend.ensures.ok in
     finished keeps p mid c.finish.new.p c.args.piece.now taken c.finish.result (omega arith)
-    (λ text object g. placed_more p mid (take taken c.args.piece.now) refl (ap (λ (x : List ℕ). p.token ++ x) more ∙ sym (append_assoc p.token p.body (take taken c.args.piece.now))) none none text object g)
+    (λ text object g. placed_more p mid (take taken c.args.piece.now) refl
+    (ap (λ (x : List ℕ). p.token ++ x) more ∙ sym (append_assoc p.token p.body (take taken c.args.piece.now))) none none text object g)
     c.finish.ensures.finishes

@@ -12,8 +12,10 @@ returns-clause-says c =
     let mid : Partial = record p { left = p.left - taken; given = p.given + taken } in
     let m = c.min-taken.ensures in
     finished (hands c.args.piece.now) p mid c.finish.new.p c.args.piece.now taken c.finish.result (omega arith)
-    (λ text object g. object_more p mid (take taken c.args.piece.now) refl refl (omega (arith, length-take taken c.args.piece.now)) text object g)
+    (λ text object g. object_more p mid (take taken c.args.piece.now) refl refl (omega (arith, length-take taken c.args.piece.now))
+    text object g)
     c.finish.ensures.finishes
 
 pub returns-clause-all : goal.returns-clause-all
-returns-clause-all c = no_more_turns c.args.piece.now c.args.p.now.part c.args.p.now.left c.finish.result c.requires.at_object c.finish.ensures.goes_on
+returns-clause-all c = no_more_turns c.args.piece.now c.args.p.now.part c.args.p.now.left c.finish.result c.requires.at_object
+    c.finish.ensures.goes_on

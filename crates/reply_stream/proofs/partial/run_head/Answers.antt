@@ -14,7 +14,9 @@ loop-done-preserved c =
     record {
       within = omega (arith, s.0, length-drop i c.args.piece.now);
       holds = s.1;
-      placed = λ text object g. subst (λ (x : List ℕ). IsPlaced c.take_some.new.p x object) (join text c.args.piece.now i c.in-More.taken) (s.2 (text ++ take i c.args.piece.now) object (c.loop-done.invariant.placed text object g));
+      placed = λ text object g. subst (λ (x : List ℕ). IsPlaced c.take_some.new.p x object)
+          (join text c.args.piece.now i c.in-More.taken)
+          (s.2 (text ++ take i c.args.piece.now) object (c.loop-done.invariant.placed text object g));
     }
 
 pub returns-in-Whole-clause-says : goal.returns-in-Whole-clause-says
@@ -23,11 +25,14 @@ returns-in-Whole-clause-says c =
     let i : ℕ = c.loop-done.done in (
       omega (arith, s.0, length-drop i c.args.piece.now),
       s.1,
-      λ text object g. subst (λ (x : List ℕ). SpellsReply x (with_object c.in-Whole.outcome object)) (join text c.args.piece.now i c.in-Whole.taken) (s.2 (text ++ take i c.args.piece.now) object (c.loop-done.invariant.placed text object g)),
+      λ text object g. subst (λ (x : List ℕ). SpellsReply x (with_object c.in-Whole.outcome object))
+          (join text c.args.piece.now i c.in-Whole.taken)
+          (s.2 (text ++ take i c.args.piece.now) object (c.loop-done.invariant.placed text object g)),
     )
 
 pub returns-in-Bad-clause-says : goal.returns-in-Bad-clause-says
 returns-in-Bad-clause-says c text object g =
     let i : ℕ = c.loop-done.done in
     let s = rw take_rest at c.in-Bad.ensures.says in
-    subst (λ (x : List ℕ). Stands reply_format x c.in-Bad.at c.in-Bad.fault) (join_all text c.args.piece.now i) (s (text ++ take i c.args.piece.now) object (c.loop-done.invariant.placed text object g))
+    subst (λ (x : List ℕ). Stands reply_format x c.in-Bad.at c.in-Bad.fault) (join_all text c.args.piece.now i)
+    (s (text ++ take i c.args.piece.now) object (c.loop-done.invariant.placed text object g))

@@ -19,11 +19,13 @@ pub returns-in-Whole-clause-says : goal.returns-in-Whole-clause-says
 returns-in-Whole-clause-says c text object g =
     let r = c.in-Whole.ensures in
     let there : IsPlaced c.in-Reading.partial text object = subst (λ (s : State). IsAt (place_of s) text object) c.in-Reading.is g in
-    spelled_begins text c.args.piece.now c.in-Whole.used (with_object c.in-Whole.outcome (object ++ spanned c.in-Whole.object c.args.piece.now)) r.0 (r.3 text object there)
+    spelled_begins text c.args.piece.now c.in-Whole.used
+    (with_object c.in-Whole.outcome (object ++ spanned c.in-Whole.object c.args.piece.now)) r.0 (r.3 text object there)
 
 pub returns-in-Refused-clause-says : goal.returns-in-Refused-clause-says
 returns-in-Refused-clause-says c text object g =
-    let there : ReplyFaultStands text c.in-Refused.at c.in-Refused.fault = subst (λ (s : State). IsAt (place_of s) text object) c.in-Refused.is g in
+    let there : ReplyFaultStands text c.in-Refused.at c.in-Refused.fault =
+    subst (λ (s : State). IsAt (place_of s) text object) c.in-Refused.is g in
     fault_longer text c.args.piece.now c.in-Refused.at c.in-Refused.fault there
 
 pub returns-in-More-clause-leaves : goal.returns-in-More-clause-leaves

@@ -13,7 +13,8 @@ returns-then-not-is_word_served-clause-first c =
     let word_is = get_or_read words at word c.loop-at-test.true c.index-words-at.is Output in
     let served = served_is words at c.loop-at.operand word c.loop-at.invariant.0 word_is in
     let more : (length words - (at + 1)) + (at + 1) ≡ length words = omega (arith, c.loop-at-test.true) in
-    sym (stays words at (length words - (at + 1)) (sym served ∙ sym c.is_word_served.ensures ∙ c.if-not-is_word_served.true) c.loop-at.invariant.1) ∙ ap (unserved_below words) more
+    sym (stays words at (length words - (at + 1)) (sym served ∙ sym c.is_word_served.ensures ∙ c.if-not-is_word_served.true)
+    c.loop-at.invariant.1) ∙ ap (unserved_below words) more
 
 pub loop-at-preserved : goal.loop-at-preserved
 loop-at-preserved c =

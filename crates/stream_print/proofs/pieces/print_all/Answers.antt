@@ -16,7 +16,8 @@ pub loop-piece-preserved : goal.loop-piece-preserved
 loop-piece-preserved g c =
     let i = c.loop-piece.piece-index in
     record {
-      printed = subst (λ ps. Printed (sinks_view g.O.Sink.shows g.E.Sink.shows c.args.out.now c.args.err.now) (sinks_view g.O.Sink.shows g.E.Sink.shows c.print_piece.new.out c.print_piece.new.err) ps)
+      printed = subst (λ ps. Printed (sinks_view g.O.Sink.shows g.E.Sink.shows c.args.out.now c.args.err.now)
+          (sinks_view g.O.Sink.shows g.E.Sink.shows c.print_piece.new.out c.print_piece.new.err) ps)
           (take_more c.args.pieces.now i c.piece-item.result c.loop-piece-test.true c.piece-item.is)
           (Printed-join c.loop-piece.invariant.printed c.in_ok-print_piece.ensures.all);
       goes_on = goes-join c.loop-piece.invariant.goes_on c.in_ok-print_piece.ensures.goes_on;

@@ -14,8 +14,10 @@ loop-i-preserved c =
     let k : 8 - i ≡ suc (8 - (i + 1)) = omega arith in
     let at : (11 - i) + 1 ≡ 12 - i = omega arith in
     let here : 12 - (i + 1) ≡ 11 - i = omega arith in
-    let one : lower_digits (8 - i) n ++ drop (12 - i) room ≡ lower_digits (8 - (i + 1)) (n / 16) ++ (lower_digit (n % 16) ∷ drop (12 - i) room) = rw k (lower_digits-more (8 - (i + 1)) n (drop (12 - i) room)) in
-    let set_one : drop (12 - (i + 1)) (slice_set room (11 - i) v) ≡ lower_digit (n % 16) ∷ drop (12 - i) room = rw (here, drop-set room (11 - i) v (omega arith), at, c.lower_digit_of.ensures) refl in
+    let one : lower_digits (8 - i) n ++ drop (12 - i) room ≡ lower_digits (8 - (i + 1)) (n / 16)
+    ++ (lower_digit (n % 16) ∷ drop (12 - i) room) = rw k (lower_digits-more (8 - (i + 1)) n (drop (12 - i) room)) in
+    let set_one : drop (12 - (i + 1)) (slice_set room (11 - i) v) ≡ lower_digit (n % 16) ∷ drop (12 - i) room =
+    rw (here, drop-set room (11 - i) v (omega arith), at, c.lower_digit_of.ensures) refl in
     record {
       digits = c.loop-i.invariant.digits ∙ one ∙ ap (λ (x : List ℕ). lower_digits (8 - (i + 1)) (n / 16) ++ x) (sym set_one);
       named = take-set-le 4 room (11 - i) v (omega arith) ∙ c.loop-i.invariant.named;

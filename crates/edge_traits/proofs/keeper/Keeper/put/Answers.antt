@@ -8,41 +8,66 @@ use Rattle.edge_traits.proofs.keeper.Keeper.put.Goals as goal
 pub commit-requires : goal.commit-requires
 commit-requires g c =
     let b = c.in_ok-begin.ensures in
-    let mid : Prepared (g.Self.Keeper.shows c.args.self.now) (g.Self.Keeper.shows c.if-not-is_empty.self) c.args.path.now c.args.bytes.now = elim c.if-not-is_empty.branch [
+    let mid : Prepared (g.Self.Keeper.shows c.args.self.now) (g.Self.Keeper.shows c.if-not-is_empty.self) c.args.path.now
+    c.args.bytes.now = elim c.if-not-is_empty.branch [
       | then-not-is_empty+in_ok-add w ↦
           let a = w.in_ok-add.ensures in
-          subst (λ self. Prepared (g.Self.Keeper.shows c.args.self.now) (g.Self.Keeper.shows self) c.args.path.now c.args.bytes.now) (sym w.self-is)
-          (prepared-more (g.Self.Keeper.shows c.args.self.now) (g.Self.Keeper.shows c.begin.new.self) (g.Self.Keeper.shows w.add.new.self) c.args.path.now c.args.bytes.now (prepared-none (g.Self.Keeper.shows c.args.self.now) (g.Self.Keeper.shows c.begin.new.self) c.args.path.now [] refl b.begun b.files b.puts) (a.added c.args.path.now [] b.begun) a.files a.puts)
+          subst (λ self. Prepared (g.Self.Keeper.shows c.args.self.now) (g.Self.Keeper.shows self) c.args.path.now c.args.bytes.now)
+          (sym w.self-is)
+          (prepared-more (g.Self.Keeper.shows c.args.self.now) (g.Self.Keeper.shows c.begin.new.self)
+          (g.Self.Keeper.shows w.add.new.self) c.args.path.now c.args.bytes.now
+          (prepared-none (g.Self.Keeper.shows c.args.self.now) (g.Self.Keeper.shows c.begin.new.self) c.args.path.now [] refl
+          b.begun b.files b.puts) (a.added c.args.path.now [] b.begun) a.files a.puts)
       | else-not-is_empty w ↦
-          subst (λ self. Prepared (g.Self.Keeper.shows c.args.self.now) (g.Self.Keeper.shows self) c.args.path.now c.args.bytes.now) (sym w.self-is)
-          (prepared-none (g.Self.Keeper.shows c.args.self.now) (g.Self.Keeper.shows c.begin.new.self) c.args.path.now c.args.bytes.now (nil_from_length c.args.bytes.now (grind (arith, common_steps))) b.begun b.files b.puts)
+          subst (λ self. Prepared (g.Self.Keeper.shows c.args.self.now) (g.Self.Keeper.shows self) c.args.path.now c.args.bytes.now)
+          (sym w.self-is)
+          (prepared-none (g.Self.Keeper.shows c.args.self.now) (g.Self.Keeper.shows c.begin.new.self) c.args.path.now
+          c.args.bytes.now (nil_from_length c.args.bytes.now (grind (arith, common_steps))) b.begun b.files b.puts)
     ] in
     record { pending = is-there (g.Self.Keeper.shows c.if-not-is_empty.self) c.args.path.now c.args.bytes.now mid.pending }
 
 pub returns-clause-files : goal.returns-clause-files
 returns-clause-files g c =
     let b = c.in_ok-begin.ensures in
-    let mid : Prepared (g.Self.Keeper.shows c.args.self.now) (g.Self.Keeper.shows c.if-not-is_empty.self) c.args.path.now c.args.bytes.now = elim c.if-not-is_empty.branch [
+    let mid : Prepared (g.Self.Keeper.shows c.args.self.now) (g.Self.Keeper.shows c.if-not-is_empty.self) c.args.path.now
+    c.args.bytes.now = elim c.if-not-is_empty.branch [
       | then-not-is_empty+in_ok-add w ↦
           let a = w.in_ok-add.ensures in
-          subst (λ self. Prepared (g.Self.Keeper.shows c.args.self.now) (g.Self.Keeper.shows self) c.args.path.now c.args.bytes.now) (sym w.self-is)
-          (prepared-more (g.Self.Keeper.shows c.args.self.now) (g.Self.Keeper.shows c.begin.new.self) (g.Self.Keeper.shows w.add.new.self) c.args.path.now c.args.bytes.now (prepared-none (g.Self.Keeper.shows c.args.self.now) (g.Self.Keeper.shows c.begin.new.self) c.args.path.now [] refl b.begun b.files b.puts) (a.added c.args.path.now [] b.begun) a.files a.puts)
+          subst (λ self. Prepared (g.Self.Keeper.shows c.args.self.now) (g.Self.Keeper.shows self) c.args.path.now c.args.bytes.now)
+          (sym w.self-is)
+          (prepared-more (g.Self.Keeper.shows c.args.self.now) (g.Self.Keeper.shows c.begin.new.self)
+          (g.Self.Keeper.shows w.add.new.self) c.args.path.now c.args.bytes.now
+          (prepared-none (g.Self.Keeper.shows c.args.self.now) (g.Self.Keeper.shows c.begin.new.self) c.args.path.now [] refl
+          b.begun b.files b.puts) (a.added c.args.path.now [] b.begun) a.files a.puts)
       | else-not-is_empty w ↦
-          subst (λ self. Prepared (g.Self.Keeper.shows c.args.self.now) (g.Self.Keeper.shows self) c.args.path.now c.args.bytes.now) (sym w.self-is)
-          (prepared-none (g.Self.Keeper.shows c.args.self.now) (g.Self.Keeper.shows c.begin.new.self) c.args.path.now c.args.bytes.now (nil_from_length c.args.bytes.now (grind (arith, common_steps))) b.begun b.files b.puts)
+          subst (λ self. Prepared (g.Self.Keeper.shows c.args.self.now) (g.Self.Keeper.shows self) c.args.path.now c.args.bytes.now)
+          (sym w.self-is)
+          (prepared-none (g.Self.Keeper.shows c.args.self.now) (g.Self.Keeper.shows c.begin.new.self) c.args.path.now
+          c.args.bytes.now (nil_from_length c.args.bytes.now (grind (arith, common_steps))) b.begun b.files b.puts)
     ] in
-    committed-files (g.Self.Keeper.shows c.args.self.now) (g.Self.Keeper.shows c.if-not-is_empty.self) (g.Self.Keeper.shows c.commit.new.self) c.args.path.now c.args.bytes.now c.commit.result mid (c.commit.ensures.files c.args.path.now c.args.bytes.now mid.pending)
+    committed-files (g.Self.Keeper.shows c.args.self.now) (g.Self.Keeper.shows c.if-not-is_empty.self)
+    (g.Self.Keeper.shows c.commit.new.self) c.args.path.now c.args.bytes.now c.commit.result mid
+    (c.commit.ensures.files c.args.path.now c.args.bytes.now mid.pending)
 
 pub returns-clause-puts : goal.returns-clause-puts
 returns-clause-puts g c =
     let b = c.in_ok-begin.ensures in
-    let mid : Prepared (g.Self.Keeper.shows c.args.self.now) (g.Self.Keeper.shows c.if-not-is_empty.self) c.args.path.now c.args.bytes.now = elim c.if-not-is_empty.branch [
+    let mid : Prepared (g.Self.Keeper.shows c.args.self.now) (g.Self.Keeper.shows c.if-not-is_empty.self) c.args.path.now
+    c.args.bytes.now = elim c.if-not-is_empty.branch [
       | then-not-is_empty+in_ok-add w ↦
           let a = w.in_ok-add.ensures in
-          subst (λ self. Prepared (g.Self.Keeper.shows c.args.self.now) (g.Self.Keeper.shows self) c.args.path.now c.args.bytes.now) (sym w.self-is)
-          (prepared-more (g.Self.Keeper.shows c.args.self.now) (g.Self.Keeper.shows c.begin.new.self) (g.Self.Keeper.shows w.add.new.self) c.args.path.now c.args.bytes.now (prepared-none (g.Self.Keeper.shows c.args.self.now) (g.Self.Keeper.shows c.begin.new.self) c.args.path.now [] refl b.begun b.files b.puts) (a.added c.args.path.now [] b.begun) a.files a.puts)
+          subst (λ self. Prepared (g.Self.Keeper.shows c.args.self.now) (g.Self.Keeper.shows self) c.args.path.now c.args.bytes.now)
+          (sym w.self-is)
+          (prepared-more (g.Self.Keeper.shows c.args.self.now) (g.Self.Keeper.shows c.begin.new.self)
+          (g.Self.Keeper.shows w.add.new.self) c.args.path.now c.args.bytes.now
+          (prepared-none (g.Self.Keeper.shows c.args.self.now) (g.Self.Keeper.shows c.begin.new.self) c.args.path.now [] refl
+          b.begun b.files b.puts) (a.added c.args.path.now [] b.begun) a.files a.puts)
       | else-not-is_empty w ↦
-          subst (λ self. Prepared (g.Self.Keeper.shows c.args.self.now) (g.Self.Keeper.shows self) c.args.path.now c.args.bytes.now) (sym w.self-is)
-          (prepared-none (g.Self.Keeper.shows c.args.self.now) (g.Self.Keeper.shows c.begin.new.self) c.args.path.now c.args.bytes.now (nil_from_length c.args.bytes.now (grind (arith, common_steps))) b.begun b.files b.puts)
+          subst (λ self. Prepared (g.Self.Keeper.shows c.args.self.now) (g.Self.Keeper.shows self) c.args.path.now c.args.bytes.now)
+          (sym w.self-is)
+          (prepared-none (g.Self.Keeper.shows c.args.self.now) (g.Self.Keeper.shows c.begin.new.self) c.args.path.now
+          c.args.bytes.now (nil_from_length c.args.bytes.now (grind (arith, common_steps))) b.begun b.files b.puts)
     ] in
-    committed-puts (g.Self.Keeper.shows c.args.self.now) (g.Self.Keeper.shows c.if-not-is_empty.self) (g.Self.Keeper.shows c.commit.new.self) c.args.path.now c.args.bytes.now c.commit.result mid (c.commit.ensures.puts c.args.path.now c.args.bytes.now mid.pending)
+    committed-puts (g.Self.Keeper.shows c.args.self.now) (g.Self.Keeper.shows c.if-not-is_empty.self)
+    (g.Self.Keeper.shows c.commit.new.self) c.args.path.now c.args.bytes.now c.commit.result mid
+    (c.commit.ensures.puts c.args.path.now c.args.bytes.now mid.pending)

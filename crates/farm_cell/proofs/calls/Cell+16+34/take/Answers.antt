@@ -18,7 +18,9 @@ returns-clause-out g c =
     let call = Take c.args.job c.args.mask c.args.now in
     let made = c.meet-slots.ensures.made in
     let reply : (slot_step (limits_of c.args.self.now) s call).1 ≡ reply_of c.take.result =
-    ap (λ (k : Limits 16). (slot_step k s call).1) (sym c.meet-slots.ensures.limits) ∙ ap (λ (r : SlotState 16 × SlotReply). r.1) c.take.ensures.step in
+    ap (λ (k : Limits 16). (slot_step k s call).1) (sym c.meet-slots.ensures.limits)
+    ∙ ap (λ (r : SlotState 16 × SlotReply). r.1) c.take.ensures.step in
     let grant = subst (λ n. IsGrantFor n c.args.job c.take.result) c.meet-slots.ensures.number c.take.ensures.grant in
     subst (λ n. IsOutstanding n (outstanding (mine_of q)) c.take.result) (sym c.meet-slots.ensures.number)
-    (is-outstanding c.take.result (number_of p) c.args.job c.args.mask c.args.now (mine_of p) (mine_of q) grant (made.mine ∙ ap (λ (r : SlotReply). mine_of p ++ entry (number_of p) call r ∷ []) reply))
+    (is-outstanding c.take.result (number_of p) c.args.job c.args.mask c.args.now (mine_of p) (mine_of q) grant
+    (made.mine ∙ ap (λ (r : SlotReply). mine_of p ++ entry (number_of p) call r ∷ []) reply))

@@ -19,7 +19,9 @@ returns-clause-out g c =
     let call = TakeLocal c.args.job in
     let made = c.meet-slots.ensures.made in
     let reply : (slot_step (limits_of c.args.self.now) s call).1 ≡ Local (is_some c.take_local.result) =
-    ap (λ (k : Limits 16). (slot_step k s call).1) (sym c.meet-slots.ensures.limits) ∙ ap (λ (r : SlotState 16 × SlotReply). r.1) c.take_local.ensures.step in
+    ap (λ (k : Limits 16). (slot_step k s call).1) (sym c.meet-slots.ensures.limits)
+    ∙ ap (λ (r : SlotState 16 × SlotReply). r.1) c.take_local.ensures.step in
     let grant = subst (λ n. IsLocalGrantFor n c.args.job c.take_local.result) c.meet-slots.ensures.number c.take_local.ensures.grant in
     subst (λ n. IsLocalOutstanding n (outstanding (mine_of q)) c.take_local.result) (sym c.meet-slots.ensures.number)
-    (is-local_outstanding c.take_local.result (number_of p) c.args.job (mine_of p) (mine_of q) grant (made.mine ∙ ap (λ (r : SlotReply). mine_of p ++ entry (number_of p) call r ∷ []) reply))
+    (is-local_outstanding c.take_local.result (number_of p) c.args.job (mine_of p) (mine_of q) grant
+    (made.mine ∙ ap (λ (r : SlotReply). mine_of p ++ entry (number_of p) call r ∷ []) reply))

@@ -9,4 +9,5 @@ returns c =
     ∙ ap (λ files. remove files c.args.path.now) c.self.view_is
 
 pub invariant_of-self : goal.invariant_of-self
-invariant_of-self c = once_left _ c.args.path.now _ (λ file b f' called. search rules) c.self.inside.stored.items _ c.retain.ensures.filtered c.self.invariant
+invariant_of-self c = once_left _ c.args.path.now _ (λ file b f' called. search rules) c.self.inside.stored.items _
+    c.retain.ensures.filtered c.self.invariant

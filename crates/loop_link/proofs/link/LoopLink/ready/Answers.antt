@@ -10,5 +10,6 @@ returns-in-Ok-clause-holds g c = λ holds.
       faults = omega (arith, holds.faults, c.in-Ok.ensures.faults);
       overruns = omega (arith, holds.overruns, c.in-Ok.ensures.overruns);
       serves = λ served. holds_served link.held.table.rows (g.S.Station.ran c.serve.new.station) link.sent c.in-Ok.reply c.len-self.result
-          (shows link.dialed.value) (shows link.held.station) (shows c.serve.new.station) c.len-self.ensures holds.faults holds.overruns c.in-Ok.ensures.faults c.in-Ok.ensures.overruns c.in-Ok.ensures.serves;
+          (shows link.dialed.value) (shows link.held.station) (shows c.serve.new.station) c.len-self.ensures holds.faults
+          holds.overruns c.in-Ok.ensures.faults c.in-Ok.ensures.overruns c.in-Ok.ensures.serves;
     }

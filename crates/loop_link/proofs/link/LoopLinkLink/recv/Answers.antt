@@ -20,4 +20,5 @@ returns-else-count-eq0-clause-given g c =
     let link = c.ready.new.self in
     let fits : link.at + c.min-count.result ≤ length link.reply = grind (arith, common_steps, link.within) in
     let more = Grew-read link.reply c.put_front.new.room link.at c.min-count.result _ fits (search rules) c.put_front.ensures in
-    subst (λ before. Grew (told before) (told (take (link.at + c.min-count.result) link.reply)) (take c.min-count.result c.put_front.new.room)) c.ready.ensures.given more
+    subst (λ before. Grew (told before) (told (take (link.at + c.min-count.result) link.reply))
+    (take c.min-count.result c.put_front.new.room)) c.ready.ensures.given more

@@ -15,12 +15,16 @@ invariant_of-self g c =
     let link = c.args.link in
     let view = loop_shows (loop_state link) in
     let now = shows link.held.station in
-    let more : c.hang_up.new.self.exchanges ≡ c.args.self.now.dialer.exchanges ++ hung view ∷ [] = ap (λ s. s.exchanges) c.hang_up.ensures.state in
-    let same : (x : Exchange) → IsNext g.B.Before.exchanges c.hang_up.new.self.exchanges x → x ≡ hung view = λ x next. one_entry g.B.Before.exchanges c.args.self.now.dialer.exchanges c.hang_up.new.self.exchanges x (hung view) more next in
+    let more : c.hang_up.new.self.exchanges ≡ c.args.self.now.dialer.exchanges ++ hung view ∷ [] =
+    ap (λ s. s.exchanges) c.hang_up.ensures.state in
+    let same : (x : Exchange) → IsNext g.B.Before.exchanges c.hang_up.new.self.exchanges x → x ≡ hung view =
+    λ x next. one_entry g.B.Before.exchanges c.args.self.now.dialer.exchanges c.hang_up.new.self.exchanges x (hung view) more next in
     let held = c.hang_up.ensures.held in
     record {
-      faults = subst (λ (h : Held g.row.S.Denot). before.faults ≤ (shows h.station).faults) (sym held) (omega (arith, c.requires.faults, c.requires.holds.faults));
-      overruns = subst (λ (h : Held g.row.S.Denot). before.overruns ≤ (shows h.station).overruns) (sym held) (omega (arith, c.requires.overruns, c.requires.holds.overruns));
+      faults = subst (λ (h : Held g.row.S.Denot). before.faults ≤ (shows h.station).faults) (sym held)
+          (omega (arith, c.requires.faults, c.requires.holds.faults));
+      overruns = subst (λ (h : Held g.row.S.Denot). before.overruns ≤ (shows h.station).overruns) (sym held)
+          (omega (arith, c.requires.overruns, c.requires.holds.overruns));
       there = λ unused. absurd (cc (c.requires.once, unused));
       unused = λ unused. absurd (cc (c.requires.once, unused));
       faultless = λ x next. ap (λ (e : Exchange). e.faults) (same x next);
@@ -30,10 +34,16 @@ invariant_of-self g c =
       rose = λ x next none.
           let is = same x next in
           let end : link.ended ≡ true = sym (ap (λ (e : Exchange). e.ended) is) ∙ none.ended in
-          let all : take link.seen link.sent ≡ link.sent = all_seen link.served link.closes link.ended link.seen link.at link.sent link.reply c.requires.closes end link.empty link.all in
+          let all : take link.seen link.sent ≡ link.sent =
+          all_seen link.served link.closes link.ended link.seen link.at link.sent link.reply c.requires.closes end link.empty
+          link.all in
           subst (λ (h : Held g.row.S.Denot). station_rose before (shows h.station) ≡ true) (sym held)
-          (unanswered_rose link.held.table.rows (g.S.Station.ran link.held.station) link.sent (take link.at link.reply) x before (shows link.dialed.value) now c.requires.faults c.requires.overruns
+          (unanswered_rose link.held.table.rows (g.S.Station.ran link.held.station) link.sent (take link.at link.reply) x before
+          (shows link.dialed.value) now c.requires.faults c.requires.overruns
           (ap (λ (e : Exchange). e.sent) is) (ap (λ (e : Exchange). e.given) is) none
-          (subst (λ (sent : List ℕ). Serves link.held.table.rows (g.S.Station.ran link.held.station) sent (shows link.dialed.value) now (take link.at link.reply)) all
-          (subst (λ (h : Held g.row.S.Denot). Serves link.held.table.rows (g.S.Station.ran link.held.station) (take link.seen link.sent) (shows link.dialed.value) (shows h.station) (take link.at link.reply)) held (c.hang_up.ensures.whole end))));
+          (subst (λ (sent : List ℕ). Serves link.held.table.rows (g.S.Station.ran link.held.station) sent (shows link.dialed.value)
+          now (take link.at link.reply)) all
+          (subst (λ (h : Held g.row.S.Denot). Serves link.held.table.rows (g.S.Station.ran link.held.station)
+          (take link.seen link.sent) (shows link.dialed.value) (shows h.station) (take link.at link.reply)) held
+          (c.hang_up.ensures.whole end))));
     }

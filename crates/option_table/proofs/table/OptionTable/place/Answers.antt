@@ -14,16 +14,22 @@ returns-in-Some-clause-place g c =
     (ap is_table (sym c.self.view_is) ∙ c.self.invariant.table)
     (ap (λ (rows : List OptionRow). equal_at rows c.args.word.now c.in-Some.place) (sym c.self.view_is) ∙ c.in-Some.ensures)).0
 
-longest : (g : Given.Over) (c : goal.After-longest_place g) → (c.longest_place.result ≡ place_of c.args.self.now c.args.word.now) × IfSome c.longest_place.result (λ at. at < length c.args.self.now) × (IsNone c.longest_place.result → list_all (fits_not c.args.word.now) c.args.self.now ≡ true)
+longest : (g : Given.Over) (c : goal.After-longest_place g) → (c.longest_place.result ≡ place_of c.args.self.now c.args.word.now)
+    × IfSome c.longest_place.result (λ at. at < length c.args.self.now)
+    × (IsNone c.longest_place.result → list_all (fits_not c.args.word.now) c.args.self.now ≡ true)
 longest g c =
     let rows = c.args.self.now in
     let word = c.args.word.now in
-    let span : IsSpan rows (slice_index word 1) c.span-places.result.now = subst (λ letter. IsSpan rows letter c.span-places.result.now) c.second_byte.ensures c.span-places.ensures in
+    let span : IsSpan rows (slice_index word 1) c.span-places.result.now =
+    subst (λ letter. IsSpan rows letter c.span-places.result.now) c.second_byte.ensures c.span-places.ensures in
     found_longest rows word c.span-places.result.now c.longest_place.result
     (ap is_table (sym c.self.view_is) ∙ c.self.invariant.table)
     span
-    (none_equal rows word c.span-places.result.now span (λ k below. ap (λ (inside : List OptionRow). equal_at inside word (slice_index c.span-places.result.now k)) (sym c.self.view_is) ∙ c.in-None.ensures k below))
-    (subst (λ (inside : List OptionRow). IsLongestIn inside word c.span-places.result.now (length c.span-places.result.now) c.longest_place.result) c.self.view_is c.longest_place.ensures)
+    (none_equal rows word c.span-places.result.now span
+    (λ k below. ap (λ (inside : List OptionRow). equal_at inside word (slice_index c.span-places.result.now k))
+    (sym c.self.view_is) ∙ c.in-None.ensures k below))
+    (subst (λ (inside : List OptionRow). IsLongestIn inside word c.span-places.result.now (length c.span-places.result.now)
+    c.longest_place.result) c.self.view_is c.longest_place.ensures)
 
 pub returns-in-None-clause-place : goal.returns-in-None-clause-place
 returns-in-None-clause-place g c = (longest g c).0

@@ -5,8 +5,16 @@ use Rattle.slot_table.proofs.Keeping.{kept-more, kept-can, stored}
 use Rattle.slot_table.proofs.one_thread.OneThreadGrants.give.Goals as goal
 
 pub give-requires : goal.give-requires
-give-requires g c = (search rules, kept-can _ _ _ (Give c.args.grant.host c.args.grant.job) c.self.inside.slots.valid c.self.invariant.0 (stored c.self.inside.slots.limits 0 (Give c.args.grant.host c.args.grant.job) _ _ c.self.view_is c.requires.out))
+give-requires g c = (
+  search rules,
+  kept-can _ _ _ (Give c.args.grant.host c.args.grant.job) c.self.inside.slots.valid
+      c.self.invariant.0 (stored c.self.inside.slots.limits 0 (Give c.args.grant.host c.args.grant.job) _ _ c.self.view_is c.requires.out),
+)
 
 pub invariant_of-self : goal.invariant_of-self
-invariant_of-self g c =
-    (kept-more _ _ _ _ _ _ (Give c.args.grant.host c.args.grant.job) Given c.self.invariant.0 (stored c.self.inside.slots.limits 0 (Give c.args.grant.host c.args.grant.job) _ _ c.self.view_is c.requires.out) c.give.ensures.limits c.give.ensures.step c.note.ensures.calls, omega arith)
+invariant_of-self g c = (
+  kept-more _ _ _ _ _ _ (Give c.args.grant.host c.args.grant.job) Given c.self.invariant.0
+      (stored c.self.inside.slots.limits 0 (Give c.args.grant.host c.args.grant.job) _ _ c.self.view_is c.requires.out)
+      c.give.ensures.limits c.give.ensures.step c.note.ensures.calls,
+  omega arith,
+)
