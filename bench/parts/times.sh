@@ -32,3 +32,10 @@ file_by_farm() { "$FARM" cc gcc -c "$1.c" -o "$1.o"; }
 
 # list_by_farm LIST HOSTS WORKERS: builds a job list
 list_by_farm() { "$FARM" build --hosts "$2" --workers "$3" --no-fallback <"$1" >/dev/null; }
+
+# record: from here on, what is printed goes into a file of the folder FIGURES too, where it names one, but for the lines of single rounds
+record() {
+  [ -z "${FIGURES:-}" ] && return
+  exec > >(tee >(grep -v '^round ' >"$TOP/$FIGURES/$(basename "$0").txt"))
+  echo "$(nproc) processors, $(date +%F)"
+}

@@ -5,16 +5,13 @@ two compilers run at once of which one takes its output away.
 """
 import os
 import random
-import re
-import resource
 import shutil
-import signal
 import subprocess
 import tempfile
 import time
 
 from checks import expect, verdict, write, write_program
-from farm import FARM, content, job, leftovers, make_folder, start_farm
+from farm import FARM, content, file_limit, job, leftovers, make_folder, remove_leftovers, start_farm
 from peaks import Peak
 from wire import read_request, reply_head, start_host
 
@@ -66,10 +63,7 @@ def killed_in_a_put(folder, times):
         child.stdout.read()
         child.wait()
         expect("a killed farm leaves the output old or whole", whole_or_old(folder, ("o", 4)))
-        left += len(leftovers(folder))
-        for name in leftovers(folder):
-            expect("what is left has a name of its own", re.fullmatch(r"farm-\d+-\d+\.farm~", name), name)
-            os.remove(f"{folder}/{name}")
+        left += remove_leftovers(folder)
     status, text, _ = run(folder, job("large.c", "x.o"))
     expect("a run after killed ones", status == 0 and content(f"{folder}/x.o") == ("L", 30 * MIB), text)
     print(f"killed {times} times: {left} files were left")
@@ -87,12 +81,8 @@ def two_at_once(folder, times):
 
 
 def large_above_a_limit(folder):
-    def limit():
-        signal.signal(signal.SIGXFSZ, signal.SIG_IGN)
-        resource.setrlimit(resource.RLIMIT_FSIZE, (MIB, MIB))
-
     write(f"{folder}/x.o", "oooo")
-    status, text, _ = run(folder, job("large.c", "x.o"), preexec_fn=limit)
+    status, text, _ = run(folder, job("large.c", "x.o"), preexec_fn=file_limit(MIB))
     expect("a file-size limit", status == 107 and text.startswith("x.o: cannot be written: File too large") and "1 failed put\n" in text, (status, text))
     expect("a file-size limit leaves the output", content(f"{folder}/x.o") == ("o", 4) and not leftovers(folder))
 

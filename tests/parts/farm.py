@@ -1,8 +1,11 @@
 """Runs of farm for the checks, and what they leave. FARM names the program."""
 import os
+import re
+import resource
+import signal
 import subprocess
 
-from checks import write, write_program
+from checks import expect, write, write_program
 
 FARM = os.environ["FARM"]
 
@@ -27,6 +30,25 @@ def content(path):
 
 def leftovers(folder):
     return [name for name in os.listdir(folder) if name.endswith(".farm~")]
+
+
+def remove_leftovers(folder):
+    """Removes what a killed farm left, and gives the number of these files."""
+    left = leftovers(folder)
+    for name in left:
+        expect("what is left has a name of its own", re.fullmatch(r"farm-\d+-\d+\.farm~", name), name)
+        os.remove(f"{folder}/{name}")
+    return len(left)
+
+
+def file_limit(most):
+    """What a child has to call first so that none of its files grows above so many bytes."""
+
+    def limit():
+        signal.signal(signal.SIGXFSZ, signal.SIG_IGN)
+        resource.setrlimit(resource.RLIMIT_FSIZE, (most, most))
+
+    return limit
 
 
 def start_farm(folder, jobs, port, *words, **more):

@@ -4,8 +4,6 @@ A source is a number and a letter, as `65536 B`: its object has so many bytes of
 """
 import os
 import random
-import re
-import resource
 import shutil
 import signal
 import socket
@@ -16,7 +14,7 @@ import threading
 import time
 
 from checks import expect, verdict, write
-from farm import FARM, content, job, leftovers, make_folder, run_farm, start_farm
+from farm import FARM, content, file_limit, job, leftovers, make_folder, remove_leftovers, run_farm, start_farm
 from wire import read_request, reply_head, start_host
 
 PAGE = 4096
@@ -106,12 +104,8 @@ def full_disk(folder):
 def limited(folder):
     """A file may grow to each number of bytes."""
     for most in [*range(0, SIZE, 1021), SIZE - 1, SIZE]:
-        def limit():
-            signal.signal(signal.SIGXFSZ, signal.SIG_IGN)
-            resource.setrlimit(resource.RLIMIT_FSIZE, (most, most))
-
         write(f"{folder}/x.o", "oooo")
-        not_put(f"a limit of {most} bytes", folder, run_farm(folder, job("x.i", "x.o"), PORT, "--no-fallback", preexec_fn=limit), most == SIZE)
+        not_put(f"a limit of {most} bytes", folder, run_farm(folder, job("x.i", "x.o"), PORT, "--no-fallback", preexec_fn=file_limit(most)), most == SIZE)
 
 
 def unwritable(folder):
@@ -173,10 +167,7 @@ def killed(folder):
             seen = content(f"{folder}/k{number}.o")
             expect("a killed farm leaves each output old or whole", seen in (("o", 4), ("N", MIB)), (number, seen))
             whole += seen == ("N", MIB)
-        left += len(leftovers(folder))
-        for name in leftovers(folder):
-            expect("what is left has a name of its own", re.fullmatch(r"farm-\d+-\d+\.farm~", name), name)
-            os.remove(f"{folder}/{name}")
+        left += remove_leftovers(folder)
     status, text = run_farm(folder, jobs, PORT, "--workers", "4", "--no-fallback")
     expect("a run after killed ones", status == 0 and all(content(f"{folder}/k{number}.o") == ("N", MIB) for number in range(JOBS)), text)
     print(f"killed {KILLS} times in {length:.2f} s: {whole} objects were whole, {left} files were left")
