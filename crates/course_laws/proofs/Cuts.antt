@@ -92,11 +92,11 @@ pub record Goes (j : Job) (b : At) : Type 0 where
   pub from : From j b (next ∷ rest) end
 
 -- the same, by no act at all
-record Fins (j : Job) (b : At) : Type 0 where
-  acts : List Act
-  end : End
-  whole : end ≢ Failed Memory
-  from : From j b acts end
+pub record Fins (j : Job) (b : At) : Type 0 where
+  pub acts : List Act
+  pub end : End
+  pub whole : end ≢ Failed Memory
+  pub from : From j b acts end
 
 pub fin-finish : (j : Job) (by : By) (note : List ℕ) (o : Outcome) → Fins j (Finish by note o)
 fin-finish j by note o =
@@ -269,24 +269,24 @@ goes-start j = go (may_be_sent j) refl (is_source_ready j) refl
     }
 
 -- where a job stops for want of memory
-record Plain (j : Job) (at : At) (acts : List Act) : Type 0 where
-  front : List Act
-  place : At
-  reach : Reach j at front place
-  goes : Goes j place
-  is : acts ≡ front ++ gives_back (has_out place)
+pub record Plain (j : Job) (at : At) (acts : List Act) : Type 0 where
+  pub front : List Act
+  pub place : At
+  pub reach : Reach j at front place
+  pub goes : Goes j place
+  pub is : acts ≡ front ++ gives_back (has_out place)
 
-record Exch (j : Job) (at : At) (acts : List Act) : Type 0 where
-  front : List Act
-  host : ℕ
-  source : List ℕ
-  note : List ℕ
-  tried : List Tried
-  x : Exchange
-  reach : Reach j at front (Lent host source note tried)
-  remote : is_local_host j host ≡ false
-  begun : IsBegunWith j x source host
-  is : acts ≡ front ++ Did (exchanged x) ∷ Met (Gives host) ∷ []
+pub record Exch (j : Job) (at : At) (acts : List Act) : Type 0 where
+  pub front : List Act
+  pub host : ℕ
+  pub source : List ℕ
+  pub note : List ℕ
+  pub tried : List Tried
+  pub x : Exchange
+  pub reach : Reach j at front (Lent host source note tried)
+  pub remote : is_local_host j host ≡ false
+  pub begun : IsBegunWith j x source host
+  pub is : acts ≡ front ++ Did (exchanged x) ∷ Met (Gives host) ∷ []
 
 abbrev pub Stops : Job → At → List Act → Type 0
 Stops j at acts = Plain j at acts ⊎ Exch j at acts

@@ -231,10 +231,10 @@ begun-inside f l o w j v acts kept begun = elim (cases_lt j w.slots.next) [
 -- what a call keeps, and that it is legal
 pub record Called {h : ℕ} (l : Limits h) (jobs : ℕ → Job) (o : List Holding) (w : FarmState h) (s : SlotState h) (v : ℕ)
     (a : JobCall) : Type 0 where
-  matched : IsMatched a
-  is_out : IsOut v o (effect a)
-  remote : IsRemoteCall l a
-  kept : Kept (farm_of l jobs) l (changed v o (effect a)) (record { slots = s; jobs = jobs_after w.jobs v a })
+  pub matched : IsMatched a
+  pub is_out : IsOut v o (effect a)
+  pub remote : IsRemoteCall l a
+  pub kept : Kept (farm_of l jobs) l (changed v o (effect a)) (record { slots = s; jobs = jobs_after w.jobs v a })
 
 pub called : {h : ℕ} (l : Limits h) (jobs : ℕ → Job) → IsOf l jobs
     → (o : List Holding) (w : FarmState h) (s : SlotState h) (v : ℕ) (a : JobCall) → Kept (farm_of l jobs) l o w
