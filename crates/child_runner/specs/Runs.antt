@@ -1,6 +1,6 @@
 -- What a run of one job asks of a station, and what it leaves.
 use Rattle.std.specs.Prelude.{◌≡◌, ℕ, false, List, map}
-use Rattle.farm_types.specs.Limits.{object_max, preprocessed_max, child_err_max, compile_out_max, in_place_out_max}
+use Rattle.farm_types.specs.Limits.{object_max, preprocessed_max, child_err_max, in_place_out_max}
 use Rattle.farm_types.specs.declared.placed.Word.{Word}
 use Rattle.farm_types.specs.declared.placed.Word.TheVariants.{Text}
 use Rattle.edge_traits.specs.declared.faults.Bounds.{Bounds}
@@ -19,10 +19,6 @@ IsUnpreprocessed other = ⊥
 -- the most bytes of what a preprocessor gives
 abbrev pub preprocessor_bounds : Bounds
 preprocessor_bounds = record { out = preprocessed_max; err = child_err_max; object = object_max }
-
--- the most bytes of what a compile gives
-abbrev pub compile_bounds : Bounds
-compile_bounds = record { out = compile_out_max; err = child_err_max; object = object_max }
 
 -- the most bytes of what a command in place gives
 abbrev pub in_place_bounds : Bounds

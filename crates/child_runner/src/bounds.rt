@@ -3,20 +3,11 @@ ghost use Rattle.std.specs.Prelude.{◌≡◌};
 ghost use Rattle.child_runner.specs.Runs;
 
 use edge_traits::Bounds;
-use farm_types::limits::{
-    CHILD_ERR_MAX, COMPILE_OUT_MAX, IN_PLACE_OUT_MAX, OBJECT_MAX, PREPROCESSED_MAX,
-};
+use farm_types::limits::{CHILD_ERR_MAX, IN_PLACE_OUT_MAX, OBJECT_MAX, PREPROCESSED_MAX};
 
 /// Of a preprocessor.
 pub(crate) const PREPROCESSOR: Bounds = Bounds {
     out: PREPROCESSED_MAX,
-    err: CHILD_ERR_MAX,
-    object: OBJECT_MAX as u32,
-};
-
-/// Of a compile.
-pub(crate) const COMPILE: Bounds = Bounds {
-    out: COMPILE_OUT_MAX,
     err: CHILD_ERR_MAX,
     object: OBJECT_MAX as u32,
 };

@@ -1,14 +1,14 @@
 ghost use Rattle.std.specs.Prelude.{◌≡◌, ◌<◌, ◌≤◌, [], length, IfOk, IfErr, OnOk};
 ghost use Rattle.edge_traits.specs.Told.{Grew, SameRelation3};
-ghost use Rattle.edge_traits.specs.Stations.{IsWithin, run_entries, StationStill, RunFault};
+ghost use Rattle.edge_traits.specs.Stations.{IsWithin, run_entries, StationStill, RunFault, compile_bounds};
 ghost use Rattle.arg_scan.specs.Class.{IsRemote, class_of};
 ghost use Rattle.arg_strip.specs.Words.{preprocessing_words, placed_words};
 ghost use Rattle.child_runner.specs.Runs;
 
-use crate::bounds::{COMPILE, IN_PLACE, PREPROCESSOR};
+use crate::bounds::{IN_PLACE, PREPROCESSOR};
 use crate::texts::texts;
 use arg_strip::{cpp_words, placed};
-use edge_traits::{Station, StationFault};
+use edge_traits::{COMPILE_BOUNDS, Station, StationFault};
 use farm_types::{Bytes, Ran, Words};
 use std::alloc::Global;
 
@@ -53,9 +53,9 @@ pub fn compile<S: Station>(
     requires remote { IsRemote words.now }
     ensures runs { Grew (S.shows station.old).runs (S.shows station.new).runs (run_entries (placed_words words.now) source.now result) }
     ensures ran { IfOk result (S.ran station.new (placed_words words.now) source.now) }
-    ensures within { IfOk result (IsWithin Runs.compile_bounds) }
+    ensures within { IfOk result (IsWithin compile_bounds) }
     ensures done { OnOk result (StationStill (S.shows station.old) (S.shows station.new)) }
-    ensures cause { IfErr result (RunFault Runs.compile_bounds (S.shows station.old) (S.shows station.new)) }
+    ensures cause { IfErr result (RunFault compile_bounds (S.shows station.old) (S.shows station.new)) }
 
     // What it may answer is the same, and its counts don't fall.
     ensures same { SameRelation3 (S.ran station.old) (S.ran station.new) }
@@ -63,7 +63,7 @@ pub fn compile<S: Station>(
     ensures overruns { (S.shows station.old).overruns ≤ (S.shows station.new).overruns }
 {
     let words = placed(alloc, words)?;
-    station.run(alloc, words.as_slice(), source.as_slice(), &COMPILE)
+    station.run(alloc, words.as_slice(), source.as_slice(), &COMPILE_BOUNDS)
 }
 
 /// Runs a whole command as it stands, for a job that isn't sent.

@@ -1,4 +1,5 @@
 ghost use Rattle.std.specs.Prelude.{◌≡◌, ◌<◌, ◌≤◌, length, false, IfOk};
+ghost use Rattle.farm_types.specs.Limits.{piece_max};
 ghost use Rattle.farm_types.specs.declared.request.Request.{Request};
 ghost use Rattle.farm_types.specs.declared.hosts.Host.{Host};
 ghost use Rattle.farm_types.specs.Fits.{RequestFits};
@@ -17,11 +18,9 @@ use crate::landing::receive_into;
 use crate::receiving::receive_reply;
 use compile_request::encode;
 use edge_traits::{Cause, Dialer, EdgeFault, Keeper, Link, send_all};
+use farm_types::limits::PIECE_MAX;
 use farm_types::{Bytes, Host, Outcome, Request};
 use std::alloc::{AllocError, Global};
-
-/// The bytes that one receive has room for.
-const ROOM: usize = 65_536;
 
 // Sends the text of a request and receives the reply, over a link on which nothing has happened yet.
 fn converse<L: Link>(
@@ -32,7 +31,7 @@ fn converse<L: Link>(
 ) -> Result<Outcome, Stop>
     requires new { IsNew (L.shows link.old) }
     requires room { 0 < length room.old }
-    requires small { length room.old ≤ 65536 }
+    requires small { length room.old ≤ piece_max }
     ensures passed { (q : Request) (h : Host) → IsFor q h text.now (L.shows link.old)
         → Passed (L.shows link.old) (L.shows link.new) (λ x. ExchangeIs q h (Answers.answer_of result) x × EndsBy (Answers.answer_of result) x) }
     ensures follows { L.follows link.old link.new }
@@ -55,16 +54,16 @@ fn answer_of(talked: Result<Outcome, Stop>) -> Attempt
 fn prepare(alloc: Global, request: &Request) -> Result<(Bytes, Vec<u8>), AllocError>
     requires { RequestFits request.now.words request.now.source }
     ensures text { IfOk result (λ made. made.0 ≡ request_text request.now) }
-    ensures room { IfOk result (λ made. length made.1.items ≡ 65536) }
+    ensures room { IfOk result (λ made. length made.1.items ≡ piece_max) }
 {
-    Ok((encode(alloc, request)?, vec![in alloc; 0; ROOM]?))
+    Ok((encode(alloc, request)?, vec![in alloc; 0; PIECE_MAX]?))
 }
 
 /// Makes one exchange with a host: dials, sends the text of the request, receives until what was given is no longer
 /// short, and hangs up.
 ///
 /// The write side is never shut before the reply was read, since distccd stops the job of a client that shuts it.
-/// There are at most 35,651,644 receives, through a buffer of 64 KiB that is made before the dial. Bytes behind a whole
+/// There are at most 35,651,644 receives, through a buffer of `PIECE_MAX` bytes that is made before the dial. Bytes behind a whole
 /// reply are ignored.
 ///
 /// `Whole` and `Broke` add one exchange to what the dialer tells. `Memory` adds one exactly where `dialed` is true,
@@ -102,7 +101,7 @@ fn converse_into<L: Link, K: Keeper>(
 ) -> Result<(Outcome, Landing), Stop>
     requires new { IsNew (L.shows link.old) }
     requires room { 0 < length room.old }
-    requires small { length room.old ≤ 65536 }
+    requires small { length room.old ≤ piece_max }
     requires idle { IsIdle (K.shows keeper.old) }
     requires name { ¬ (IsStaged path.now) }
     ensures passed { PassedInto result path.now text.now (L.shows link.old) (L.shows link.new) (K.shows keeper.old) (K.shows keeper.new) }

@@ -1,6 +1,7 @@
 //! An object that goes into a file that has no name yet, while its reply is received.
 
 ghost use Rattle.std.specs.Prelude.{◌≡◌, ◌≢◌, ◌<◌, ◌≤◌, ◌++◌, ℕ, List, [], length, IfOk, IfErr, OnErr};
+ghost use Rattle.farm_types.specs.Limits.{piece_max};
 ghost use Rattle.edge_traits.specs.FileMaps.{IsStaged};
 ghost use Rattle.edge_traits.specs.Keepers.{IsIdle, IsPending, HasPending};
 ghost use Rattle.edge_traits.specs.Causes.{Still};
@@ -163,7 +164,7 @@ fn receive_landing<L: Link, K: Keeper>(
     keeper: &mut K,
 ) -> Result<(Outcome, Landing), Stop>
     requires room { 0 < length room.old }
-    requires small { length room.old ≤ 65536 }
+    requires small { length room.old ≤ piece_max }
     requires at { IsAt reader.old [] [] }
     requires idle { IsIdle (K.shows keeper.old) }
     requires name { ¬ (IsStaged path.now) }
@@ -212,7 +213,7 @@ pub(crate) fn receive_into<L: Link, K: Keeper>(
     keeper: &mut K,
 ) -> Result<(Outcome, Landing), Stop>
     requires room { 0 < length room.old }
-    requires small { length room.old ≤ 65536 }
+    requires small { length room.old ≤ piece_max }
     requires idle { IsIdle (K.shows keeper.old) }
     requires name { ¬ (IsStaged path.now) }
     ensures lands { LandsInto result path.now (L.shows link.old) (L.shows link.new) (K.shows keeper.old) (K.shows keeper.new) }

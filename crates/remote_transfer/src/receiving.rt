@@ -1,6 +1,7 @@
 //! Receiving a reply piece by piece.
 
 ghost use Rattle.std.specs.Prelude.{◌≡◌, ◌<◌, ◌≤◌, ◌++◌, ℕ, List, [], length, IfOk, IfErr};
+ghost use Rattle.farm_types.specs.Limits.{piece_max};
 ghost use Rattle.edge_traits.specs.Told.{Grew};
 ghost use Rattle.reply_stream.specs.Objects;
 ghost use Rattle.reply_stream.specs.Reader.{IsAt, IsSpent};
@@ -64,7 +65,7 @@ fn receive_joined<L: Link>(
     object: &mut Bytes,
 ) -> Result<Outcome, Stop>
     requires room { 0 < length room.old }
-    requires small { length room.old ≤ 65536 }
+    requires small { length room.old ≤ piece_max }
     requires at { IsAt reader.old [] object.old }
     ensures received { Received result object.new (L.shows link.old) (L.shows link.new) }
     ensures sent { Grew (L.shows link.old).sent (L.shows link.new).sent [] }
@@ -111,7 +112,7 @@ pub(crate) fn receive_reply<L: Link>(
     room: &mut [u8],
 ) -> Result<Outcome, Stop>
     requires room { 0 < length room.old }
-    requires small { length room.old ≤ 65536 }
+    requires small { length room.old ≤ piece_max }
     ensures given { Given (ReplyIs result (L.shows link.old) (L.shows link.new)) (L.shows link.old).given (L.shows link.new).given }
 
     // Nothing is sent, and the link stays one of its dialer.

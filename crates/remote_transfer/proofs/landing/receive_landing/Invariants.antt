@@ -1,4 +1,5 @@
 use Rattle.std.proofs.Common.{◌≡◌, ◌<◌, ◌≤◌, ◌-◌, [], length}
+use Rattle.farm_types.specs.Limits.{piece_max}
 use Rattle.edge_traits.specs.Told.{Grew}
 use Rattle.remote_transfer.specs.Landings.{KeeperStays}
 use Rattle.remote_transfer.proofs.IntoFiles.{ReceivingInto}
@@ -10,7 +11,7 @@ invariant-receiving g l =
     let now = g.L.Link.shows l.link in
     record {
       room : 0 < length l.room;
-      small : length l.room ≤ 65536;
+      small : length l.room ≤ piece_max;
       shape : length l.room ≡ length l.fn.room;
       into : ReceivingInto old now l.reader l.have l.state l.path (g.K.Keeper.shows l.fn.keeper) (g.K.Keeper.shows l.keeper);
       sent : Grew old.sent now.sent [];

@@ -1,4 +1,5 @@
 use Rattle.std.proofs.Common.{◌≡◌, ◌<◌, ◌≤◌, ◌-◌, [], length}
+use Rattle.farm_types.specs.Limits.{piece_max}
 use Rattle.edge_traits.specs.Told.{Grew}
 use Rattle.remote_transfer.proofs.ByPieces.{Receiving}
 use Rattle.remote_transfer.proofs.receiving.receive_joined.Given as goal
@@ -9,7 +10,7 @@ invariant-receiving g l =
     let now = g.L.Link.shows l.link in
     record {
       room : 0 < length l.room;
-      small : length l.room ≤ 65536;
+      small : length l.room ≤ piece_max;
       shape : length l.room ≡ length l.fn.room;
       receiving : Receiving old now l.reader l.have l.object;
       sent : Grew old.sent now.sent [];
