@@ -3,6 +3,7 @@ use Rattle.std.proofs.Common.{◌≡◌, ℕ, suc, ◌⊎◌, inl, inr, Bool, tr
 use Rattle.std.specs.Prelude.{◌||◌, if◌then◌else◌}
 use Rattle.std.specs.List.{list_any}
 use Rattle.std.proofs.lemmas.List.Folds.{list_any-append}
+use Rattle.farm_types.specs.Exits.{memory_status, fault_status}
 use Rattle.farm_types.specs.declared.placed.Word.{Word}
 use Rattle.farm_types.specs.declared.ran.Ran.{Ran}
 use Rattle.edge_traits.specs.Doors.{DoorView}
@@ -87,27 +88,28 @@ smooth_beside door station ran (old ∷ olds) (new ∷ news) smooth = (
 )
 
 abbrev status_of : Bool → Bool → ℕ
-status_of fault memory = if fault then 107 else (if memory then 105 else 0)
+status_of fault memory = if fault then fault_status else (if memory then memory_status else 0)
 
-status_by : (a b : Bool) → a ≡ false → (status_of a b ≡ 0) ⊎ (status_of a b ≡ 105)
+status_by : (a b : Bool) → a ≡ false → (status_of a b ≡ 0) ⊎ (status_of a b ≡ memory_status)
 status_by true b none = absurd (cc none)
 status_by false true none = inr refl
 status_by false false none = inl refl
 
 -- ---- the sink went on
 
-never : (old new : SinkView) → ((DidStop old new) → ⊥) → (answer : ℕ) (told : List ℕ) → Noticed old new answer told → answer ≡ 105
+never : (old new : SinkView) → ((DidStop old new) → ⊥) → (answer : ℕ) (told : List ℕ) → Noticed old new answer told → answer ≡ memory_status
 never old new on answer told (told_whole is goes status) = status
 never old new on answer told (told_stopped rest parts left stop status) = absurd (on stop)
 never old new on answer told (told_wanted rest parts left goes status) = status
 
 ended_as : (text : List ℕ) (status : ℕ) (old new : SinkView) (answer : ℕ) → ((DidStop old new) → ⊥) → Ends text status old new answer
-    → (answer ≡ status) ⊎ (answer ≡ 105)
+    → (answer ≡ status) ⊎ (answer ≡ memory_status)
 ended_as text status old new answer on (printed grew goes is) = inl is
 ended_as text status old new answer on (stopped part stop is) = absurd (on stop)
 ended_as text status old new answer on (wanted front rest parts left wants) = inr (never old new on answer wants.told wants.noticed)
 
-either_status : (status answer : ℕ) → (answer ≡ status) ⊎ (answer ≡ 105) → (status ≡ 0) ⊎ (status ≡ 105) → (answer ≡ 0) ⊎ (answer ≡ 105)
+either_status : (status answer : ℕ) → (answer ≡ status) ⊎ (answer ≡ memory_status) → (status ≡ 0) ⊎ (status ≡ memory_status)
+    → (answer ≡ 0) ⊎ (answer ≡ memory_status)
 either_status status answer (inl is) (inl none) = inl (is ∙ none)
 either_status status answer (inl is) (inr memory) = inr (is ∙ memory)
 either_status status answer (inr memory) none = inr memory

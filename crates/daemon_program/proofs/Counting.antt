@@ -40,6 +40,7 @@ use Rattle.object_cache.specs.Stations.{Cached, cached_shows, CacheRun, hit, mis
 use Rattle.cache_laws.proofs.Cacheable.{cacheable}
 use Rattle.daemon_program.proofs.Beside.{first_of, whole, count_ok}
 use Rattle.std.proofs.lemmas.List.{length-map}
+use Rattle.farm_types.specs.Limits.{connections_max, workers_max}
 use Rattle.daemon_program.specs.Books.{plain_kit, book_of, stats_of}
 use Rattle.daemon_program.specs.Counts.{is_compile_status, is_compiled, compiled_in, is_failed, AreShort, AreCounted, DoorsCounted}
 
@@ -283,7 +284,8 @@ module _ {S : Type 0} (shows : S → StationView) where
 -- a log is short
 pub short_log : {A T : Type 0} (table : List Compiler) (rules : List Rule) (serve : ℕ) (door : A → DoorView) (station : T → StationView)
     (ran : T → List Word → List ℕ → Ran → Type 0) (number : ℕ) (olds news : List (DoorKit A T)) (log : List Entry)
-    → serve ≤ 100000 → DoorsServed table rules serve door station ran number olds news log → length log ≤ length olds * 100000
+    → serve ≤ connections_max → DoorsServed table rules serve door station ran number olds news log
+    → length log ≤ length olds * connections_max
 short_log table rules serve door station ran number [] [] log few done = omega (arith, ap length done)
 short_log table rules serve door station ran number [] (new ∷ news) log few done = absurd done
 short_log table rules serve door station ran number (old ∷ olds) [] log few done = absurd done
@@ -297,7 +299,8 @@ short_log table rules serve door station ran number (old ∷ olds) (new ∷ news
 pub counted_plain : {A S : Type 0} (shows : S → StationView) (table : List Compiler) (rules : List Rule) (serve : ℕ) (door : A → DoorView)
     (ran : S → List Word → List ℕ → Ran → Type 0) (count bound : ℕ) (ins outs : List (DoorKit A (Cached S)))
     → length ins ≡ count → (left olds news : List (DoorKit A S)) → map plain_kit ins ++ reverse left ≡ olds
-    → news ≡ map plain_kit outs ++ reverse left → count ≤ 16 → serve ≤ 100000 → All (λ kit. book_of kit ≡ new_book bound) ins
+    → news ≡ map plain_kit outs ++ reverse left → count ≤ workers_max → serve ≤ connections_max
+    → All (λ kit. book_of kit ≡ new_book bound) ins
     → (log : List Entry) → DoorsServed table rules serve door (λ (c : Cached S). cached_shows (shows c.station))
     (λ (c : Cached S). ran c.station) 1 (take count ins) (take count outs) log
     → DoorsPaths (went shows) table 1 (take count ins) (take count outs) log → drop count outs ≡ drop count ins

@@ -1,6 +1,7 @@
 -- From what was read and served to what `farmd` does.
 use Rattle.std.proofs.Common.{◌≡◌, ℕ, ◌≤◌, List, ◌++◌, length, take, drop, sym, ◌∙◌, subst, arith}
 use Rattle.std.specs.Prelude.{unwrap_or, Option, Some, None, Result}
+use Rattle.farm_types.specs.Limits.{connections_max, workers_default, workers_max}
 use Rattle.farm_types.specs.declared.placed.Word.{Word}
 use Rattle.farm_types.specs.declared.ran.Ran.{Ran}
 use Rattle.edge_traits.specs.Doors.{DoorView}
@@ -27,13 +28,14 @@ given_or : (low high other : ℕ) (given : Option ℕ) → IsWithin low high giv
 given_or low high other None within some few = (some, few)
 given_or low high other (Some n) within some few = within
 
-pub some_jobs : (options : Options) → AreWithin options → 1 ≤ unwrap_or options.jobs 4
-some_jobs options within = (given_or 1 16 4 options.jobs within.jobs (omega arith) (omega arith)).0
+pub some_jobs : (options : Options) → AreWithin options → 1 ≤ unwrap_or options.jobs workers_default
+some_jobs options within = (given_or 1 workers_max workers_default options.jobs within.jobs (omega arith) (omega arith)).0
 
-pub right_serve : (options : Options) (serve : ℕ) → AreWithin options → serve ≡ unwrap_or options.serve 100000
-    → (1 ≤ serve) × (serve ≤ 100000)
+pub right_serve : (options : Options) (serve : ℕ) → AreWithin options → serve ≡ unwrap_or options.serve connections_max
+    → (1 ≤ serve) × (serve ≤ connections_max)
 right_serve options serve within is =
-    subst (λ n. (1 ≤ n) × (n ≤ 100000)) (sym is) (given_or 1 100000 100000 options.serve within.serve (omega arith) (omega arith))
+    subst (λ n. (1 ≤ n) × (n ≤ connections_max)) (sym is)
+    (given_or 1 connections_max connections_max options.serve within.serve (omega arith) (omega arith))
 
 pub ends_as : (text bytes : List ℕ) (status answered : ℕ) (old new : SinkView) (answer : ℕ) → bytes ≡ text → answered ≡ status
     → Ends bytes answered old new answer → Ends text status old new answer

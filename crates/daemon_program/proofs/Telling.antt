@@ -4,6 +4,7 @@ use Rattle.std.proofs.Common.{◌∙◌, ap, subst, append_assoc, length-drop, a
 use Rattle.std.specs.Prelude.{Result, Ok, Err, OnOk, OnErr}
 use Rattle.std.proofs.Math.Seq.{take-length}
 use Rattle.std.proofs.lemmas.List.{take-append-drop, append-nil}
+use Rattle.farm_types.specs.Exits.{stopped_status, memory_status}
 use Rattle.edge_traits.specs.Told.{Grew}
 use Rattle.edge_traits.specs.Causes.{Rose}
 use Rattle.edge_traits.specs.Sinks.{SinkView}
@@ -47,10 +48,10 @@ stop_then old mid new on (inr stop) = inr stop
 
 -- ---- the notice
 
-pub notice_stopped : (old new : SinkView) → IsPart no_memory_text old new → DidStop old new → WantsAfter [] old new 100
+pub notice_stopped : (old new : SinkView) → IsPart no_memory_text old new → DidStop old new → WantsAfter [] old new stopped_status
 notice_stopped old new part stop = record { told = part.front; grew = part.grew; noticed = told_stopped part.rest part.parts part.left stop refl }
 
-pub notice_wanted : (old new : SinkView) → IsPart no_memory_text old new → GoesOn old new → WantsAfter [] old new 105
+pub notice_wanted : (old new : SinkView) → IsPart no_memory_text old new → GoesOn old new → WantsAfter [] old new memory_status
 notice_wanted old new part on = record { told = part.front; grew = part.grew; noticed = told_wanted part.rest part.parts part.left on refl }
 
 notice_then : (old mid new : SinkView) (answer : ℕ) (told : List ℕ) → GoesOn old mid → Noticed mid new answer told

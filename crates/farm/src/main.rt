@@ -12,6 +12,7 @@ use edge_real::{
 };
 use farm_program::farm;
 use farm_types::exits::{BAD_HOSTS, BAD_TEXT, BAD_WORDS, NO_MEMORY};
+use farm_types::limits::WORKERS_MAX;
 use host_turns::{spread, turned};
 use kept_input::KeptSource;
 use reasons::{Given, tell_carriage_return, tell_refusal};
@@ -19,9 +20,6 @@ use std::alloc::AllocError;
 use std::process::{self, ExitCode};
 use std::sync::Wait;
 use std::thread::Threads;
-
-/// How many kits there are: the most workers.
-const KITS: usize = 16;
 
 /// How many milliseconds a pause lasts between two looks at how far a build has come; a line follows after 100 of them.
 const LOOK_MILLIS: u64 = 10;
@@ -106,7 +104,7 @@ fn run<W: Threads + Wait + Sync>(
         notices_of(rt)?,
         folder.as_str(),
         process,
-        KITS - 1,
+        WORKERS_MAX - 1,
         pause,
     )?;
     let mut input = KeptSource::new(alloc, StdSource::new(rt.stdin()));

@@ -1,5 +1,6 @@
 -- What `build` and `cc` do, once words, environment and host list are right.
-use Rattle.std.specs.Prelude.{◌≡◌, ℕ, min, Bool, List, [], ◌∷◌, length}
+use Rattle.std.specs.Prelude.{◌≡◌, ◌+◌, ℕ, min, Bool, List, [], ◌∷◌, length}
+use Rattle.farm_types.specs.Limits.{job_list_max}
 use Rattle.farm_types.specs.Exits.{fault_status, bad_text_status}
 use Rattle.farm_types.specs.declared.hosts.Hosts.{Hosts}
 use Rattle.farm_types.specs.declared.jobs.JobConfig.{JobConfig}
@@ -28,7 +29,7 @@ config_of hosts fallback retry period tries = record { hosts = hosts; fallback =
 
 -- the bytes of an input that are read at most: one more than a job list may have
 abbrev pub input_limit : ℕ
-input_limit = 16777217
+input_limit = job_list_max + 1
 
 -- Each job of the list was run, by this many workers over slots that keep the limits of the host list. What was built tells of it.
 pub record JobsDone {K : Type 0} (d : Devices K) (config : JobConfig) (jobs : List (List (List ℕ))) (workers : ℕ) (built : List Built) (old new : List K) : Type 0 where

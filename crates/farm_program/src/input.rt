@@ -9,13 +9,14 @@ ghost use Rattle.farm_program.specs.Inputs.{HasJobs, InputErrorStands, InputRefu
 use crate::jobs::Ended;
 use edge_traits::{Sink, Source};
 use farm_answers::{refuse_job_list, refuse_unread, want_memory};
+use farm_types::limits::JOB_LIST_MAX;
 use farm_types::{Bytes, Jobs};
 use job_list::{JobError, JobFault, parse};
 use std::alloc::Global;
 use stream_print::{Input, read_input};
 
 /// The most bytes of an input that are read: one more than a job list may have.
-const INPUT_MAX: usize = 16_777_217;
+const INPUT_MAX: usize = JOB_LIST_MAX + 1;
 
 /// Why there is nothing to run.
 #[derive(Drop)]

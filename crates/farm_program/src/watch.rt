@@ -1,5 +1,6 @@
 //! A build of a job list that tells how far it has come.
 ghost use Rattle.std.specs.Prelude.{◌≡◌, ◌≤◌, [], Bool, false, IfOk, OnErr, length};
+ghost use Rattle.farm_types.specs.Limits.{lines_max};
 ghost use Rattle.edge_traits.specs.Keepers.{IsIdle};
 ghost use Rattle.farm_machine.specs.Devices.{devices};
 ghost use Rattle.farm_machine.specs.Usable.{AreDoable, IsUsable};
@@ -52,7 +53,7 @@ where
     requires jobs { AreDoable jobs.now }
     requires config { IsUsable plan.config.now }
     requires workers { 1 ≤ plan.most }
-    requires lines { plan.lines ≤ 100 }
+    requires lines { plan.lines ≤ lines_max }
     requires kits { AreReady 2 (λ kit. IsIdle (K.shows kit.keeper)) kits.old.items }
     ensures done { IfOk result (λ made. JobsWatched (devices D.shows S.shows K.shows C.shows D.may_give S.ran)
         plan.entry.config.now jobs.now (watched_workers plan.entry.most kits.old.items jobs.now) made.0 kits.old.items kits.new.items) }
@@ -122,7 +123,7 @@ where
     requires jobs { AreDoable jobs.now }
     requires config { IsUsable plan.config.now }
     requires workers { 1 ≤ plan.most }
-    requires lines { plan.lines ≤ 100 }
+    requires lines { plan.lines ≤ lines_max }
     requires kits { AreReady 2 (λ kit. IsIdle (K.shows kit.keeper)) kits.old.items }
     ensures { WatchEnd (devices D.shows S.shows K.shows C.shows D.may_give S.ran) plan.entry.config.now plan.entry.most plan.entry.lines
         jobs.now kits.old.items kits.new.items result.built
@@ -162,7 +163,7 @@ where
     D::Link: Send,
     requires config { IsUsable plan.config.now }
     requires workers { 1 ≤ plan.most }
-    requires lines { plan.lines ≤ 100 }
+    requires lines { plan.lines ≤ lines_max }
     requires input { (R.shows input.old).ended ≡ false }
     requires kits { AreReady 2 (λ kit. IsIdle (K.shows kit.keeper)) kits.old.items }
     ensures { BuildsWatched (devices D.shows S.shows K.shows C.shows D.may_give S.ran) plan.entry.config.now plan.entry.most plan.entry.lines
@@ -199,7 +200,7 @@ where
     D::Link: Send,
     requires config { IsUsable plan.config.now }
     requires workers { 1 ≤ plan.most }
-    requires lines { plan.lines ≤ 100 }
+    requires lines { plan.lines ≤ lines_max }
     requires input { (R.shows input.old).ended ≡ false }
     requires kits { AreReady 1 (λ kit. IsIdle (K.shows kit.keeper)) kits.old.items }
     ensures { Watches (devices D.shows S.shows K.shows C.shows D.may_give S.ran) plan.entry.config.now plan.entry.most plan.entry.lines

@@ -4,6 +4,7 @@ use Rattle.std.proofs.Common.{get_or, map, refl, sym, ap, ◌∙◌, subst, appe
 use Rattle.std.specs.Prelude.{All}
 use Rattle.std.proofs.lemmas.List.{map-append, length-append}
 use Rattle.std.proofs.lemmas.List.{get_or_read}
+use Rattle.farm_types.specs.Limits.{hosts_max, jobs_max}
 use Rattle.slot_table.specs.declared.limits.Limits.{Limits}
 use Rattle.slot_table.specs.declared.calls.CallEntry.{CallEntry}
 use Rattle.slot_table.specs.declared.calls.SlotCall.TheVariants.{Draw}
@@ -94,7 +95,7 @@ counted-grown at next rs r n g most all = let long = length-append rs (r ∷ [])
 -- a job adds at most 64 entries of each kind
 pub counted-more : {h : ℕ} {peers : Peers} {programs : Programs} {j : Job} {l : Limits h} {w job : ℕ} {at next : Places} {calls calls' :
     List CallEntry} {a b : KitView} {rs rs' : List Report} (r : Report)
-    → rs' ≡ rs ++ r ∷ [] → 1 ≤ j.config.tries → j.config.tries ≤ 16 → AreCounted at rs
+    → rs' ≡ rs ++ r ∷ [] → 1 ≤ j.config.tries → j.config.tries ≤ hosts_max → AreCounted at rs
     → JobRan peers programs j l w job at next r.events r.end calls calls' a b → AreCounted next rs'
 counted-more {j = j} {at = at} {next = next} {rs = rs} r is some tries all did =
     let long : length (untimed did.acts) ≤ 3 * j.config.tries + 5 =
@@ -104,7 +105,7 @@ counted-more {j = j} {at = at} {next = next} {rs = rs} r is some tries all did =
     (sym did.grown) (grows at did.acts)) (omega (arith, long, tries)) all)
 
 -- the places are small before each job
-pub small-places : (at : Places) (rs : List Report) → length rs ≤ 512 → AreCounted at rs → AreSmall at
+pub small-places : (at : Places) (rs : List Report) → length rs ≤ jobs_max → AreCounted at rs → AreSmall at
 small-places at rs most all = record {
   runs = let x = all.runs in omega (arith, x, most);
   fetches = let x = all.fetches in omega (arith, x, most);

@@ -1,6 +1,6 @@
 //! All jobs of a list, while somebody watches.
 ghost use Rattle.std.specs.Prelude.{◌≡◌, ◌+◌, ◌^◌, ◌<◌, ◌≤◌, [], All, IfOk, OnErr, true, length, map, vec_capacity};
-ghost use Rattle.farm_types.specs.Limits.{workers_max};
+ghost use Rattle.farm_types.specs.Limits.{workers_max, lines_max};
 ghost use Rattle.edge_traits.specs.Keepers.{IsIdle};
 ghost use Rattle.farm_machine.specs.Jobs.{AreLimitsOf};
 ghost use Rattle.farm_cell.specs.Passes.{seen_of};
@@ -142,7 +142,7 @@ where
     requires some { 1 ≤ workers }
     requires kits { workers < length kits.old.items }
     requires most { length kits.old.items ≤ workers_max }
-    requires lines { lines ≤ 100 }
+    requires lines { lines ≤ lines_max }
     requires idle { All (λ kit. IsIdle (K.shows kit.keeper)) kits.old.items }
     ensures ran { IfOk result (λ watched. WatchedRan (devices D.shows S.shows K.shows C.shows D.may_give S.ran)
         watched.built.last.limits (job_at jobs.now config.now) config.now.period workers

@@ -2,6 +2,7 @@
 use Rattle.std.proofs.Common.{◌≡◌, inl, inr, ℕ, ◌<◌, ◌≤◌, ◌^◌, Bool, true, false, List, [], ◌∷◌, ◌++◌, length, Option, Some, None, refl, sym, ap, ◌∙◌, subst, arith}
 use Rattle.std.specs.Prelude.{map, if◌then◌else◌}
 use Rattle.std.proofs.lemmas.Bool.Decides.{Decides-eqb}
+use Rattle.farm_types.specs.Limits.{jobs_max}
 use Rattle.farm_types.specs.declared.jobs.JobConfig.{JobConfig}
 use Rattle.farm_types.specs.declared.placed.Word.TheVariants.{Text}
 use Rattle.farm_types.specs.declared.ran.Ran.{Ran}
@@ -54,7 +55,7 @@ pub record GoesOn (n job : ℕ) (acts : List Act) (end : End) : Type 0 where
   pub by : is_compiled end ≡ true
   pub source : (source : List ℕ) → IsSource acts source → source ≡ text_of_job n job
 
-module _ (laws : RunLaws) (n job : ℕ) (config : JobConfig) (most : n ≤ 512) (some : 1 ≤ job) (within : job ≤ n) where
+module _ (laws : RunLaws) (n job : ℕ) (config : JobConfig) (most : n ≤ jobs_max) (some : 1 ≤ job) (within : job ≤ n) where
   abbrev the_job : Job
   the_job = job_of (job_words job) config
 

@@ -4,6 +4,7 @@ use Rattle.std.specs.Prelude.{All}
 use Rattle.std.specs.List.{range_with_len}
 use Rattle.std.proofs.lemmas.List.Elements.{All-map}
 use Rattle.std.proofs.lemmas.List.FromFn.{length-map-range_with_len}
+use Rattle.farm_types.specs.Limits.{jobs_max, period_default}
 use Rattle.farm_cell.specs.Passes.{seen_of}
 use Rattle.farm_machine.specs.declared.reports.Report.{Report}
 use Rattle.farm_machine.specs.Jobs.{AreLimitsOf}
@@ -25,14 +26,14 @@ pub job_number : (n : ℕ) → length (jobs_of n) ≡ n
 job_number n = length-map-range_with_len job_words 1 n
 
 -- the jobs of the workload may be done
-pub doable : (n : ℕ) → 1 ≤ n → n ≤ 512 → AreDoable (jobs_of n)
+pub doable : (n : ℕ) → 1 ≤ n → n ≤ jobs_max → AreDoable (jobs_of n)
 doable n some most = record {
   some = omega (arith, some, job_number n);
   most = omega (arith, most, job_number n);
   words = All-map (λ words. 0 < length words) job_words (range_with_len 1 n) (λ k d below. omega arith);
 }
 
-module _ (laws : RunLaws) (put_law : PutLaw) (n : ℕ) (some : 1 ≤ n) (most : n ≤ 512) where
+module _ (laws : RunLaws) (put_law : PutLaw) (n : ℕ) (some : 1 ≤ n) (most : n ≤ jobs_max) where
   pub rehearsed : (built : Built) (jobs : List (List (List ℕ))) (config : JobConfig) (workers : ℕ) (old new seen : List RehearsalKit) (reports : List Report) (count : Option Count)
       → jobs ≡ jobs_of n → config ≡ rehearsal_config → workers ≡ rehearsal_workers n → length old ≡ workers → All (IsFresh (files_of n)) old
       → AreLimitsOf built.last.limits config.hosts → built.last.limits.jobs ≡ length jobs
@@ -41,8 +42,10 @@ module _ (laws : RunLaws) (put_law : PutLaw) (n : ℕ) (some : 1 ≤ n) (most : 
   rehearsed built jobs config workers old new seen reports count jobs_are config_is workers_are many fresh limits number ran seen_are reports_are counts =
       let l = built.last.limits in
       let all : l.jobs ≡ n = number ∙ ap length jobs_are ∙ job_number n in
-      let ran_by : JobsRan loop_devices l (job_at (jobs_of n) rehearsal_config) 60 (rehearsal_workers n) built.reports (seen_of built.pass) built.last.state old new =
-      subst (λ w. JobsRan loop_devices l (job_at (jobs_of n) rehearsal_config) 60 w built.reports (seen_of built.pass) built.last.state old new) workers_are
+      let ran_by : JobsRan loop_devices l (job_at (jobs_of n) rehearsal_config) period_default (rehearsal_workers n) built.reports
+      (seen_of built.pass) built.last.state old new =
+      subst (λ w. JobsRan loop_devices l (job_at (jobs_of n) rehearsal_config) period_default w built.reports
+      (seen_of built.pass) built.last.state old new) workers_are
       (subst (λ (c : JobConfig). JobsRan loop_devices l (job_at (jobs_of n) c) c.period workers built.reports (seen_of built.pass) built.last.state old new) config_is
       (subst (λ js. JobsRan loop_devices l (job_at js config) config.period workers built.reports (seen_of built.pass) built.last.state old new) jobs_are ran)) in
       let one_each : length built.reports ≡ n = ran_by.are_read.one ∙ all in

@@ -4,6 +4,7 @@ use Rattle.std.specs.Prelude.{All, slice_get, slice_index_or}
 use Rattle.std.proofs.lemmas.Option.{slice_get-get_or}
 use Rattle.std.proofs.lemmas.List.Elements.{All-get_or}
 use Rattle.std.proofs.lemmas.List.FromFn.{get_or-map-range_with_len}
+use Rattle.farm_types.specs.Limits.{jobs_max, period_default}
 use Rattle.slot_table.specs.declared.calls.CallEntry.{CallEntry}
 use Rattle.slot_table.specs.declared.limits.Limits.{Limits}
 use Rattle.slot_table.specs.declared.state.SlotState.{SlotState}
@@ -53,12 +54,13 @@ still rose = omega (arith, rose)
 calm : (old new : RehearsalKit) → IsCalm (loop_devices.shows old) (loop_devices.shows new)
 calm old new = record { station = still; station_overruns = still; keeper = still; keeper_overruns = still }
 
-module _ (laws : RunLaws) (put_law : PutLaw) (n : ℕ) (most : n ≤ 512)
+module _ (laws : RunLaws) (put_law : PutLaw) (n : ℕ) (most : n ≤ jobs_max)
     (l : Limits 16) (all : l.jobs ≡ n) (workers : ℕ) (reports : List Report)
     (history : List CallEntry) (last : SlotState 16) (old new : List RehearsalKit) (fresh : All (IsFresh (files_of n)) old) (enough : workers ≤ length old)
-    (ran : JobsRan loop_devices l (job_at (jobs_of n) rehearsal_config) 60 workers reports history last old new) (other : RehearsalKit) where
+    (ran : JobsRan loop_devices l (job_at (jobs_of n) rehearsal_config) period_default workers reports history last old new)
+    (other : RehearsalKit) where
   run : RunMeans loop_devices l (job_at (jobs_of n) rehearsal_config) workers reports ran.read last old new
-  run = means loop_devices l (job_at (jobs_of n) rehearsal_config) 60 workers reports history last old new ran
+  run = means loop_devices l (job_at (jobs_of n) rehearsal_config) period_default workers reports history last old new ran
 
   abbrev job_number : ℕ → Job
   job_number j = job_of (job_words (j + 1)) rehearsal_config

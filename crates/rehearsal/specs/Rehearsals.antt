@@ -1,7 +1,7 @@
 -- What a rehearsal leaves.
 use Rattle.std.specs.Prelude.{ℕ, Bool, ◌≡◌, min, true, false, codes, List, [], ◌∷◌, length, All, count_by, Option, Some, None, slice_get, if◌then◌else◌, ◌==◌}
 use Rattle.std.specs.List.{AllZip, sum_by}
-use Rattle.farm_types.specs.Limits.{period_default}
+use Rattle.farm_types.specs.Limits.{period_default, port_default}
 use Rattle.farm_types.specs.declared.hosts.Hosts.{Hosts}
 use Rattle.farm_types.specs.declared.jobs.JobConfig.{JobConfig}
 use Rattle.farm_types.specs.declared.ran.Ran.{Ran}
@@ -35,7 +35,7 @@ use Rattle.rehearsal.specs.Devices.{compiler_files, compiler_shows, keeper_shows
 -- the host list `loop:3632/4`
 abbrev pub rehearsal_hosts : Hosts
 rehearsal_hosts = record {
-  list = record { name = record { text = codes "loop" }; port = 3632; limit = 4; local = false } ∷ [];
+  list = record { name = record { text = codes "loop" }; port = port_default; limit = 4; local = false } ∷ [];
   local_slots = 4;
   local_cpp = 8;
   randomize = false;

@@ -3,7 +3,7 @@
 ghost use Rattle.std.specs.Prelude.{◌≡◌, IfOk};
 ghost use Rattle.rehearsal.specs.Rehearsals.{rehearsal_config};
 
-use farm_types::limits::PERIOD_DEFAULT;
+use farm_types::limits::{PERIOD_DEFAULT, PORT_DEFAULT};
 use farm_types::{Bytes, Host, HostName, HostVec, Hosts, JobConfig};
 use std::alloc::{AllocError, Global};
 
@@ -17,7 +17,7 @@ pub(crate) fn rehearsal_config(alloc: Global) -> Result<JobConfig, AllocError>
         name: HostName {
             text: Bytes::from_slice(alloc, b"loop")?,
         },
-        port: 3632,
+        port: PORT_DEFAULT,
         limit: 4,
         local: false,
     })?;

@@ -66,12 +66,12 @@ module _ (words : List (String Global)) (count : ℕ) (image : String Global) (m
   number_is = ap length (map_take count words) ∙ length-map (take count words) string_bytes
       ∙ length-take-le count words (omega (arith, many))
 
-  pub link_here : count ≡ position_or_len is_output (map (string_bytes {Z = Global}) words) → 0 < count → count ≤ 512
+  pub link_here : count ≡ position_or_len is_output (map (string_bytes {Z = Global}) words) → 0 < count → count ≤ link_max
       → is_reserved (string_bytes image) ≡ false
       → link_form (map (string_bytes {Z = Global}) words) ≡ Some (map (string_bytes {Z = Global}) (take count words), string_bytes image)
   link_here e some few plain =
       link_some (map (string_bytes {Z = Global}) words) count (string_bytes image) e tail_is
-      (ap (λ n. nat_lt 0 n) number_is ∙ lt-ltb 0 count some) (ap (λ n. nat_le n link_max) number_is ∙ le-leb count 512 few) plain
+      (ap (λ n. nat_lt 0 n) number_is ∙ lt-ltb 0 count some) (ap (λ n. nat_le n link_max) number_is ∙ le-leb count link_max few) plain
       ∙ ap (λ files. Some (files, string_bytes image)) (map_take count words)
 
 -- ---- the name of a file

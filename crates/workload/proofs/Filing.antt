@@ -10,6 +10,7 @@ use Rattle.std.proofs.lemmas.Bool.{ltb-true, ltb-false}
 use Rattle.std.proofs.lemmas.Cmp.{nat_list_eq_equiv}
 use Rattle.std.proofs.lemmas.Fmt.{decimal_injective}
 use Rattle.std.proofs.lemmas.List.FromFn.{map-range_with_len_more}
+use Rattle.farm_types.specs.Limits.{jobs_max}
 use mathlib.Core.List.{append_cancel_left, append_cancel_right}
 use lib.Pointwise.{pointwise}
 use Rattle.file_map.specs.FileMaps.{Files}
@@ -66,7 +67,8 @@ there n job first (suc count) above below small =
     at_put rest (job_source first) (job_file n first).1 (job_source job)
     ∙ chosen n job first rest (pointwise nat_eq (job_source job) (job_source first)) (nat_lt first job) refl refl above small (λ more. there n job (first + 1) count more (omega (arith, below)) small)
 
-pub one_file : (n job : ℕ) → n ≤ 512 → 1 ≤ job → job ≤ n → get (from_entries {R = slice_cmp nat_cmp} (map (job_file n) (range_with_len 1 n))) (job_source job) ≡ Some (job_file n job).1
+pub one_file : (n job : ℕ) → n ≤ jobs_max → 1 ≤ job → job ≤ n
+    → get (from_entries {R = slice_cmp nat_cmp} (map (job_file n) (range_with_len 1 n))) (job_source job) ≡ Some (job_file n job).1
 one_file n job small some most = there n job 1 n some (omega (arith, most)) (omega (arith, small, most))
 
 -- the generator's next number

@@ -4,6 +4,7 @@ use Rattle.std.specs.Prelude.{codes, Some, map, nat_eq, if◌then◌else◌}
 use Rattle.std.specs.Fmt.{decimal}
 use Rattle.std.specs.FinMap.{get, insert, get-insert}
 use Rattle.std.specs.Cmp.Lexicographic.{nat_list_cmp_total, texts_ties}
+use Rattle.farm_types.specs.Limits.{jobs_max}
 use lib.Pointwise.{pointwise}
 use Rattle.farm_types.specs.declared.ran.Ran.{Ran}
 use Rattle.farm_types.specs.declared.placed.Word.{Word}
@@ -26,7 +27,7 @@ use Rattle.workload.proofs.Tasks.{name_reading, own_reading, task_for, compile_t
 
 -- each job has its own source among the files
 abbrev pub OneFileLaw : Type 0
-OneFileLaw = (n job : ℕ) → n ≤ 512 → 1 ≤ job → job ≤ n → get (files_of n) (job_source job) ≡ Some (text_of_job n job)
+OneFileLaw = (n job : ℕ) → n ≤ jobs_max → 1 ≤ job → job ≤ n → get (files_of n) (job_source job) ≡ Some (text_of_job n job)
 
 -- ---- the files at a station
 
@@ -42,7 +43,7 @@ others_there files input rest = at_put files own_input input (106 ∷ rest)
 small_factor : (x : ℕ) → factor_of x < 2 ^ 64
 small_factor x = omega arith
 
-small_job : (n job : ℕ) → n ≤ 512 → job ≤ n → job < 2 ^ 64
+small_job : (n job : ℕ) → n ≤ jobs_max → job ≤ n → job < 2 ^ 64
 small_job n job most within = omega (arith, most, within)
 
 -- the text that is compiled or printed where the files have a job's source
@@ -57,7 +58,8 @@ text_is files made n job small there raw =
 
 -- ---- what the compiler leaves by the job's own words
 
-own_words : OneFileLaw → (n job : ℕ) (ran : Ran) → n ≤ 512 → 1 ≤ job → job ≤ n → CompilesTo (text_of_job n job) ran → SampleOf (files_of n) (job_words job) ran
+own_words : OneFileLaw → (n job : ℕ) (ran : Ran) → n ≤ jobs_max → 1 ≤ job → job ≤ n → CompilesTo (text_of_job n job) ran
+    → SampleOf (files_of n) (job_words job) ran
 own_words one_file n job ran most some within compiles =
     let files = files_of n in
     let s = job_source job in
@@ -92,7 +94,7 @@ placed_is job small =
     let is = are_plain job small in
     ap placed_words (sent (job_source job) (job_object job) is) ∙ placed (job_source job) (job_object job) is
 
-pub compiled : OneFileLaw → (n job : ℕ) (ran : Ran) → n ≤ 512 → 1 ≤ job → job ≤ n
+pub compiled : OneFileLaw → (n job : ℕ) (ran : Ran) → n ≤ jobs_max → 1 ≤ job → job ≤ n
     → StationRan (files_of n) (placed_words (stripped (job_words job))) (text_of_job n job) ran → SampleOf (files_of n) (job_words job) ran
 compiled one_file n job ran most some within r =
     let words = placed_is job (small_job n job most within) in
@@ -103,7 +105,7 @@ compiled one_file n job ran most some within r =
 expand_asked : (job : ℕ) → asked_by (map Text (codes "scc" ∷ codes "-E" ∷ job_source job ∷ [])) ≡ Some (task_for product.Text (job_source job))
 expand_asked job = expand_task (job_source job) (name_reading (decimal job ++ codes ".c"))
 
-pub preprocessed : OneFileLaw → (n job : ℕ) (ran : Ran) → n ≤ 512 → 1 ≤ job → job ≤ n
+pub preprocessed : OneFileLaw → (n job : ℕ) (ran : Ran) → n ≤ jobs_max → 1 ≤ job → job ≤ n
     → StationRan (files_of n) (map Text (preprocessing_words (job_words job))) [] ran → ran ≡ printed (text_of_job n job)
 preprocessed one_file n job ran most some within r =
     let small = small_job n job most within in
