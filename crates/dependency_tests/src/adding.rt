@@ -1,27 +1,8 @@
+use crate::lines::{line_of, words_of};
 use arg_strip::is_remote;
 use dependency_words::dependency_words;
-use farm_types::{Bytes, Words};
-use std::alloc::Global;
+use farm_types::Bytes;
 use std::test::Fail;
-
-// The words of a line, which single blanks part.
-fn words(alloc: Global, line: &str) -> Result<Words, Fail> {
-    let mut words = Words::new(alloc);
-    for word in line.split(' ') {
-        words.try_push(Bytes::from_slice(alloc, word.as_bytes())?)?;
-    }
-    Ok(words)
-}
-
-// A line of the words, with a blank before each.
-fn line_of(alloc: Global, words: &[Bytes]) -> Result<Bytes, Fail> {
-    let mut line = Bytes::new(alloc);
-    for word in words {
-        line.try_push(b' ')?;
-        line.try_extend(word.as_slice())?;
-    }
-    Ok(line)
-}
 
 #[test]
 fn the_words_added_to_each_command(rt: HostRuntime) -> Result<(), Fail> {
@@ -46,13 +27,12 @@ fn the_words_added_to_each_command(rt: HostRuntime) -> Result<(), Fail> {
         ("gcc -Wp,-MD,d -c x.c -o x.o", ""),
         ("gcc -MD -MMD -c a.i -o a.o", " -MF a.d -MQ a.o"),
     ] {
-        let given = words(rt.alloc(), line)?;
+        let given = words_of(rt.alloc(), line)?;
         if !is_remote(&given) {
             return Err(Fail::from("not remote"));
         }
         let all = dependency_words(rt.alloc(), &given)?;
-        let mut wanted = Bytes::from_slice(rt.alloc(), b" ")?;
-        wanted.try_extend(line.as_bytes())?;
+        let mut wanted = Bytes::from_slice(rt.alloc(), line.as_bytes())?;
         wanted.try_extend(added.as_bytes())?;
         assert_eq!(rt;
             line_of(rt.alloc(), all.as_slice())?.as_slice(),

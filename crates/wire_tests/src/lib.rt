@@ -1,6 +1,7 @@
 //! Tests of the wire: tokens, requests and replies, whole and in pieces.
 #![tactic(auto)]
 
+pub mod limits;
 #[cfg(test)]
 mod replies;
 #[cfg(test)]

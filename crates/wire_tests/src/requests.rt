@@ -1,10 +1,11 @@
+use crate::limits::{front_of, full_words};
 use crate::same::{holds, same, same_bytes};
 use compile_request::{RequestReader, Step, encode};
 use farm_types::{Bytes, Request, Words};
 use std::alloc::{AllocError, Global};
 use std::process::Abort;
 use std::test::Fail;
-use wire_tokens::{ARGV, RequestFault, Which, push_body};
+use wire_tokens::{RequestFault, Which};
 
 /// What a text in pieces came to, without its bytes.
 #[derive(Clone, Copy, Debug, PartialEq, Eq)]
@@ -215,14 +216,10 @@ fn request(alloc: Global) -> Result<Request, AllocError> {
     })
 }
 
-// The front of a request whose sixteen words have all the bytes that they may have together.
+// The front of a request whose words have all the bytes that they may have together, and that wants one word more.
 fn full_of_words(alloc: Global) -> Result<Bytes, AllocError> {
-    let word = Bytes::from_vec(vec![in alloc; b'x'; 65_536]?);
-    let mut text = Bytes::from_slice(alloc, b"DIST00000001ARGC00000011")?;
-    for _ in 0..16 {
-        push_body(&mut text, ARGV, &word)?;
-    }
-    Ok(text)
+    let words = full_words(alloc)?;
+    front_of(alloc, words.as_slice())
 }
 
 /// What a text comes to in pieces of these lengths.

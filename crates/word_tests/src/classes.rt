@@ -1,18 +1,9 @@
+use crate::lines::words_of;
 use arg_scan::{
     Action, Ending, OutputPlace, Plan, Scan, Verdict, Why, classify, remote_plan, scan,
 };
-use farm_types::{Bytes, Ext, Words};
-use std::alloc::Global;
+use farm_types::{Ext, Words};
 use std::test::Fail;
-
-// The words of a line, which single blanks part.
-fn words(alloc: Global, line: &str) -> Result<Words, Fail> {
-    let mut words = Words::new(alloc);
-    for word in line.split(' ') {
-        words.try_push(Bytes::from_slice(alloc, word.as_bytes())?)?;
-    }
-    Ok(words)
-}
 
 #[test]
 fn each_reason_has_its_place(rt: HostRuntime) -> Result<(), Fail> {
@@ -46,7 +37,7 @@ fn each_reason_has_its_place(rt: HostRuntime) -> Result<(), Fail> {
         ("gcc -c a.c -o x.farm~", Why::ReservedName, 4),
         ("gcc -c a.c -ox.farm~", Why::ReservedName, 3),
     ] {
-        let words = words(rt.alloc(), line)?;
+        let words = words_of(rt.alloc(), line)?;
         let wanted = Verdict::Local { why, at: place };
         assert_eq!(rt; classify(&words), wanted, "{line}");
         match scan(rt.alloc(), &words) {
@@ -72,7 +63,7 @@ fn the_least_place_and_the_first_reason_count(rt: HostRuntime) -> Result<(), Fai
         ("scc -c -S", Why::BothActions, 3),
         ("scc -Xclang", Why::MissingOperand, 1),
     ] {
-        let words = words(rt.alloc(), line)?;
+        let words = words_of(rt.alloc(), line)?;
         let wanted = Verdict::Local { why, at: place };
         assert_eq!(rt; classify(&words), wanted, "{line}");
     }
@@ -128,7 +119,7 @@ fn commands_that_may_be_sent(rt: HostRuntime) -> Result<(), Fail> {
             Ext::I,
         ),
     ] {
-        let words = words(rt.alloc(), line)?;
+        let words = words_of(rt.alloc(), line)?;
         match scan(rt.alloc(), &words) {
             Scan::Remote {
                 action,
@@ -154,7 +145,7 @@ fn a_plan_names_places(rt: HostRuntime) -> Result<(), Fail> {
     let none = Words::new(rt.alloc());
     assert_eq!(rt; classify(&none), Verdict::Empty);
     assert!(rt; matches!(scan(rt.alloc(), &none), Scan::Empty));
-    let words = words(rt.alloc(), "scc -c src/x.cc -obuild/x.o")?;
+    let words = words_of(rt.alloc(), "scc -c src/x.cc -obuild/x.o")?;
     let plan = Plan {
         action: Action::Compile,
         input: 2,

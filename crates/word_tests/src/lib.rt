@@ -13,6 +13,7 @@ mod host_lists;
 mod job_graphs;
 #[cfg(test)]
 mod job_lists;
+pub mod lines;
 #[cfg(test)]
 mod options;
 #[cfg(test)]
