@@ -39,10 +39,7 @@ fn print_lines<O: Sink>(alloc: Global, log: &[Entry], out: &mut O) -> Result<(),
 {
     let mut rest = log;
     'printing: while let [entry, after @ ..] = rest {
-        match print_line(alloc, entry, out) {
-            Ok(()) => {}
-            Err(stop) => return Err(stop),
-        }
+        print_line(alloc, entry, out)?;
         rest = after;
     }
     Ok(())
@@ -79,10 +76,7 @@ fn print_books<O: Sink>(alloc: Global, books: &[Stats], out: &mut O) -> Result<(
     let mut rest = books;
     'printing: while let [stats, after @ ..] = rest {
         door += 1;
-        match print_book(alloc, door, stats, out) {
-            Ok(()) => {}
-            Err(stop) => return Err(stop),
-        }
+        print_book(alloc, door, stats, out)?;
         rest = after;
     }
     Ok(())

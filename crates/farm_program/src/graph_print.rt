@@ -97,10 +97,7 @@ fn print_outcomes<O: Sink, E: Sink>(
     let mut job = 0;
     let mut rest = states;
     'printing: while let [state, after @ ..] = rest {
-        match print_outcome(alloc, hosts, built, job, *state, out, err) {
-            Ok(()) => {}
-            Err(stop) => return Err(stop),
-        }
+        print_outcome(alloc, hosts, built, job, *state, out, err)?;
         job += 1;
         rest = after;
     }
@@ -154,14 +151,9 @@ fn print_graph<O: Sink, E: Sink>(
     ensures goes_on { OnOk result (BothGoOn (sinks_view O.shows E.shows out.old err.old)
         (sinks_view O.shows E.shows out.new err.new)) }
 {
-    match print_outcomes(alloc, hosts, built, states, out, err) {
-        Ok(()) => {}
-        Err(stop) => return Err(stop),
-    }
-    match print_graph_total(alloc, built, states, out, err) {
-        Ok(()) => Ok(()),
-        Err(stop) => Err(stop),
-    }
+    print_outcomes(alloc, hosts, built, states, out, err)?;
+    print_graph_total(alloc, built, states, out, err)?;
+    Ok(())
 }
 
 /// Prints what became of the jobs of a graph, and answers its exit status.

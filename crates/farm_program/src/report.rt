@@ -96,10 +96,7 @@ fn print_jobs<O: Sink, E: Sink>(
         (sinks_view O.shows E.shows out.new err.new)) }
 {
     for report in reports {
-        match print_job(alloc, hosts, report, report.number, out, err) {
-            Ok(()) => {}
-            Err(stop) => return Err(stop),
-        }
+        print_job(alloc, hosts, report, report.number, out, err)?;
     }
     Ok(())
 }
@@ -120,14 +117,9 @@ fn print_reports<O: Sink, E: Sink>(
     ensures goes_on { OnOk result (BothGoOn (sinks_view O.shows E.shows out.old err.old)
         (sinks_view O.shows E.shows out.new err.new)) }
 {
-    match print_jobs(alloc, hosts, reports.as_slice(), out, err) {
-        Ok(()) => {}
-        Err(stop) => return Err(stop),
-    }
-    match print_total(alloc, reports, out, err) {
-        Ok(()) => Ok(()),
-        Err(stop) => Err(stop),
-    }
+    print_jobs(alloc, hosts, reports.as_slice(), out, err)?;
+    print_total(alloc, reports, out, err)?;
+    Ok(())
 }
 
 /// Prints the reports of a build, and answers its exit status.
