@@ -15,14 +15,14 @@ use Rattle.edge_traits.specs.declared.faults.StationFault.{StationFault as RunSt
 use Rattle.edge_traits.specs.declared.faults.StationFault.TheVariants as stop
 use Rattle.edge_traits.specs.Calls.{greatest, one_more}
 use Rattle.edge_traits.specs.Doors.{DoorView}
-use Rattle.edge_traits.specs.Stations.{StationView, run_entries}
+use Rattle.edge_traits.specs.Stations.{StationView, run_entries, compile_bounds}
 use Rattle.edge_traits.specs.Told.{Grew}
 use Rattle.edge_traits.proofs.ToldLemmas.{Grew-then, Grew-refl}
 use Rattle.access_list.specs.declared.rule.Rule.{Rule}
 use Rattle.daemon_service.specs.declared.compilers.Compiler.{Compiler}
 use Rattle.daemon_service.specs.declared.served.Served.{Served}
 use Rattle.daemon_service.specs.declared.served.Served.TheVariants.{Answered, Refused, Cut, LinkFault, Stopped, StationFault, Memory}
-use Rattle.daemon_service.specs.Replies.{program_of, first_word, with_program, compile_bounds}
+use Rattle.daemon_service.specs.Replies.{program_of, first_word, with_program}
 use Rattle.daemon_service.specs.Calls.{IsUncompiled, IsEnded, Calls, uncalled, called}
 use Rattle.arg_strip.specs.Words.{placed_words}
 use Rattle.daemon_worker.specs.declared.log.DoorKit.{DoorKit}

@@ -3,10 +3,10 @@ use Rattle.std.specs.Prelude.{ℕ, suc, List, [], ◌∷◌, ◌++◌, codes, Op
 use Rattle.std.specs.Fmt.{decimal}
 use Rattle.std.specs.List.{flat_map}
 use Rattle.stream_print.specs.Notices.{no_memory_notice}
+use Rattle.wire_tokens.specs.Numbers.{request_fault_number}
 use Rattle.wire_tokens.specs.Token.{lower_digits}
 use Rattle.daemon_service.specs.declared.served.Served.{Served}
 use Rattle.daemon_service.specs.declared.served.Served.TheVariants as served
-use Rattle.daemon_service.specs.Services.{request_fault_number}
 use Rattle.daemon_worker.specs.declared.log.Met.{Met}
 use Rattle.daemon_worker.specs.declared.log.Met.TheVariants as met
 use Rattle.daemon_worker.specs.declared.log.Entry.{Entry}

@@ -8,13 +8,14 @@ use Rattle.farm_types.specs.Fits.{RequestFits}
 use Rattle.edge_traits.specs.declared.faults.Bounds.{Bounds}
 use Rattle.edge_traits.specs.declared.faults.StationFault.{StationFault}
 use Rattle.edge_traits.specs.declared.faults.StationFault.TheVariants.{Memory}
+use Rattle.edge_traits.specs.Stations.{compile_bounds}
 use Rattle.arg_scan.specs.Class.{IsRemote}
 use Rattle.arg_strip.specs.Words.{placed_words}
 use Rattle.daemon_service.specs.declared.compilers.Compiler.{Compiler}
 use Rattle.daemon_service.specs.declared.served.Served.{Served}
 use Rattle.daemon_service.specs.declared.served.Served.TheVariants.{Answered}
 use Rattle.daemon_service.specs.declared.served.Served.TheVariants as served
-use Rattle.daemon_service.specs.Replies.{program_of, first_word, with_program, sent_outcome, compile_bounds}
+use Rattle.daemon_service.specs.Replies.{program_of, first_word, with_program, sent_outcome}
 
 -- a status of a request that isn't compiled
 abbrev pub IsRefused : ℕ → Type 0

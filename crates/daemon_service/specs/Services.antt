@@ -5,8 +5,6 @@ use Rattle.farm_types.specs.declared.request.Request.{Request}
 use Rattle.farm_types.specs.declared.ran.Ran.{Ran}
 use Rattle.farm_types.specs.declared.ran.Outcome.{Outcome}
 use Rattle.farm_types.specs.Fits.{OutcomeFits}
-use Rattle.wire_tokens.specs.declared.faults.RequestFault.{RequestFault}
-use Rattle.wire_tokens.specs.declared.faults.RequestFault.TheVariants.{WrongName, BadDigit, BadVersion, Count, TooLarge}
 use Rattle.wire_tokens.specs.Request.{BeginsRequest, RequestFaultStands, IsShortRequest}
 use Rattle.wire_tokens.specs.Reply.{reply_text}
 use Rattle.edge_traits.specs.declared.entries.Run.{Run}
@@ -119,11 +117,3 @@ LinkCause other before now = Still before now
 abbrev pub StationCause : Served → StationView → StationView → Type 0
 StationCause StationFault before now = Rose before.faults now.faults ⊎ Rose before.overruns now.overruns
 StationCause other before now = StationStill before now
-
--- the number of a fault of a request
-abbrev pub request_fault_number : RequestFault → ℕ
-request_fault_number WrongName = 1
-request_fault_number BadDigit = 2
-request_fault_number (BadVersion n) = 3
-request_fault_number (Count n) = 4
-request_fault_number (TooLarge which len) = 5

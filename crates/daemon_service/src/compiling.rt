@@ -3,19 +3,18 @@
 ghost use Rattle.std.specs.Prelude.{◌≡◌, ◌≤◌, ◌<◌, ◌^◌, [], length, take, IfOk, IfErr, OnOk};
 ghost use Rattle.farm_types.specs.Fits.{OutcomeFits};
 ghost use Rattle.edge_traits.specs.Told.{Grew, SameRelation3};
-ghost use Rattle.edge_traits.specs.Stations.{IsWithin, StationStill, run_entries, RunFault};
+ghost use Rattle.edge_traits.specs.Stations.{IsWithin, StationStill, run_entries, RunFault, compile_bounds};
 ghost use Rattle.arg_scan.specs.Class.{IsRemote};
 ghost use Rattle.arg_strip.specs.Words.{placed_words};
 ghost use Rattle.daemon_service.specs.Replies as replies;
-ghost use Rattle.daemon_service.specs.Replies.{with_program, compile_bounds};
+ghost use Rattle.daemon_service.specs.Replies.{with_program};
 ghost use Rattle.daemon_service.specs.Parts.{Made};
 ghost use Rattle.daemon_service.specs.Services.{StationCause};
 ghost use Rattle.daemon_service.specs.Calls.{Tries, Asks};
 
 use crate::{Compilers, Served};
 use arg_strip::{is_remote, placed};
-use edge_traits::{Bounds, Station, StationFault};
-use farm_types::limits::{CHILD_ERR_MAX, COMPILE_OUT_MAX, OBJECT_MAX};
+use edge_traits::{COMPILE_BOUNDS, Station, StationFault};
 use farm_types::{Bytes, Items, Outcome, PlacedWords, Ran, Request, Word, Words};
 use std::alloc::{AllocError, Global};
 
@@ -25,13 +24,6 @@ const UNKNOWN_COMPILER: u32 = 110 * 256;
 const NOT_ONE_SOURCE: u32 = 111 * 256;
 /// The most bytes of a compiler's name that a message has.
 const NAME_MAX: usize = 64;
-
-/// The most bytes that a compile may give.
-const COMPILE: Bounds = Bounds {
-    out: COMPILE_OUT_MAX,
-    err: CHILD_ERR_MAX,
-    object: OBJECT_MAX as u32,
-};
 
 fn first_word(words: &Words) -> &[u8]
     ensures { result.now ≡ replies.first_word words.now }
@@ -124,7 +116,12 @@ fn compile<S: Station>(
 {
     let words = placed(alloc, &request.words)?;
     let words = exchange_first(words, program.copy()?);
-    station.run(alloc, words.as_slice(), request.source.as_slice(), &COMPILE)
+    station.run(
+        alloc,
+        words.as_slice(),
+        request.source.as_slice(),
+        &COMPILE_BOUNDS,
+    )
 }
 
 /// Makes the outcome of a request: a refusal without a run, or what one run left.

@@ -1,4 +1,5 @@
 ghost use Rattle.std.specs.Prelude.{◌≡◌, ◌≤◌, length, IfOk};
+ghost use Rattle.farm_types.specs.Limits.{piece_max};
 ghost use Rattle.edge_traits.specs.Told.{SameRelation3};
 ghost use Rattle.daemon_service.specs.Services.{Service, IsUnused, LinkCause, StationCause};
 ghost use Rattle.daemon_service.specs.Calls.{Calls};
@@ -8,16 +9,14 @@ use crate::reading::read_request;
 use crate::replying::reply;
 use crate::{Compilers, Served};
 use edge_traits::{Link, Station};
+use farm_types::limits::PIECE_MAX;
 use std::alloc::{AllocError, Global};
-
-/// The bytes that one receive has room for.
-const ROOM: usize = 65_536;
 
 // Room for the pieces of a request.
 fn make_room(alloc: Global) -> Result<Vec<u8>, AllocError>
-    ensures { IfOk result (λ room. length room.items ≡ 65536) }
+    ensures { IfOk result (λ room. length room.items ≡ piece_max) }
 {
-    vec![in alloc; 0; ROOM]
+    vec![in alloc; 0; PIECE_MAX]
 }
 
 /// Serves one connection: reads one request, makes at most one run, and writes one reply, all of which is there before the

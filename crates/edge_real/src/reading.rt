@@ -4,6 +4,7 @@ ghost use Rattle.edge_real.specs.Reading.{IsReadWithin, IsReadOf};
 
 use crate::retrying::read_once;
 use farm_types::Bytes;
+use farm_types::limits::PIECE_MAX;
 use std::alloc::{AllocError, Global};
 use std::io::Read;
 
@@ -47,7 +48,7 @@ pub fn read_to_end<S: Read>(
 {
     let mut bytes = Bytes::from_vec(Vec::with_capacity(alloc, room)?);
     let mut total = 0u64;
-    let mut piece = [0u8; PIECE];
+    let mut piece = [0u8; PIECE_MAX];
     for _ in 0..u64::MAX {
         match read_once(stream, &mut piece) {
             Ok(0) => {
@@ -74,9 +75,6 @@ fn count_in(bytes: &mut Bytes, total: u64, bound: u32, piece: &[u8]) -> Result<u
     }
     Ok(next)
 }
-
-/// How many bytes one read asks for.
-const PIECE: usize = 65_536;
 
 /// A stream of more bytes is a long one.
 const LONG: u64 = 4_194_304;

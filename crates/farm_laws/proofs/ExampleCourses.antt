@@ -3,6 +3,7 @@ use Rattle.std.proofs.Common.{◌≡◌, inl, ℕ, zero, suc, ◌<◌, ◌≤◌
 use Rattle.std.specs.Prelude.{codes}
 use Rattle.std.proofs.lemmas.List.{append-nil}
 use Rattle.std.proofs.lemmas.List.Elements.{All-from_recursion}
+use Rattle.farm_types.specs.Limits.{word_max}
 use Rattle.option_table.specs.Gcc.{gcc_rows}
 use Rattle.farm_types.specs.declared.placed.Word.TheVariants.{Text}
 use Rattle.farm_types.specs.Fits.{RequestFits}
@@ -54,7 +55,7 @@ fits = record {
   some = omega arith;
   count = omega arith;
   words_fit = record {
-    each = All-from_recursion (λ (word : List ℕ). length word ≤ 65536)
+    each = All-from_recursion (λ (word : List ℕ). length word ≤ word_max)
         (codes "cc" ∷ codes "-c" ∷ codes "a.c" ∷ codes "-o" ∷ codes "a.o" ∷ [])
         (omega arith, (omega arith, (omega arith, (omega arith, (omega arith, tt)))));
     together = omega arith;

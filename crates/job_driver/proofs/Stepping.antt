@@ -27,6 +27,7 @@ use Rattle.farm_machine.specs.Moments.{AreMoments}
 use Rattle.farm_machine.specs.Numbered.{numbered, advanced, no_places, untimed}
 use Rattle.farm_machine.specs.Own.{DoneJob, Serves, DoesJobs}
 use Rattle.course_laws.proofs.Lengths.{short}
+use Rattle.job_run.specs.Events.{events_max}
 use Rattle.job_run.specs.Gives.{LeavesAlone}
 use Rattle.job_run.specs.Courses.{IsJobCourse}
 use Rattle.job_run.specs.JobRuns.{JobRan, AreSmall}
@@ -83,7 +84,7 @@ grows at (Met x ∷ acts) =
     (grows-more at at (advanced at acts) (length (untimed acts)) (grows at acts) (omega arith) (omega arith) (omega arith)
     (omega arith))
 
-counted-grown : (at next : Places) (rs : List Report) (r : Report) (n : ℕ) → Grows at next n → n ≤ 64 → AreCounted at rs
+counted-grown : (at next : Places) (rs : List Report) (r : Report) (n : ℕ) → Grows at next n → n ≤ events_max → AreCounted at rs
     → AreCounted next (rs ++ r ∷ [])
 counted-grown at next rs r n g most all = let long = length-append rs (r ∷ []) in record {
   runs = let x = g.runs in let y = all.runs in omega (arith, x, y, long, most);
@@ -92,7 +93,7 @@ counted-grown at next rs r n g most all = let long = length-append rs (r ∷ [])
   puts = let x = g.puts in let y = all.puts in omega (arith, x, y, long, most);
 }
 
--- a job adds at most 64 entries of each kind
+-- a job adds at most `events_max` entries of each kind
 pub counted-more : {h : ℕ} {peers : Peers} {programs : Programs} {j : Job} {l : Limits h} {w job : ℕ} {at next : Places} {calls calls' :
     List CallEntry} {a b : KitView} {rs rs' : List Report} (r : Report)
     → rs' ≡ rs ++ r ∷ [] → 1 ≤ j.config.tries → j.config.tries ≤ hosts_max → AreCounted at rs
@@ -277,12 +278,13 @@ drawn-as {w' = w'} {o = o} es same is more = more ∙ ap (λ (k : ℕ). es ++ en
     ∙ ap (λ (p : Option ℕ). es ++ entry w' Draw (Drawn p) ∷ []) is
 
 -- a caller that is alone has calls left for the rest of the jobs
-pub spare-enough : (alone : Bool) (n done a b : ℕ) → done + 1 ≤ n → (alone ≡ true → 65 * n + 1 ≤ a + 65 * done) → b + cost alone ≡ a
-    → 64 * cost alone ≤ b
+pub spare-enough : (alone : Bool) (n done a b : ℕ) → done + 1 ≤ n
+    → (alone ≡ true → (events_max + 1) * n + 1 ≤ a + (events_max + 1) * done) → b + cost alone ≡ a → events_max * cost alone ≤ b
 spare-enough true n done a b below room spent = let r = room refl in omega (arith, r, below, spent)
 spare-enough false n done a b below room spent = omega arith
 
-pub spare-more : (alone : Bool) (n done done' a b c : ℕ) → done' ≡ done + 1 → (alone ≡ true → 65 * n + 1 ≤ a + 65 * done)
-    → b + cost alone ≡ a → b ≤ c + 64 * cost alone → alone ≡ true → 65 * n + 1 ≤ c + 65 * done'
+pub spare-more : (alone : Bool) (n done done' a b c : ℕ) → done' ≡ done + 1
+    → (alone ≡ true → (events_max + 1) * n + 1 ≤ a + (events_max + 1) * done) → b + cost alone ≡ a → b ≤ c + events_max * cost alone
+    → alone ≡ true → (events_max + 1) * n + 1 ≤ c + (events_max + 1) * done'
 spare-more true n done done' a b c is room spent left one = let r = room refl in omega (arith, r, is, spent, left)
 spare-more false n done done' a b c is room spent left one = absurd (true≢false (sym one))

@@ -25,6 +25,7 @@ use Rattle.farm_machine.specs.Jobs.{Job}
 use Rattle.farm_machine.specs.Machine.{Wants}
 use Rattle.farm_machine.specs.Numbered.{advanced, no_places}
 use Rattle.farm_machine.specs.Own.{DoneJob, Each, Serves, DoesJobs}
+use Rattle.job_run.specs.Events.{events_max}
 use Rattle.job_run.proofs.Lists.{advanced-append}
 use Rattle.job_driver.specs.Works.{all_acts, IsReportOf, AreReportsOf, is_station_failure, is_keeper_failure, is_put_failure}
 use Rattle.job_driver.specs.Works.{is_dial_failure, ends_so, RoseTogether, AreCaused, Works}
@@ -45,12 +46,12 @@ AreFew reports = (bound : ℕ) → All (λ number. number < bound) (numbers_of r
 abbrev pub AreWithin : ℕ → List Report → Type 0
 AreWithin jobs reports = All (λ number. number < jobs) (numbers_of reports)
 
--- a job adds at most 64 entries of each kind
+-- a job adds at most `events_max` entries of each kind
 pub record AreCounted (places : Places) (reports : List Report) : Type 0 where
-  pub runs : places.runs ≤ 64 * length reports
-  pub fetches : places.fetches ≤ 64 * length reports
-  pub exchanges : places.exchanges ≤ 64 * length reports
-  pub puts : places.puts ≤ 64 * length reports
+  pub runs : places.runs ≤ events_max * length reports
+  pub fetches : places.fetches ≤ events_max * length reports
+  pub exchanges : places.exchanges ≤ events_max * length reports
+  pub puts : places.puts ≤ events_max * length reports
 
 -- lists with one element more
 pub acts-more : (done : List DoneJob) (job : DoneJob) → all_acts (done ++ job ∷ []) ≡ all_acts done ++ job.acts

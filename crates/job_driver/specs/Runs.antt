@@ -15,7 +15,7 @@ use Rattle.job_driver.specs.declared.run.Run.{Run}
 use Rattle.job_driver.specs.Driven.{JobsRan}
 use Rattle.job_driver.specs.Workers.{kit_of, pass_of, reserve_of, AreSlotsFor, HasRoom, IsReady, HasWorked}
 
--- Kits for so many workers, at least one: no more than 16 of them, and in none a put is pending.
+-- Kits for so many workers, at least one: no more than `workers_max` of them, and in none a put is pending.
 pub record HasKits {K : Type 0} (d : Devices K) (workers : ℕ) (kits : List K) : Type 0 where
   pub some : 1 ≤ workers
   pub enough : workers ≤ length kits

@@ -1,5 +1,6 @@
 -- One part of a job after another.
 use Rattle.std.proofs.Common.{◌≡◌, ◌≢◌, ℕ, ◌≤◌, List, ◌++◌, refl, sym, ap, ◌∙◌, subst, append_assoc, arith, inl, inr}
+use Rattle.farm_types.specs.Limits.{preprocessed_max}
 use Rattle.slot_table.specs.declared.limits.Limits.{Limits}
 use Rattle.slot_table.specs.declared.calls.CallEntry.{CallEntry}
 use Rattle.edge_traits.specs.declared.cause.Cause.TheVariants.{Dial, Send as CutSend, Recv, Truncated, BadReply, Stopped}
@@ -240,7 +241,7 @@ fetch-before name xs ys a b c (Failed Put) later first last = tt
 fetch-before name xs ys a b c (Failed Fetch) later first last = λ none.
     let both = exchangeless-both xs ys none in
     let found = last both.1 in
-    (found.0, found.1, fetch-cause-before name 41943040 found.0 a b c found.1 (first.faults both.0) later found.2)
+    (found.0, found.1, fetch-cause-before name preprocessed_max found.0 a b c found.1 (first.faults both.0) later found.2)
 fetch-before name xs ys a b c (Failed (Broke host cause)) later first last = tt
 fetch-before name xs ys a b c (Failed NoHost) later first last = tt
 fetch-before name xs ys a b c (Failed Memory) later first last = tt

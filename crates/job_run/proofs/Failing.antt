@@ -1,6 +1,7 @@
 -- What a fault of a device makes of a job, and what a part leaves of the calls.
 use Rattle.std.proofs.Common.{◌≡◌, ◌≢◌, ◌⊎◌, inl, inr, ℕ, Bool, true, false, ◌++◌, List, [], ◌∷◌, refl, sym, ap, ◌∙◌, subst, append_assoc}
 use Rattle.std.proofs.Common.{arith}
+use Rattle.farm_types.specs.Limits.{preprocessed_max}
 use Rattle.slot_table.specs.declared.calls.CallEntry.{CallEntry}
 use Rattle.slot_table.specs.declared.calls.SlotCall.TheVariants.{GiveBad as GiveBadCall, GiveLocal}
 use Rattle.slot_table.specs.declared.calls.SlotReply.TheVariants.{Given}
@@ -106,12 +107,12 @@ not-fetched-stands path bound fetch.Memory why acts old new is free =
 
 -- where the fetch was of the job's source, the job ends by that fetch
 pub fetch-ends : (name path : List ℕ) (fault : FetchFault) (why : Why5) (acts : List Act) (old new : KeeperView) → name ≡ path
-    → why ≡ fetch_failure fault → FetchCause path 41943040 old new fault → FetchEnds name (Failed why) acts old new
+    → why ≡ fetch_failure fault → FetchCause path preprocessed_max old new fault → FetchEnds name (Failed why) acts old new
 fetch-ends name path fault why acts old new named is cause =
     subst (λ (p : List ℕ). FetchEnds p (Failed why) acts old new) (sym named)
     (subst (λ (w : Why5). FetchEnds path (Failed w) acts old new) (sym is) (go fault cause))
   where
-    go : (f : FetchFault) → FetchCause path 41943040 old new f → FetchEnds path (Failed (fetch_failure f)) acts old new
+    go : (f : FetchFault) → FetchCause path preprocessed_max old new f → FetchEnds path (Failed (fetch_failure f)) acts old new
     go fetch.Failed c = λ none. (fetch.Failed, refl, c)
     go fetch.Absent c = λ none. (fetch.Absent, refl, c)
     go (fetch.TooMuch bytes) c = λ none. (fetch.TooMuch bytes, refl, c)

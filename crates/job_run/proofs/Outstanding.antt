@@ -13,6 +13,7 @@ use Rattle.slot_table.proofs.Histories.{outstanding_from-append}
 use Rattle.slot_table.proofs.Holdings.{holding_eq-refl}
 use Rattle.edge_traits.specs.Told.{Told, Grew}
 use Rattle.edge_traits.proofs.ToldLemmas.{Grew-join}
+use Rattle.job_run.specs.Events.{events_max}
 use Rattle.job_run.specs.Waits.{refused_local, borrowed, refused_take, asked}
 use Rattle.job_run.specs.Went.{HasSpare, Spent}
 
@@ -155,10 +156,11 @@ spare-then alone left left' spare spare' spent has e =
     let a : spare + left' ≤ spare' + left = spent.alone_spent e in let b : left ≤ spare = has e in omega (arith, a, b)
 
 -- at the start, and at the end
-pub spare-first : (alone : Bool) (spare : ℕ) → 64 * cost alone ≤ spare → HasSpare alone 64 spare
+pub spare-first : (alone : Bool) (spare : ℕ) → events_max * cost alone ≤ spare → HasSpare alone events_max spare
 spare-first true spare has e = omega (arith, has)
 spare-first false spare has e = absurd (true≢false (sym e))
 
-pub spare-last : (alone : Bool) (left spare spare' : ℕ) → Spent alone 64 spare left spare' → spare ≤ spare' + 64 * cost alone
-spare-last true left spare spare' spent = let a : spare + left ≤ spare' + 64 = spent.alone_spent refl in omega (arith, a)
+pub spare-last : (alone : Bool) (left spare spare' : ℕ) → Spent alone events_max spare left spare'
+    → spare ≤ spare' + events_max * cost alone
+spare-last true left spare spare' spent = let a : spare + left ≤ spare' + events_max = spent.alone_spent refl in omega (arith, a)
 spare-last false left spare spare' spent = let a : spare' ≡ spare = spent.shared refl in omega (arith, a)

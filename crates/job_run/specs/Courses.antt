@@ -3,8 +3,8 @@ use Rattle.std.specs.Prelude.{◌≡◌, ◌⊎◌, ℕ, ◌≤◌, List, [], �
 use Rattle.farm_types.specs.Limits.{preprocessed_max}
 use Rattle.edge_traits.specs.declared.entries.Exchange.{Exchange}
 use Rattle.edge_traits.specs.Deeds.{ran, fetched, exchanged}
-use Rattle.edge_traits.specs.Stations.{IsWithin}
-use Rattle.child_runner.specs.Runs.{preprocessor_bounds, compile_bounds, in_place_bounds}
+use Rattle.edge_traits.specs.Stations.{IsWithin, compile_bounds}
+use Rattle.child_runner.specs.Runs.{preprocessor_bounds, in_place_bounds}
 use Rattle.farm_machine.specs.declared.reports.End.{End}
 use Rattle.farm_machine.specs.declared.reports.End.TheVariants.{Failed}
 use Rattle.farm_machine.specs.declared.reports.Why5.TheVariants.{Memory}
@@ -14,7 +14,7 @@ use Rattle.farm_machine.specs.Table.{Finished}
 use Rattle.farm_machine.specs.TableCourse.{IsOfTable}
 use Rattle.job_run.specs.Gives.{IsUnhurt}
 
--- These acts make no run but compiles within their bounds, and fetch no more than 41,943,040 bytes at once.
+-- These acts make no run but compiles within their bounds, and fetch no more than `preprocessed_max` bytes at once.
 abbrev pub AreCompiles : List Act → Type 0
 AreCompiles [] = Unit {0}
 AreCompiles (Did (ran x) ∷ acts) = IsWithin compile_bounds x.ran × AreCompiles acts

@@ -1,5 +1,10 @@
--- How many events a job and its parts write down at most. There is room for 64.
+-- How many events a job and its parts write down at most. There is room for `events_max`.
 use Rattle.std.specs.Prelude.{ℕ, ◌+◌, ◌*◌}
+use Rattle.farm_types.specs.Limits.{hosts_max}
+
+-- the most events of one job
+abbrev pub events_max : ℕ
+events_max = 64
 
 -- a run in a local slot: the slot taken, the run, the slot given back
 abbrev pub local_events : ℕ
@@ -15,7 +20,7 @@ try_events = 1 + lent_events
 
 -- as many tries as may be made, and the take that finds all hosts down
 abbrev pub tries_events : ℕ
-tries_events = 16 * try_events + 1
+tries_events = hosts_max * try_events + 1
 
 -- a compile elsewhere, and in place of it here
 abbrev pub compile_events : ℕ

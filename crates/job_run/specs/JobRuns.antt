@@ -24,6 +24,7 @@ use Rattle.course_laws.specs.Answers.{AnswersBy}
 use Rattle.course_laws.specs.Returns.{IsCalm, is_done_or_wanted, NoneBroke}
 use Rattle.job_run.specs.Gives.{LeavesAlone}
 use Rattle.job_run.specs.Courses.{IsJobCourse}
+use Rattle.job_run.specs.Events.{events_max}
 use Rattle.job_run.specs.Seen.{IsAskable}
 use Rattle.job_run.specs.Stands.{KeeperStands, FetchEnds}
 
@@ -83,12 +84,12 @@ pub record CanRun {h : ℕ} (words : List (List ℕ)) (config : JobConfig) (l : 
   pub askable : IsAskable config
   pub hosts : AreLimitsOf l config.hosts
 
--- A job may begin: the slots are ready and none is held, a caller that is alone has room for 64 calls, the places are small, and no put is
--- pending.
+-- A job may begin: the slots are ready and none is held, a caller that is alone has room for `events_max` calls, the places are small,
+-- and no put is pending.
 pub record CanBegin {G : Type 0} (is_ready : G → Type 0) (alone : Bool) (spare_of : G → ℕ) (mine_of : G → List CallEntry) (grants : G)
     (at : Places) (keeper : KeeperView) : Type 0 where
   pub ready : is_ready grants
-  pub spare : 64 * cost alone ≤ spare_of grants
+  pub spare : events_max * cost alone ≤ spare_of grants
   pub none : outstanding (mine_of grants) ≡ []
   pub places : AreSmall at
   pub pending : IsIdle keeper
@@ -100,5 +101,5 @@ pub record HasReturned {G : Type 0} (is_ready : G → Type 0) (alone : Bool) (sp
   pub ready : is_ready new
   pub follows : follows_from old new
   pub none : outstanding (mine_of new) ≡ []
-  pub spare : spare_of old ≤ spare_of new + 64 * cost alone
+  pub spare : spare_of old ≤ spare_of new + events_max * cost alone
   pub pending : IsIdle keeper

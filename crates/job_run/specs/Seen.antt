@@ -27,7 +27,7 @@ seen d kit mine journal = seen_as (d.shows kit) (d.peers kit) (d.programs kit) m
 abbrev pub job_in : Task → Job
 job_in task = job_of task.words.now task.config.now
 
--- at most 16 entries, and 1 to 16 of them may be asked for a job
+-- at most `hosts_max` entries, and 1 to `hosts_max` of them may be asked for a job
 pub record IsAskable (config : JobConfig) : Type 0 where
   pub entries : length config.hosts.list ≤ hosts_max
   pub some : 1 ≤ config.tries

@@ -35,8 +35,8 @@ KeeperStands (Failed NotPut) acts old new = Still old.overruns new.overruns
 KeeperStands (Failed Memory) acts old new = KeepsOrRemoves acts old new
 KeeperStands end acts old new = KeepsStill acts old new
 
--- A job that made no exchange and ends by a failed fetch asked for this file within 41,943,040 bytes: the fetch failed, or the file isn't
--- there or is longer than that.
+-- A job that made no exchange and ends by a failed fetch asked for this file within `preprocessed_max` bytes: the fetch failed, or the file
+-- isn't there or is longer than that.
 abbrev pub FetchEnds : List ℕ → End → List Act → KeeperView → KeeperView → Type 0
 FetchEnds name (Failed Fetch) acts old new =
     HasNoExchange acts → (fault : FetchFault) × (fetch_failure fault ≡ Fetch) × FetchCause name preprocessed_max old new fault

@@ -2,8 +2,8 @@
 use Rattle.std.specs.Prelude.{◌≡◌, ◌≤◌, List, [], ◌∷◌, length}
 use Rattle.farm_types.specs.Limits.{preprocessed_max}
 use Rattle.edge_traits.specs.Deeds.{ran, fetched}
-use Rattle.edge_traits.specs.Stations.{IsWithin}
-use Rattle.child_runner.specs.Runs.{preprocessor_bounds, compile_bounds, in_place_bounds}
+use Rattle.edge_traits.specs.Stations.{IsWithin, compile_bounds}
+use Rattle.child_runner.specs.Runs.{preprocessor_bounds, in_place_bounds}
 use Rattle.farm_machine.specs.declared.reports.End.TheVariants.{Failed}
 use Rattle.farm_machine.specs.declared.reports.Why5.TheVariants.{Memory}
 use Rattle.farm_machine.specs.Acts.{Gives, Act, Did, Met}
@@ -12,8 +12,8 @@ use Rattle.farm_machine.specs.Jobs.{Job}
 use Rattle.job_run.specs.Gives.{IsUnhurt}
 
 -- What an act keeps to that leads from one place to another: a run leaves no more than a preprocessor, a command in place or a compile may,
--- by where the job stands; a source that is fetched has at most 41,943,040 bytes; and where memory was wanting in place of a host's answer,
--- nothing had gone wrong with the exchange.
+-- by where the job stands; a source that is fetched has at most `preprocessed_max` bytes; and where memory was wanting in place of a host's
+-- answer, nothing had gone wrong with the exchange.
 abbrev pub IsStrict : Act → At → At → Type 0
 IsStrict (Did (ran x)) Start to = IsWithin preprocessor_bounds x.ran
 IsStrict (Did (ran x)) LentInPlace to = IsWithin in_place_bounds x.ran

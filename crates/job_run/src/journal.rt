@@ -1,9 +1,10 @@
 // The events of a job, as they are written down.
 ghost use Rattle.std.specs.Prelude.{◌≡◌, ◌+◌, ◌∷◌, ◌++◌, ◌≤◌, [], vec_len, vec_capacity};
 ghost use Rattle.farm_machine.specs.declared.reports.Event.TheVariants.{Ran, Fetched, Exchanged, Put};
+ghost use Rattle.job_run.specs.Events.{events_max};
 ghost use Rattle.job_run.specs.Went.{HasPlaces};
 
-use crate::EventRoom;
+use crate::{EVENTS_MAX, EventRoom};
 use farm_machine::{Event, Places};
 
 /// The events of a job so far, the next places, and how many more events there is room for.
@@ -17,17 +18,17 @@ pub(crate) struct Journal {
 }
 
 impl Journal {
-    /// No event yet, and room for 64.
+    /// No event yet, and room for `EVENTS_MAX`.
     pub(crate) fn open(room: EventRoom, places: Places) -> Journal
-        requires { HasPlaces places 64 }
+        requires { HasPlaces places events_max }
         ensures events { result.events.items ≡ [] }
         ensures places { result.places ≡ places }
-        ensures left { result.left ≡ 64 }
+        ensures left { result.left ≡ events_max }
     {
         Journal {
             events: room.into_events(),
             places,
-            left: 64,
+            left: EVENTS_MAX as u32,
         }
     }
 

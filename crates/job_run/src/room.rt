@@ -1,6 +1,7 @@
 //! Room for the events of a job.
 
 ghost use Rattle.std.specs.Prelude.{◌≡◌, ◌≤◌, [], IfOk, vec_capacity};
+ghost use Rattle.job_run.specs.Events.{events_max};
 
 use farm_machine::Event;
 use std::alloc::{AllocError, Global};
@@ -13,11 +14,11 @@ pub const EVENTS_MAX: usize = 64;
 pub struct EventRoom {
     events: Vec<Event>,
     ghost empty: { events.items ≡ [] },
-    ghost room: { 64 ≤ vec_capacity events },
+    ghost room: { events_max ≤ vec_capacity events },
 }
 
 impl EventRoom {
-    /// Takes room for 64 events.
+    /// Takes room for `EVENTS_MAX` events.
     pub fn new(alloc: Global) -> Result<EventRoom, AllocError> {
         let events = Vec::with_capacity(alloc, EVENTS_MAX)?;
         Ok(EventRoom { events })
@@ -26,7 +27,7 @@ impl EventRoom {
     /// The room as a list of no events.
     pub fn into_events(self) -> Vec<Event>
         ensures empty { result.items ≡ [] }
-        ensures room { 64 ≤ vec_capacity result }
+        ensures room { events_max ≤ vec_capacity result }
     {
         self.events
     }

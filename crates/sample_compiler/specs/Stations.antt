@@ -1,5 +1,5 @@
 -- What a run of the compiler leaves at a station.
-use Rattle.std.specs.Prelude.{ℕ, ◌≡◌, ◌∷◌, List, [], Bool, false, length, map, codes, ◌&&◌, if◌then◌else◌, Option, Some, None, Result, Ok, Err}
+use Rattle.std.specs.Prelude.{ℕ, ◌≡◌, ◌∷◌, List, [], Bool, false, length, map, codes, ◌&&◌, if◌then◌else◌, Option, Some, None}
 use Rattle.std.specs.FinMap.{insert}
 use Rattle.std.specs.Str.{bytes_eq}
 use Rattle.farm_types.specs.declared.ran.Ran.{Ran}
@@ -9,7 +9,6 @@ use Rattle.edge_traits.specs.declared.faults.Stream.{Stream}
 use Rattle.edge_traits.specs.declared.faults.Stream.TheVariants as stream
 use Rattle.edge_traits.specs.declared.faults.StationFault.{StationFault}
 use Rattle.edge_traits.specs.declared.faults.StationFault.TheVariants as fault
-use Rattle.edge_traits.specs.Calls.{one_more}
 use Rattle.edge_traits.specs.Told.{told}
 use Rattle.edge_traits.specs.Stations.{StationView, has_output}
 use Rattle.file_map.specs.FileMaps.{Files}
@@ -84,10 +83,3 @@ station_shows s = record { runs = told s.runs; faults = 0; overruns = s.overruns
 
 abbrev pub fresh_shows : StationView
 fresh_shows = record { runs = told []; faults = 0; overruns = 0 }
-
--- the overruns after a run: one more where it gave too much, counted up to the greatest u64, and else as many as before
-abbrev pub overruns_after : ℕ → Result Ran StationFault → ℕ
-overruns_after overruns (Ok ran) = overruns
-overruns_after overruns (Err fault.Failed) = overruns
-overruns_after overruns (Err (fault.TooMuch stream bytes)) = one_more overruns
-overruns_after overruns (Err fault.Memory) = overruns

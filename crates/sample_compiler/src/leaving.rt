@@ -11,6 +11,9 @@ use farm_types::{Bytes, Ran};
 use sample_lang::{Parsed, parse};
 use std::alloc::{AllocError, Global};
 
+/// The status of words that aren't right.
+const BAD_WORDS: u32 = 512;
+
 // The message of a fault of the preprocessor.
 fn message_of(alloc: Global, fault: &ExpandFault) -> Result<Bytes, AllocError>
     ensures { IfOk result (λ text. text ≡ samples.expand_message fault.now) }
@@ -76,7 +79,7 @@ pub fn bad_words(alloc: Global) -> Result<Ran, AllocError>
 {
     let err = Bytes::from_slice(alloc, b"scc: bad words\n")?;
     Ok(Ran {
-        status: 512,
+        status: BAD_WORDS,
         out: Bytes::new(alloc),
         err,
         object: Bytes::new(alloc),

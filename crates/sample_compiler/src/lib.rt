@@ -17,6 +17,7 @@ mod task;
 
 pub use compiler::{compile, one_run, preprocess};
 pub use defines::Define;
+pub use leaving::{bad_words, printed};
 pub use loading::{LoadFault, load};
 pub use object::{object_of, put_item};
 pub use station::SampleStation;

@@ -144,8 +144,8 @@ impl SampleStation {
 impl Station for SampleStation {
     ghost use Rattle.std.specs.Prelude.{◌≡◌, ◌≤◌, false, [], IfOk, IfErr, OnOk};
     ghost use Rattle.edge_traits.specs.Told.{Grew, SameRelation3};
-    ghost use Rattle.edge_traits.specs.Stations.{IsWithin, StationStill, RunFault, has_output, run_entries};
-    ghost use Rattle.sample_compiler.specs.Stations.{StationRan, RunStops, overruns_after, station_files, station_shows};
+    ghost use Rattle.edge_traits.specs.Stations.{IsWithin, StationStill, RunFault, has_output, run_entries, overruns_after};
+    ghost use Rattle.sample_compiler.specs.Stations.{StationRan, RunStops, station_files, station_shows};
 
     ghost shows = { station_shows };
 

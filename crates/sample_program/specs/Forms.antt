@@ -20,7 +20,7 @@ link_of files (image ∷ []) = if nat_lt 0 (length files) && nat_le (length file
     (files, image) else None
 link_of files (image ∷ other ∷ more) = None
 
--- what the words behind `--link` ask for: 1 to 512 files, `-o`, and a name that doesn't end in `.farm~`
+-- what the words behind `--link` ask for: 1 to `link_max` files, `-o`, and a name that doesn't end in `.farm~`
 abbrev pub link_form : List (List ℕ) → Option (List (List ℕ) × List ℕ)
 link_form words = link_of (before_first is_output words) (after_first is_output words)
 

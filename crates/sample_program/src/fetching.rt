@@ -61,7 +61,7 @@ pub fn fetch_file<K: Keeper>(
     }
 }
 
-/// Fetches files in order, which have at most 33,554,432 bytes together. It stops at the first that is missing or goes beyond.
+/// Fetches files in order, which have at most `FILES_MAX` bytes together. It stops at the first that is missing or goes beyond.
 pub fn fetch_files<K: Keeper>(
     alloc: Global,
     names: &[String],

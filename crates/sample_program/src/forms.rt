@@ -34,7 +34,7 @@ fn len_before_output(words: &[String]) -> usize
     words.len()
 }
 
-/// What the words behind `--link` ask for: 1 to 512 files, `-o`, and a name that doesn't end in `.farm~`.
+/// What the words behind `--link` ask for: 1 to `LINK_MAX` files, `-o`, and a name that doesn't end in `.farm~`.
 pub fn link_form(words: &[String]) -> Option<LinkForm<'_>>
     ensures { MatchOption result (forms.link_form (map string_bytes words.now) ≡ None)
         (λ form. forms.link_form (map string_bytes words.now) ≡ Some (map string_bytes form.files.now, string_bytes form.image.now)) }

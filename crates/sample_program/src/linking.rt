@@ -7,10 +7,11 @@ ghost use Rattle.sample_program.specs.Links as links;
 ghost use Rattle.sample_program.specs.Links.{DidLink, DidRunImage, Stopped};
 
 use crate::fetching::{FILES_MAX, FetchStop, fetch_file, fetch_files};
-use crate::messages::{fault_text, name_text, refuse, told, value_ran};
+use crate::messages::{fault_text, name_text, refuse, value_ran};
 use crate::running::{RunStop, put_file};
 use edge_traits::Keeper;
 use farm_types::{Bytes, Ran};
+use sample_compiler::printed;
 use sample_linker::{Linked, link, run};
 use std::alloc::{AllocError, Global};
 
@@ -49,7 +50,7 @@ fn put_linked<K: Keeper>(
     match linked {
         Linked::Image(bytes) => {
             put_file(alloc, image, &bytes, keeper)?;
-            Ok(told(alloc, Bytes::new(alloc)))
+            Ok(printed(alloc, Bytes::new(alloc)))
         }
         Linked::Fault(fault) => {
             let text = fault_text(alloc, files, &fault)?;

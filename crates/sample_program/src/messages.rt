@@ -8,26 +8,12 @@ ghost use Rattle.sample_program.specs.Links.{listed, refused};
 
 use crate::running::RunStop;
 use farm_types::{Bytes, Ran, Words};
+use sample_compiler::{bad_words, printed};
 use sample_linker::{LinkFault, RunFault, Value};
 use std::alloc::{AllocError, Global};
 
-/// The status of words that aren't right.
-const BAD_WORDS: u32 = 512;
-
 /// The status of a fault.
 const FAULT: u32 = 256;
-
-/// Nothing is printed but this text on the output.
-pub fn told(alloc: Global, text: Bytes) -> Ran
-    ensures { result ≡ printed text }
-{
-    Ran {
-        status: 0,
-        out: text,
-        err: Bytes::new(alloc),
-        object: Bytes::new(alloc),
-    }
-}
 
 /// Nothing is printed but this message.
 pub fn refuse(alloc: Global, message: Bytes) -> Ran
@@ -46,13 +32,7 @@ pub fn refuse_words(alloc: Global) -> Result<Ran, RunStop>
     ensures ran { IfOk result (λ ran. ran ≡ bad_words) }
     ensures stop { IfErr result (λ stop. stop ≡ Memory) }
 {
-    let err = Bytes::from_slice(alloc, b"scc: bad words\n")?;
-    Ok(Ran {
-        status: BAD_WORDS,
-        out: Bytes::new(alloc),
-        err,
-        object: Bytes::new(alloc),
-    })
+    Ok(bad_words(alloc)?)
 }
 
 /// A message with a name behind it.
@@ -142,7 +122,7 @@ pub fn value_ran(alloc: Global, value: Value) -> Result<Ran, AllocError>
     match value {
         Value::Number(number) => {
             let text = format!(in alloc; "{number}\n")?;
-            Ok(told(alloc, Bytes::from_slice(alloc, text.as_bytes())?))
+            Ok(printed(alloc, Bytes::from_slice(alloc, text.as_bytes())?))
         }
         Value::Fault(fault) => Ok(refuse(alloc, run_text(alloc, fault)?)),
         Value::Memory => Err(AllocError),

@@ -2,6 +2,10 @@
 use Rattle.std.specs.Prelude.{ℕ, ◌+◌, ◌-◌, ◌==◌, nat_le, Bool, true, false, ◌&&◌, ◌||◌, not, List, [], ◌∷◌, ◌++◌, codes, decimal, if◌then◌else◌}
 use Rattle.watch_lines.specs.declared.count.Count.{Count}
 
+-- the most bytes of the text of a line
+abbrev pub line_bytes_max : ℕ
+line_bytes_max = 64
+
 -- the line with this number: so many of the jobs have ended, and so many workers are at a job
 abbrev pub watch_line : ℕ → ℕ → Count → List ℕ
 watch_line number jobs c =

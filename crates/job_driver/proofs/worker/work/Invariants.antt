@@ -4,6 +4,7 @@ use Rattle.edge_traits.specs.Kits.{kit_view}
 use Rattle.edge_traits.specs.Told.{SameRelation, SameRelation3}
 use Rattle.slot_table.specs.History.{outstanding}
 use Rattle.farm_machine.specs.Usable.{job_at}
+use Rattle.job_run.specs.Events.{events_max}
 use Rattle.job_driver.specs.Marks.{HasMarked}
 use Rattle.job_driver.proofs.Working.{WorksTo, AreFew, AreWithin, AreCounted}
 use Rattle.job_driver.proofs.worker.work.Given as goal
@@ -19,7 +20,8 @@ invariant-working g l = record {
   counted : AreCounted l.places l.reserve.reports.items;
   rooms : length l.plan.jobs.now ≤ length l.reserve.rooms.items + length l.reserve.reports.items;
   room : length l.plan.jobs.now ≤ vec_capacity l.reserve.reports;
-  spare : g.G.Grants.alone ≡ true → 65 * length l.plan.jobs.now + 1 ≤ g.G.Grants.spare l.grants + 65 * length l.reserve.reports.items;
+  spare : g.G.Grants.alone ≡ true → (events_max + 1) * length l.plan.jobs.now + 1
+      ≤ g.G.Grants.spare l.grants + (events_max + 1) * length l.reserve.reports.items;
   pending : IsIdle (g.K.Keeper.shows l.kit.keeper);
   back : outstanding (g.G.Grants.mine l.grants) ≡ [];
   ready : g.G.Grants.ready l.grants;
