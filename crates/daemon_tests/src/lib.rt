@@ -11,6 +11,8 @@ mod programs;
 #[cfg(test)]
 mod scripts;
 #[cfg(test)]
+mod service_faults;
+#[cfg(test)]
 mod services;
 #[cfg(test)]
 mod words;

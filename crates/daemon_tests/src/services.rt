@@ -12,13 +12,13 @@ use wire_tokens::{RequestFault, Which};
 
 // How a link moves bytes: at most so many by one call, and which of its calls fail or move nothing.
 #[derive(Clone, Copy)]
-struct Course<'a> {
-    most: u32,
-    fails: &'a [u64],
-    zeros: &'a [u64],
+pub(crate) struct Course<'a> {
+    pub(crate) most: u32,
+    pub(crate) fails: &'a [u64],
+    pub(crate) zeros: &'a [u64],
 }
 
-const PLAIN: Course<'static> = Course {
+pub(crate) const PLAIN: Course<'static> = Course {
     most: 1_000,
     fails: &[],
     zeros: &[],
@@ -26,15 +26,15 @@ const PLAIN: Course<'static> = Course {
 
 // What the one run of a station leaves, and which of its calls fail.
 #[derive(Drop)]
-struct Left<'a> {
-    status: u32,
-    err: &'a [u8],
-    object: &'a [u8],
-    fails: &'a [u64],
+pub(crate) struct Left<'a> {
+    pub(crate) status: u32,
+    pub(crate) err: &'a [u8],
+    pub(crate) object: &'a [u8],
+    pub(crate) fails: &'a [u64],
 }
 
 // The object of the reply of success.
-const OBJECT: Left<'static> = Left {
+pub(crate) const OBJECT: Left<'static> = Left {
     status: 0,
     err: b"",
     object: b"SCO1\ndef a 1\n",
@@ -42,7 +42,7 @@ const OBJECT: Left<'static> = Left {
 };
 
 // Nothing is left, and the status is 0.
-const NOTHING: Left<'static> = Left {
+pub(crate) const NOTHING: Left<'static> = Left {
     status: 0,
     err: b"",
     object: b"",
@@ -69,7 +69,7 @@ fn ran(alloc: Global, left: &Left) -> Result<Ran, AllocError> {
     })
 }
 
-fn station(alloc: Global, left: &Left) -> Result<MemStation, AllocError> {
+pub(crate) fn station(alloc: Global, left: &Left) -> Result<MemStation, AllocError> {
     let fails = numbers(alloc, left.fails)?;
     let mut rans = RanList::new(alloc);
     rans.try_push(ran(alloc, left)?)?;
@@ -126,7 +126,7 @@ fn serve_once(
 }
 
 // A connection that gives this is answered so, and this is written over its link.
-fn expect<R: Abort>(
+pub(crate) fn expect<R: Abort>(
     rt: &R,
     alloc: Global,
     gives: &[u8],
@@ -249,165 +249,6 @@ fn refused_requests(rt: HostRuntime) -> Result<(), Fail> {
         assert_eq!(rt; fault_number(*fault), *number);
     }
     Ok(())
-}
-
-// One connection of a request: how its link moves bytes, what the station leaves; what is answered and written.
-#[derive(Drop)]
-struct Row {
-    course: Course<'static>,
-    left: Left<'static>,
-    served: Served,
-    written: &'static [u8],
-}
-
-const FIFTY: Course<'static> = Course {
-    most: 50,
-    fails: &[],
-    zeros: &[],
-};
-
-// The first 50 bytes of the reply.
-const BEGUN: &[u8] = b"DONE00000001STAT00000000SERR00000000SOUT00000000DO";
-
-const FAULT: Row = Row {
-    course: FIFTY,
-    left: OBJECT,
-    served: Served::LinkFault,
-    written: b"",
-};
-
-// Three receives and two sends of at most 50 bytes: how each call's failure and its zero are answered, and what was written
-// by then. There is no sixth call.
-const CALLS: &[Row] = &[
-    Row {
-        course: Course {
-            fails: &[1],
-            ..FIFTY
-        },
-        ..FAULT
-    },
-    Row {
-        course: Course {
-            fails: &[2],
-            ..FIFTY
-        },
-        ..FAULT
-    },
-    Row {
-        course: Course {
-            fails: &[3],
-            ..FIFTY
-        },
-        ..FAULT
-    },
-    Row {
-        course: Course {
-            fails: &[4],
-            ..FIFTY
-        },
-        ..FAULT
-    },
-    Row {
-        course: Course {
-            fails: &[5],
-            ..FIFTY
-        },
-        written: BEGUN,
-        ..FAULT
-    },
-    Row {
-        course: Course {
-            zeros: &[1],
-            ..FIFTY
-        },
-        served: Served::Cut { have: 0 },
-        ..FAULT
-    },
-    Row {
-        course: Course {
-            zeros: &[2],
-            ..FIFTY
-        },
-        served: Served::Cut { have: 50 },
-        ..FAULT
-    },
-    Row {
-        course: Course {
-            zeros: &[3],
-            ..FIFTY
-        },
-        served: Served::Cut { have: 100 },
-        ..FAULT
-    },
-    Row {
-        course: Course {
-            zeros: &[4],
-            ..FIFTY
-        },
-        served: Served::Stopped,
-        ..FAULT
-    },
-    Row {
-        course: Course {
-            zeros: &[5],
-            ..FIFTY
-        },
-        served: Served::Stopped,
-        written: BEGUN,
-        ..FAULT
-    },
-    Row {
-        course: Course {
-            most: 50,
-            fails: &[6],
-            zeros: &[6],
-        },
-        served: Served::Answered(0),
-        written: REPLY,
-        ..FAULT
-    },
-];
-
-fn expect_rows<R: Abort>(rt: &R, alloc: Global, rows: &[Row]) -> Result<(), Fail> {
-    for row in rows {
-        let wanted = (row.served, row.written);
-        expect(rt, alloc, REQUEST, &row.course, &row.left, wanted)?;
-    }
-    Ok(())
-}
-
-#[test]
-fn failing_calls(rt: HostRuntime) -> Result<(), Fail> {
-    expect_rows(&rt, rt.alloc(), CALLS)
-}
-
-// A compile that fails has no object in its reply, and a run that fails has no reply.
-const RUNS: &[Row] = &[
-    Row {
-        course: PLAIN,
-        left: Left {
-            status: 256,
-            err: b"bad\n",
-            object: b"half",
-            fails: &[],
-        },
-        served: Served::Answered(256),
-        written: b"DONE00000001STAT00000100SERR00000004bad\nSOUT00000000DOTO00000000",
-    },
-    Row {
-        course: PLAIN,
-        left: Left {
-            fails: &[1],
-            ..NOTHING
-        },
-        served: Served::StationFault,
-        written: b"",
-    },
-];
-
-#[test]
-fn failing_runs(rt: HostRuntime) -> Result<(), Fail> {
-    expect_rows(&rt, rt.alloc(), RUNS)
 }
 
 #[test]

@@ -6,7 +6,6 @@ use remote_transfer::{Attempt, Landed, Landing, attempt, attempt_into};
 use std::alloc::Global;
 use std::process::Abort;
 use std::test::Fail;
-use wire_tokens::{ReplyFault, Which};
 
 const WORDS: &[&str] = &["scc", "-c", "a.i", "-o", "a.o"];
 
@@ -27,14 +26,16 @@ fn request(alloc: Global) -> Result<Request, Fail> {
 }
 
 // The reply of success, 73 bytes with an object of 13.
-const REPLY: &[u8] = b"DONE00000001STAT00000000SERR00000000SOUT00000000DOTO0000000dSCO1\ndef a 1\n";
+pub(crate) const REPLY: &[u8] =
+    b"DONE00000001STAT00000000SERR00000000SOUT00000000DOTO0000000dSCO1\ndef a 1\n";
 
-const SURPLUS: &[u8] =
+pub(crate) const SURPLUS: &[u8] =
     b"DONE00000001STAT00000000SERR00000000SOUT00000000DOTO0000000dSCO1\ndef a 1\nDONE000000";
 
-const FAILED: &[u8] = b"DONE00000001STAT00000100SERR00000004bad\nSOUT00000000DOTO00000000";
+pub(crate) const FAILED: &[u8] =
+    b"DONE00000001STAT00000100SERR00000004bad\nSOUT00000000DOTO00000000";
 
-const EMPTY: &[u8] = b"DONE00000001STAT00000000SERR00000000SOUT00000000DOTO00000000";
+pub(crate) const EMPTY: &[u8] = b"DONE00000001STAT00000000SERR00000000SOUT00000000DOTO00000000";
 
 fn numbers(alloc: Global, list: &[u64]) -> Result<CallNumbers, Fail> {
     let mut numbers = CallNumbers::new(alloc);
@@ -82,15 +83,15 @@ fn host(alloc: Global) -> Result<Host, Fail> {
 }
 
 /// Where the object of a whole reply is, the status, and the length of the outcome's own object.
-type ObjectPlace = (Landing, u32, usize);
+pub(crate) type ObjectPlace = (Landing, u32, usize);
 
 /// What became of an object that goes into `x.o`, which holds `old` before.
 #[derive(Drop)]
-struct Shown {
-    place: Option<ObjectPlace>,
-    broke: Option<Cause>,
-    pending: bool,
-    file: Bytes,
+pub(crate) struct Shown {
+    pub(crate) place: Option<ObjectPlace>,
+    pub(crate) broke: Option<Cause>,
+    pub(crate) pending: bool,
+    pub(crate) file: Bytes,
 }
 
 // The file `x.o` holds `old`. The keeper's calls of these numbers fail.
@@ -168,7 +169,12 @@ fn kept(alloc: Global, dialer: &mut MemDialer, fails: &[u64]) -> Result<Shown, F
 }
 
 // One exchange whose object goes into a file. The keeper's calls of these numbers fail; a put that is pending is committed.
-fn landing(alloc: Global, gives: &[u8], most: u32, fails: &[u64]) -> Result<Shown, Fail> {
+pub(crate) fn landing(
+    alloc: Global,
+    gives: &[u8],
+    most: u32,
+    fails: &[u64],
+) -> Result<Shown, Fail> {
     let mut dialer = dialer(alloc, link(alloc, gives, most, &[], &[])?, &[])?;
     kept(alloc, &mut dialer, fails)
 }
@@ -184,7 +190,7 @@ fn attempted(alloc: Global, dialer: &mut MemDialer) -> Result<Attempt, Fail> {
 
 // One exchange with a host whose link gives this. The dials and the link's calls of these numbers fail, those
 // of `zeros` move nothing, and one call moves at most so many bytes.
-fn exchange(
+pub(crate) fn exchange(
     alloc: Global,
     gives: &[u8],
     most: u32,
@@ -196,7 +202,7 @@ fn exchange(
     attempted(alloc, &mut dialer)
 }
 
-fn cause(answer: Attempt) -> Option<Cause> {
+pub(crate) fn cause(answer: Attempt) -> Option<Cause> {
     match answer {
         Attempt::Broke(cause) => Some(cause),
         Attempt::Whole(_) | Attempt::Memory { .. } => None,
@@ -345,151 +351,4 @@ fn a_failed_call_breaks_the_exchange(rt: HostRuntime) -> Result<(), Fail> {
     let undialed = exchange(rt.alloc(), REPLY, 50, &[1], &[], &[])?;
     same(&rt, &cause(undialed), &Some(Cause::Dial), &"a dial");
     Ok(())
-}
-
-/// A bad reply, the place of its fault, and the fault.
-type Bad = (&'static [u8], u64, ReplyFault);
-
-const BAD: &[Bad] = &[
-    (b"DONEX", 4, ReplyFault::BadDigit),
-    (b"HTTP/1.1 200 OK", 0, ReplyFault::WrongName),
-    (b"DONE00000002", 11, ReplyFault::BadVersion { n: 2 }),
-    (
-        b"DONE00000001STAT00000000SERR00100001",
-        35,
-        ReplyFault::TooLarge {
-            which: Which::Serr,
-            len: 1_048_577,
-        },
-    ),
-    (
-        b"DONE00000001STAT00000000SERR00000000SOUT00000000DOTO7fffffff",
-        59,
-        ReplyFault::TooLarge {
-            which: Which::Doto,
-            len: 2_147_483_647,
-        },
-    ),
-    (
-        b"DONE00000001STAT00000100SERR00000000SOUT00000000DOTO00000004",
-        59,
-        ReplyFault::ObjectWithFailure {
-            status: 256,
-            len: 4,
-        },
-    ),
-];
-
-fn expect_bad<R: Abort>(rt: &R, alloc: Global, row: &Bad, most: u32) -> Result<(), Fail> {
-    let (gives, at, fault) = row;
-    let answer = exchange(alloc, gives, most, &[], &[], &[])?;
-    let wanted = Cause::BadReply {
-        at: *at,
-        fault: *fault,
-    };
-    same(rt, &cause(answer), &Some(wanted), &most);
-    Ok(())
-}
-
-fn expect_all_bad<R: Abort>(rt: &R, alloc: Global, rows: &[Bad]) -> Result<(), Fail> {
-    for row in rows {
-        expect_bad(rt, alloc, row, 1)?;
-        expect_bad(rt, alloc, row, 1_000)?;
-    }
-    Ok(())
-}
-
-#[test]
-fn bad_replies(rt: HostRuntime) -> Result<(), Fail> {
-    expect_all_bad(&rt, rt.alloc(), BAD)
-}
-
-/// A reply, where its object is, and what the file holds.
-type LandedRow = (&'static [u8], ObjectPlace, &'static [u8]);
-
-const LANDED: &[LandedRow] = &[
-    (REPLY, (Landing::Pending, 0, 0), b"SCO1\ndef a 1\n"),
-    (SURPLUS, (Landing::Pending, 0, 0), b"SCO1\ndef a 1\n"),
-    (EMPTY, (Landing::Pending, 0, 0), b""),
-    (FAILED, (Landing::Nothing, 256, 0), b"old"),
-];
-
-fn expect_landed<R: Abort>(
-    rt: &R,
-    alloc: Global,
-    row: &LandedRow,
-    most: u32,
-    fails: &[u64],
-) -> Result<(), Fail> {
-    let (gives, wanted, file) = row;
-    let shown = landing(alloc, gives, most, fails)?;
-    same(rt, &shown.place, &Some(*wanted), &(most, fails));
-    same(
-        rt,
-        &shown.pending,
-        &(wanted.0 == Landing::Pending),
-        &(most, fails),
-    );
-    same_bytes(rt, shown.file.as_slice(), file, &(most, fails));
-    Ok(())
-}
-
-fn expect_landed_by_pieces<R: Abort>(rt: &R, alloc: Global, row: &LandedRow) -> Result<(), Fail> {
-    for most in [1, 2, 5, 7, 60, 61, 1_000] {
-        expect_landed(rt, alloc, row, most, &[])?;
-    }
-    Ok(())
-}
-
-fn expect_all_landed<R: Abort>(rt: &R, alloc: Global, rows: &[LandedRow]) -> Result<(), Fail> {
-    for row in rows {
-        expect_landed_by_pieces(rt, alloc, row)?;
-    }
-    Ok(())
-}
-
-#[test]
-fn objects_go_into_files(rt: HostRuntime) -> Result<(), Fail> {
-    expect_all_landed(&rt, rt.alloc(), LANDED)
-}
-
-const LOST: LandedRow = (REPLY, (Landing::Lost, 0, 0), b"old");
-
-const LOST_EMPTY: LandedRow = (EMPTY, (Landing::Lost, 0, 0), b"old");
-
-// In pieces of 5 bytes: one begin, and an add for each of the three pieces of the object. An empty object has its begin alone.
-#[test]
-fn a_fault_of_the_keeper_loses_the_object(rt: HostRuntime) -> Result<(), Fail> {
-    for call in 1..5 {
-        expect_landed(&rt, rt.alloc(), &LOST, 5, &[call])?;
-    }
-    expect_landed(&rt, rt.alloc(), &LOST_EMPTY, 5, &[1])
-}
-
-fn expect_old_file<R: Abort>(rt: &R, alloc: Global, gives: &[u8], most: u32) -> Result<(), Fail> {
-    let shown = landing(alloc, gives, most, &[])?;
-    let have = gives.len() as u64;
-    same(
-        rt,
-        &shown.broke,
-        &Some(Cause::Truncated { have }),
-        &(have, most),
-    );
-    holds(rt, !shown.pending, &(have, most));
-    same_bytes(rt, shown.file.as_slice(), b"old", &(have, most));
-    Ok(())
-}
-
-fn expect_old_files<R: Abort>(rt: &R, alloc: Global, reply: &[u8]) -> Result<(), Fail> {
-    for len in 0..reply.len() {
-        expect_old_file(rt, alloc, &reply[..len], 1)?;
-        expect_old_file(rt, alloc, &reply[..len], 5)?;
-        expect_old_file(rt, alloc, &reply[..len], 1_000)?;
-    }
-    Ok(())
-}
-
-#[test]
-fn a_cut_reply_leaves_the_file(rt: HostRuntime) -> Result<(), Fail> {
-    expect_old_files(&rt, rt.alloc(), REPLY)
 }

@@ -1,4 +1,5 @@
 //! Jobs by rows: what the devices do, and what becomes of the job.
+
 ghost use Rattle.std.specs.Prelude.{◌≡◌, ◌+◌, ◌*◌, ◌<◌, ◌≤◌, [], length};
 ghost use Rattle.farm_types.specs.Limits.{hosts_max};
 ghost use Rattle.edge_traits.specs.Keepers.{IsIdle};
@@ -6,20 +7,17 @@ ghost use Rattle.slot_table.specs.History.{outstanding};
 ghost use Rattle.slot_table.specs.Grants.{cost};
 ghost use Rattle.farm_machine.specs.Jobs.{AreLimitsOf};
 
-use crate::same::{same, same_bytes};
+use crate::same::same;
 use crate::slots::slots_of;
 use edge_memory::{
     LinkScript, LinkScripts, MemClock, MemDialer, MemKeeper, MemStation, Moments, Moves, RanList,
 };
-use edge_traits::{
-    CallNumbers, Clock, Dialer, Exchange, FileList, Keeper, Kit, Run, Station, is_staged,
-};
-use farm_machine::{By, End, Event, Places, Report, Why5};
-use farm_types::{Bytes, Ext, Host, HostName, HostVec, Hosts, Items, JobConfig, Ran, Word, Words};
+use edge_traits::{CallNumbers, Clock, Dialer, FileList, Keeper, Kit, Station};
+use farm_machine::{By, Event, Places, Report, Why5};
+use farm_types::{Bytes, Host, HostName, HostVec, Hosts, JobConfig, Ran, Words};
 use job_run::{EventRoom, run_job};
 use slot_table::Grants;
 use std::alloc::Global;
-use std::process::Abort;
 use std::sync::Wait;
 use std::test::Fail;
 
@@ -135,7 +133,7 @@ pub(crate) fn files(alloc: Global) -> Result<FileList, Fail> {
     Ok(files)
 }
 
-fn dialer(alloc: Global, row: &Row) -> Result<MemDialer, Fail> {
+pub(crate) fn dialer(alloc: Global, row: &Row) -> Result<MemDialer, Fail> {
     let links = links(alloc, row)?;
     Ok(MemDialer::new(links, numbers(alloc, row.dial_fails)?))
 }
@@ -154,13 +152,13 @@ fn clock(alloc: Global, row: &Row) -> Result<MemClock, Fail> {
     Ok(MemClock::new(moments))
 }
 
-fn devices(alloc: Global, row: &Row) -> Result<(MemClock, MemDialer), Fail> {
+pub(crate) fn devices(alloc: Global, row: &Row) -> Result<(MemClock, MemDialer), Fail> {
     let clock = clock(alloc, row)?;
     Ok((clock, dialer(alloc, row)?))
 }
 
 /// The devices of a row, over this station and this keeper.
-fn kit<K: Keeper + Drop>(
+pub(crate) fn kit<K: Keeper + Drop>(
     alloc: Global,
     row: &Row,
     station: MemStation,
@@ -180,7 +178,7 @@ pub(crate) fn memory(alloc: Global, files: FileList, fails: &[u64]) -> Result<Me
     Ok(MemKeeper::new(files, numbers(alloc, fails)?))
 }
 
-fn words(alloc: Global, line: &str) -> Result<Words, Fail> {
+pub(crate) fn words(alloc: Global, line: &str) -> Result<Words, Fail> {
     let mut words = Words::new(alloc);
     for word in line.split(' ') {
         words.try_push(Bytes::from_slice(alloc, word.as_bytes())?)?;
@@ -188,7 +186,7 @@ fn words(alloc: Global, line: &str) -> Result<Words, Fail> {
     Ok(words)
 }
 
-fn host(alloc: Global, name: &str, local: bool) -> Result<Host, Fail> {
+pub(crate) fn host(alloc: Global, name: &str, local: bool) -> Result<Host, Fail> {
     Ok(Host {
         name: HostName {
             text: Bytes::from_slice(alloc, name.as_bytes())?,
@@ -293,7 +291,7 @@ fn done_with<R: Wait, K: Keeper>(
 }
 
 /// Does the job of a row, with slots of one thread, and where it is to be done again a second one with the same slots.
-fn done<R: Wait, K: Keeper>(
+pub(crate) fn done<R: Wait, K: Keeper>(
     rt: &R,
     alloc: Global,
     row: &Row,
@@ -303,201 +301,4 @@ fn done<R: Wait, K: Keeper>(
     let words = words(alloc, row.line)?;
     let config = config(alloc, row)?;
     done_with(rt, alloc, &words, &config, again, kit)
-}
-
-/// Does the job of a row, or a second one after it, and compares its end.
-fn expect_done<R: Wait + Abort, K: Keeper>(
-    rt: &R,
-    alloc: Global,
-    row: &Row,
-    again: bool,
-    kit: &mut Scripted<K>,
-) -> Result<(), Fail> {
-    let report = done(rt, alloc, row, again, kit)?;
-    expect_end(rt, &report, row)
-}
-
-/// Does the job of a row over this station and this keeper, or a second one after it, and compares its end.
-pub(crate) fn expect_ended<R: Wait + Abort, K: Keeper + Drop>(
-    rt: &R,
-    alloc: Global,
-    row: &Row,
-    again: bool,
-    station: MemStation,
-    keeper: K,
-) -> Result<(), Fail> {
-    let mut kit = kit(alloc, row, station, keeper)?;
-    expect_done(rt, alloc, row, again, &mut kit)
-}
-
-/// What a file holds, which is nothing where it isn't there.
-fn content<K: Keeper>(alloc: Global, keeper: &mut K, name: &[u8]) -> Result<Bytes, Fail> {
-    let path = Bytes::from_slice(alloc, name)?;
-    if keeper.is_pending() || is_staged(path.as_slice()) {
-        return Err("the file may be fetched".into());
-    }
-    match keeper.fetch(alloc, &path, 1_000) {
-        Ok(content) => Ok(content),
-        Err(_) => Ok(Bytes::new(alloc)),
-    }
-}
-
-/// The words of a run as a line, with `{i}` for the input and `{o}` for the output.
-fn line_of(alloc: Global, words: &[Word]) -> Result<Bytes, Fail> {
-    let mut line = Bytes::new(alloc);
-    for word in words {
-        if !line.is_empty() {
-            line.try_push(b' ')?;
-        }
-        let text: &[u8] = match word {
-            Word::Text(text) => text.as_slice(),
-            Word::Input(Ext::I) => b"{i}",
-            Word::Input(Ext::Ii) => b"{ii}",
-            Word::Output => b"{o}",
-        };
-        for byte in text {
-            line.try_push(*byte)?;
-        }
-    }
-    Ok(line)
-}
-
-fn expect_end<R: Abort>(rt: &R, report: &Report, row: &Row) -> Result<(), Fail> {
-    match (&report.end, row.end) {
-        (
-            End::Done {
-                status,
-                err,
-                by,
-                ..
-            },
-            Ended::Done(wanted, messages, one),
-        ) => {
-            same(rt, status, &wanted, &row.line);
-            same_bytes(rt, err.as_slice(), messages, &row.line);
-            same(rt, by, &one, &row.line);
-        }
-        (End::Failed(why), Ended::Failed(wanted)) => same(rt, why, &wanted, &row.line),
-        _ => return Err("the job has this end".into()),
-    }
-    Ok(())
-}
-
-fn expect_exchange<R: Abort>(rt: &R, exchange: &Exchange, passed: &Passed, row: &Row) {
-    let name = exchange.host.text.as_slice();
-    same_bytes(rt, name, passed.0.as_bytes(), &row.line);
-    same(rt, &exchange.dialed, &!passed.1.is_empty(), &row.line);
-    same_bytes(rt, exchange.sent.as_slice(), passed.1, &row.line);
-    same_bytes(rt, exchange.given.as_slice(), passed.2, &row.line);
-}
-
-fn expect_exchanges<R: Abort>(rt: &R, exchanges: &[Exchange], row: &Row) {
-    same(rt, &exchanges.len(), &row.exchanges.len(), &row.line);
-    for (exchange, passed) in exchanges.iter().zip(row.exchanges) {
-        expect_exchange(rt, exchange, passed, row);
-    }
-}
-
-fn expect_run<R: Abort>(
-    rt: &R,
-    alloc: Global,
-    run: &Run,
-    words: &str,
-    input: &[u8],
-) -> Result<(), Fail> {
-    let line = line_of(alloc, run.words.as_slice())?;
-    same_bytes(rt, line.as_slice(), words.as_bytes(), &words);
-    same_bytes(rt, run.input.as_slice(), input, &words);
-    Ok(())
-}
-
-fn expect_runs<R: Abort>(rt: &R, alloc: Global, runs: &[Run], row: &Row) -> Result<(), Fail> {
-    same(rt, &runs.len(), &row.runs.len(), &row.line);
-    for (run, (words, input)) in runs.iter().zip(row.runs) {
-        expect_run(rt, alloc, run, words, input)?;
-    }
-    Ok(())
-}
-
-fn expect_dialer<R: Abort>(
-    rt: &R,
-    alloc: Global,
-    row: &Row,
-    dialer: MemDialer,
-) -> Result<(), Fail> {
-    let exchanges: Items<Exchange> = dialer.into_exchanges().into_items(alloc)?;
-    expect_exchanges(rt, exchanges.as_slice(), row);
-    Ok(())
-}
-
-fn expect_station<R: Abort>(
-    rt: &R,
-    alloc: Global,
-    row: &Row,
-    station: MemStation,
-) -> Result<(), Fail> {
-    let runs: Items<Run> = station.into_runs().into_items(alloc)?;
-    expect_runs(rt, alloc, runs.as_slice(), row)
-}
-
-/// Compares what the devices kept with the row, and gives the keeper back.
-fn expect_kept<R: Abort, K: Keeper + Drop>(
-    rt: &R,
-    alloc: Global,
-    row: &Row,
-    kit: Scripted<K>,
-) -> Result<K, Fail> {
-    let Kit {
-        dialer,
-        station,
-        keeper,
-        ..
-    } = kit;
-    expect_dialer(rt, alloc, row, dialer)?;
-    expect_station(rt, alloc, row, station)?;
-    Ok(keeper)
-}
-
-fn expect_report<R: Abort>(rt: &R, report: &Report, row: &Row) -> Result<(), Fail> {
-    expect_events(rt, report.events.as_slice(), row);
-    expect_end(rt, report, row)
-}
-
-fn expect_events<R: Abort>(rt: &R, events: &[Event], row: &Row) {
-    assert_eq!(rt; events, row.events, "{}", row.line);
-}
-
-fn expect_object<R: Abort, K: Keeper>(
-    rt: &R,
-    alloc: Global,
-    keeper: &mut K,
-    row: &Row,
-) -> Result<(), Fail> {
-    let object = content(alloc, keeper, b"x.o")?;
-    same_bytes(rt, object.as_slice(), row.object, &row.line);
-    Ok(())
-}
-
-/// Does the job of a row over these devices, and compares its report and its object.
-fn expect_job<R: Wait + Abort, K: Keeper>(
-    rt: &R,
-    alloc: Global,
-    row: &Row,
-    kit: &mut Scripted<K>,
-) -> Result<(), Fail> {
-    let report = done(rt, alloc, row, false, kit)?;
-    expect_report(rt, &report, row)?;
-    expect_object(rt, alloc, &mut kit.keeper, row)
-}
-
-/// Does the job of a row over this keeper, compares all but its files with the row, and gives the keeper back.
-pub(crate) fn expect_over<R: Wait + Abort, K: Keeper + Drop>(
-    rt: &R,
-    alloc: Global,
-    row: &Row,
-    keeper: K,
-) -> Result<K, Fail> {
-    let mut kit = kit(alloc, row, station(alloc, row)?, keeper)?;
-    expect_job(rt, alloc, row, &mut kit)?;
-    expect_kept(rt, alloc, row, kit)
 }

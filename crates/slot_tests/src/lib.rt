@@ -11,6 +11,8 @@ mod cell_histories;
 #[cfg(test)]
 mod cell_orders;
 #[cfg(test)]
+mod failing_hosts;
+#[cfg(test)]
 mod machine;
 #[cfg(test)]
 mod slots;
