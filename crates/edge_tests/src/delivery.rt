@@ -1,6 +1,7 @@
-use edge_traits::{CallNumbers, EdgeFault, FetchFault, FileList, Keeper, is_staged};
+use crate::devices::files_with;
+use edge_traits::{EdgeFault, FetchFault, Keeper, is_staged};
 use farm_types::Bytes;
-use object_delivery::{FileKeeper, Files, MemFiles};
+use object_delivery::{FileKeeper, Files};
 use std::alloc::Global;
 use std::test::Fail;
 
@@ -75,23 +76,13 @@ const ROWS: &[Row] = &[
     },
 ];
 
-fn one_file(alloc: Global, fails: &[u64]) -> Result<MemFiles, Fail> {
-    let mut files = FileList::new(alloc);
-    files.try_put(
-        Bytes::from_slice(alloc, b"x.o")?,
-        Bytes::from_slice(alloc, b"old")?,
-    )?;
-    let fails = CallNumbers::from_vec(fails.to_vec(alloc)?);
-    Ok(MemFiles::new(files, fails, 1))
-}
-
 #[test]
 fn a_put_is_whole_or_not_at_all(rt: HostRuntime) -> Result<(), Fail> {
     let alloc = rt.alloc();
     let path = Bytes::from_slice(alloc, b"x.o")?;
     let staged = Bytes::from_slice(alloc, b"x.o.farm~")?;
     for row in ROWS {
-        let mut keeper = FileKeeper::new(one_file(alloc, row.fails)?);
+        let mut keeper = FileKeeper::new(files_with(alloc, row.fails)?);
         assert_eq!(rt; keeper.put(alloc, &path, b"new"), row.put);
         let mut files = keeper.into_files();
         let named = files.load(alloc, &path, 3)?;
@@ -114,7 +105,7 @@ fn a_fetch_gives_the_whole_file(rt: HostRuntime) -> Result<(), Fail> {
     let alloc = rt.alloc();
     let path = Bytes::from_slice(alloc, b"x.o")?;
     let other = Bytes::from_slice(alloc, b"y.o")?;
-    let mut keeper = FileKeeper::new(one_file(alloc, &[4])?);
+    let mut keeper = FileKeeper::new(files_with(alloc, &[4])?);
     let whole = keeper.fetch(alloc, &path, 3)?;
     assert_eq!(rt; whole.as_slice(), b"old".as_slice());
     assert!(rt;
@@ -133,7 +124,7 @@ fn a_rename_takes_the_other_name(rt: HostRuntime) -> Result<(), Fail> {
     let alloc = rt.alloc();
     let old = Bytes::from_slice(alloc, b"x.o")?;
     let new = Bytes::from_slice(alloc, b"y.o")?;
-    let mut files = one_file(alloc, &[])?;
+    let mut files = files_with(alloc, &[])?;
     files.rename(alloc, &old, &old)?;
     files.append(alloc, &new, b"z")?;
     files.rename(alloc, &old, &new)?;
@@ -183,7 +174,7 @@ fn a_put_in_steps_is_whole_or_not_at_all(rt: HostRuntime) -> Result<(), Fail> {
         (&[4], two, true, Err(EdgeFault::Failed), b"old"),
         (&[5], two, true, Err(EdgeFault::Failed), b"old"),
     ] {
-        let mut keeper = FileKeeper::new(one_file(alloc, fails)?);
+        let mut keeper = FileKeeper::new(files_with(alloc, fails)?);
         let seen = put_in_steps(alloc, &mut keeper, &path, pieces, commits);
         assert_eq!(rt; seen, put);
         assert!(rt; !keeper.is_pending());

@@ -7,6 +7,7 @@ mod calls;
 mod children;
 #[cfg(test)]
 mod delivery;
+pub mod devices;
 #[cfg(test)]
 mod disk;
 #[cfg(test)]

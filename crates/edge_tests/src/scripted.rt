@@ -1,12 +1,13 @@
 //! Devices in memory, which follow their scripts.
 
+use crate::devices::{keeper_with, numbers};
 use edge_memory::{
     LinkScript, LinkScripts, MemClock, MemDialer, MemDoor, MemKeeper, MemLink, MemNeverLink,
     MemSink, MemSource, MemStation, Moments, Moves, Peers, RanList,
 };
 use edge_traits::{
-    Bounds, CallNumbers, Clock, Dialer, Door, EdgeFault, FetchFault, FileList, Keeper, Link, Sink,
-    Source, Station, StationFault, Stream, is_staged,
+    Bounds, Clock, Dialer, Door, EdgeFault, FetchFault, Keeper, Link, Sink, Source, Station,
+    StationFault, Stream, is_staged,
 };
 use farm_types::{Bytes, Ext, HostName, Ran, Word};
 use std::alloc::{AllocError, Global};
@@ -15,14 +16,6 @@ use std::test::Fail;
 
 /// What a call answers: how many bytes it moved.
 type Moved = Result<usize, EdgeFault>;
-
-fn numbers(alloc: Global, all: &[u64]) -> Result<CallNumbers, AllocError> {
-    let mut numbers = CallNumbers::new(alloc);
-    for number in all {
-        numbers.try_push(*number)?;
-    }
-    Ok(numbers)
-}
 
 fn moves(alloc: Global) -> Result<Moves, AllocError> {
     Ok(Moves {
@@ -274,16 +267,6 @@ fn an_object_has_its_word(rt: HostRuntime) -> Result<(), Fail> {
     Ok(())
 }
 
-/// A keeper whose file `x.o` holds `old`, and whose fourth call fails.
-fn keeper(alloc: Global) -> Result<MemKeeper, AllocError> {
-    let mut files = FileList::new(alloc);
-    files.try_put(
-        Bytes::from_slice(alloc, b"x.o")?,
-        Bytes::from_slice(alloc, b"old")?,
-    )?;
-    Ok(MemKeeper::new(files, numbers(alloc, &[4])?))
-}
-
 fn put_file<K: Keeper>(
     alloc: Global,
     keeper: &mut K,
@@ -332,7 +315,7 @@ const FETCHES: &[(&[u8], u32, Result<usize, FetchFault>)] = &[
 
 #[test]
 fn keepers_keep_files(rt: HostRuntime) -> Result<(), Fail> {
-    let mut keeper = keeper(rt.alloc())?;
+    let mut keeper = keeper_with(rt.alloc(), &[4])?;
     for (bytes, want) in PUTS {
         assert_eq!(rt; put_file(rt.alloc(), &mut keeper, b"x.o", bytes), *want);
     }

@@ -1,6 +1,7 @@
 //! Sockets, each against a peer in another thread.
 
-use access_list::{AccessList, RuleVec, parse_rule};
+use crate::devices::everybody;
+use access_list::parse_rule;
 use edge_real::{Notices, TcpDialer, TcpDoor};
 use edge_traits::{Dialer, Door, EdgeFault, Link};
 use farm_types::{Bytes, HostName};
@@ -15,13 +16,6 @@ fn host(alloc: Global, name: &[u8]) -> Result<HostName, AllocError> {
     Ok(HostName {
         text: Bytes::from_slice(alloc, name)?,
     })
-}
-
-/// Rules that let everybody in.
-fn everybody(alloc: Global) -> AccessList {
-    AccessList {
-        rules: RuleVec::new(alloc),
-    }
 }
 
 /// Sends one byte, and answers the one that comes back and whether the link ended behind it.
