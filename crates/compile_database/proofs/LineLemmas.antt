@@ -1,5 +1,6 @@
 -- The lines of jobs.
-use Rattle.std.proofs.Common.{◌≡◌, ℕ, ◌+◌, ◌<◌, ◌≤◌, true, false, List, [], ◌∷◌, ◌++◌, length, get_or, take, refl, ap, sym, ◌∙◌, subst, ⊎_elim, arith}
+use Rattle.std.proofs.Common.{◌≡◌, ℕ, ◌+◌, ◌<◌, ◌≤◌, true, false, List, [], ◌∷◌, ◌++◌, length, get_or, take, refl, ap, sym, ◌∙◌, subst}
+use Rattle.std.proofs.Common.{⊎_elim, arith}
 use Rattle.std.specs.Prelude.{◌==◌, All}
 use Rattle.std.specs.List.{flat_map, position_or_len, after_first}
 use Rattle.std.proofs.lemmas.Bool.{cases_lt}
@@ -37,14 +38,16 @@ pub record IsText (text : List ℕ) (jobs : List (List (List ℕ))) : Type 0 whe
 pub no_lines : IsText [] []
 no_lines = record { lines = []; spelled = refl; each = tt }
 
-more_lines : (lines : List (List ℕ)) (jobs : List (List (List ℕ))) (line : List ℕ) (job : List (List ℕ)) → AreLines lines jobs → IsLine line job → AreLines (lines ++ line ∷ []) (jobs ++ job ∷ [])
+more_lines : (lines : List (List ℕ)) (jobs : List (List (List ℕ))) (line : List ℕ) (job : List (List ℕ)) → AreLines lines jobs
+    → IsLine line job → AreLines (lines ++ line ∷ []) (jobs ++ job ∷ [])
 more_lines [] [] line job h one = (one, tt)
 more_lines [] (j ∷ js) line job h one = absurd h
 more_lines (l ∷ ls) [] line job h one = absurd h
 more_lines (l ∷ ls) (j ∷ js) line job h one = (h.0, more_lines ls js line job h.1 one)
 
 -- one line more
-pub one_more : (text : List ℕ) (jobs : List (List (List ℕ))) (line : List ℕ) (job : List (List ℕ)) → IsText text jobs → IsLine line job → IsText ((text ++ line) ++ line_feed ∷ []) (jobs ++ job ∷ [])
+pub one_more : (text : List ℕ) (jobs : List (List (List ℕ))) (line : List ℕ) (job : List (List ℕ)) → IsText text jobs
+    → IsLine line job → IsText ((text ++ line) ++ line_feed ∷ []) (jobs ++ job ∷ [])
 one_more text jobs line job h one = record {
   lines = h.lines ++ line ∷ [];
   spelled =
@@ -67,7 +70,8 @@ no_feed line one k d lt = ⊎_elim
     (λ all. fails_before_first (λ c. c == line_feed) line k d (omega arith))
     (cases_lt (position_or_len (λ c. c == line_feed) line) (length line))
 
-lines_by : (number : ℕ) (lines : List (List ℕ)) (jobs : List (List (List ℕ))) → AreLines lines jobs → AreJobs (jobs_from number (lines_of (flat_map with_feed lines))) jobs
+lines_by : (number : ℕ) (lines : List (List ℕ)) (jobs : List (List (List ℕ))) → AreLines lines jobs
+    → AreJobs (jobs_from number (lines_of (flat_map with_feed lines))) jobs
 lines_by number [] [] h = tt
 lines_by number [] (j ∷ js) h = absurd h
 lines_by number (l ∷ ls) [] h = absurd h
@@ -103,7 +107,10 @@ pub same_jobs : (text : List ℕ) (jobs other : List (List (List ℕ))) → AreJ
 same_jobs text jobs other each h = subst (λ t. JobsOf text t) (one_list (job_lines text) other jobs h.each each) h
 
 -- the next line was written
-pub next_text : (list new : List ℕ) (jobs : List (List (List ℕ))) (i : ℕ) (job : List (List ℕ)) (line : List ℕ) → i < length jobs → All AreJobWords jobs → job ≡ get_or jobs i job → lines_of line ≡ line ∷ [] → (AreJobWords job → (is_job line ≡ true) × JobOf line job) → IsText list (take i jobs) → new ≡ (list ++ line) ++ line_feed ∷ [] → IsText new (take (i + 1) jobs)
+pub next_text : (list new : List ℕ) (jobs : List (List (List ℕ))) (i : ℕ) (job : List (List ℕ)) (line : List ℕ) → i < length jobs
+    → All AreJobWords jobs → job ≡ get_or jobs i job → lines_of line ≡ line ∷ []
+    → (AreJobWords job → (is_job line ≡ true) × JobOf line job) → IsText list (take i jobs) → new ≡ (list ++ line) ++ line_feed ∷ []
+    → IsText new (take (i + 1) jobs)
 next_text list new jobs i job line lt all there one is h made =
     let can : AreJobWords job = subst AreJobWords (sym there) (all i job lt) in
     let so = is can in
@@ -112,5 +119,6 @@ next_text list new jobs i job line lt all there one is h made =
     subst (λ t. IsText new t) (sym front) (subst (λ t. IsText t (take i jobs ++ job ∷ [])) (sym made) more)
 
 -- all lines were written
-pub whole_text : (list : List ℕ) (jobs all : List (List (List ℕ))) (i : ℕ) → length jobs ≤ i → jobs ≡ all → IsText list (take i jobs) → AreJobs (job_lines list) all
+pub whole_text : (list : List ℕ) (jobs all : List (List (List ℕ))) (i : ℕ) → length jobs ≤ i → jobs ≡ all
+    → IsText list (take i jobs) → AreJobs (job_lines list) all
 whole_text list jobs all i le same h = subst (λ t. AreJobs (job_lines list) t) (take_all i jobs le ∙ same) (jobs_by list (take i jobs) h)

@@ -18,15 +18,18 @@ pub refused_text : {choice : Choice} {text : List ℕ} {old new : SinksView} {an
 refused_text fault stands (inl refusal) = faulty_text fault stands refusal
 refused_text fault stands (inr wanted) = unlisted wanted
 
-pub listed_by : {choice : Choice} {text text' : List ℕ} {old new : SinksView} {answer : ℕ} → text ≡ text' → Listed choice text old new answer → Listed choice text' old new answer
+pub listed_by : {choice : Choice} {text text' : List ℕ} {old new : SinksView} {answer : ℕ} → text ≡ text'
+    → Listed choice text old new answer → Listed choice text' old new answer
 listed_by {choice = choice} {old = old} {new = new} {answer = answer} same h = subst (λ t. Listed choice t old new answer) same h
 
 -- a text of the program itself was asked for
-pub heard : {words : List (List ℕ)} {view : SourceView} {text : List ℕ} {old new : SinksView} {answer : ℕ} (ask : Ask) → asked words ≡ Some ask → text ≡ text_of ask → ToldOrWanted text old new answer → Does words view view old new answer
+pub heard : {words : List (List ℕ)} {view : SourceView} {text : List ℕ} {old new : SinksView} {answer : ℕ} (ask : Ask)
+    → asked words ≡ Some ask → text ≡ text_of ask → ToldOrWanted text old new answer → Does words view view old new answer
 heard ask is same (inl printed) = told ask is refl (told_by same printed)
 heard ask is same (inr wanted) = unheard refl wanted
 
 -- words were refused
-pub misheard : {words : List (List ℕ)} {view : SourceView} {old new : SinksView} {answer : ℕ} (place : ℕ) → asked words ≡ None → BadWordsAt words place → WordsRefused place old new answer → Does words view view old new answer
+pub misheard : {words : List (List ℕ)} {view : SourceView} {old new : SinksView} {answer : ℕ} (place : ℕ) → asked words ≡ None
+    → BadWordsAt words place → WordsRefused place old new answer → Does words view view old new answer
 misheard place none is (inl printed) = bad_words place none is refl printed
 misheard place none is (inr wanted) = unheard refl wanted

@@ -44,7 +44,8 @@ is_placeless entry = is_none (folder_of entry)
 
 -- ---- the selection
 
--- the folder whose entries are taken, if one is named; how many of these are passed over first; and how many are taken at most, if that is said
+-- the folder whose entries are taken, if one is named; how many of these are passed over first; and how many are taken at most, if
+-- that is said
 pub record Choice : Type 0 where
   pub folder : Option (List ℕ)
   pub from : ℕ

@@ -13,7 +13,8 @@ use Rattle.job_list.specs.Texts.{job_lines}
 use Rattle.job_list.specs.declared.fault.JobFault.{JobFault}
 use Rattle.compile_database.specs.declared.entry.NoWords.TheVariants as no_words
 use Rattle.compile_database.specs.declared.fault.DatabaseFault.{DatabaseFault}
-use Rattle.compile_database.specs.declared.fault.DatabaseFault.TheVariants.{NotJson, NotArray, NoFolder, OtherFolder, NoEntries, TooMany, NoForm, OpenQuote, NoWords, BadWord, JobList}
+use Rattle.compile_database.specs.declared.fault.DatabaseFault.TheVariants.{NotJson, NotArray, NoFolder, OtherFolder, NoEntries, TooMany}
+use Rattle.compile_database.specs.declared.fault.DatabaseFault.TheVariants.{NoForm, OpenQuote, NoWords, BadWord, JobList}
 use Rattle.compile_database.specs.declared.fault.DatabaseError.{DatabaseError}
 use Rattle.compile_database.specs.declared.fault.DatabaseError.TheVariants.{Fault, Memory}
 use Rattle.compile_database.specs.Entries.{words_of}
@@ -76,10 +77,13 @@ pub record ListOf (choice : Choice) (text list : List ℕ) : Type 0 where
 
 -- what is wrong with the entry at a place
 abbrev pub IsBadEntry : List Data → ℕ → DatabaseFault → Type 0
-IsBadEntry entries place (NoForm at) = (at ≡ place) × ((entry : Data) → slice_get entries place ≡ Some entry → words_of entry ≡ Err no_words.NoForm)
-IsBadEntry entries place (OpenQuote at) = (at ≡ place) × (entry : Data) × (slice_get entries place ≡ Some entry) × (words_of entry ≡ Err no_words.OpenQuote)
+IsBadEntry entries place (NoForm at) =
+    (at ≡ place) × ((entry : Data) → slice_get entries place ≡ Some entry → words_of entry ≡ Err no_words.NoForm)
+IsBadEntry entries place (OpenQuote at) = (at ≡ place) × (entry : Data) × (slice_get entries place ≡ Some entry)
+    × (words_of entry ≡ Err no_words.OpenQuote)
 IsBadEntry entries place (NoWords at) = (at ≡ place) × (entry : Data) × (slice_get entries place ≡ Some entry) × (words_of entry ≡ Ok [])
-IsBadEntry entries place (BadWord at) = (at ≡ place) × (entry : Data) × (words : List (List ℕ)) × (slice_get entries place ≡ Some entry) × (words_of entry ≡ Ok words) × (AreJobWords words → ⊥)
+IsBadEntry entries place (BadWord at) = (at ≡ place) × (entry : Data) × (words : List (List ℕ))
+    × (slice_get entries place ≡ Some entry) × (words_of entry ≡ Ok words) × (AreJobWords words → ⊥)
 IsBadEntry entries place _ = ⊥
 
 -- the first of these places whose entry isn't right
@@ -109,10 +113,14 @@ IsEmpty choice entries = (choice.folder ≡ None) × (entries ≡ [])
 pub data EntriesFault (choice : Choice) (entries : List Data) : DatabaseFault → Type 0 where
   no_folder : {at : ℕ} → IsFirst is_placeless entries at → EntriesFault choice entries (NoFolder at)
   no_entry : IsEmpty choice entries → EntriesFault choice entries NoEntries
-  other_folder : {at : ℕ} (folder : List ℕ) → NoneIs is_placeless entries → choice.folder ≡ None → chosen_folder choice.folder entries ≡ Some folder → IsFirst (is_out folder) entries at → EntriesFault choice entries (OtherFolder at)
+  other_folder : {at : ℕ} (folder : List ℕ) → NoneIs is_placeless entries → choice.folder ≡ None
+      → chosen_folder choice.folder entries ≡ Some folder → IsFirst (is_out folder) entries at
+      → EntriesFault choice entries (OtherFolder at)
   none_taken : (folder : List ℕ) → FolderIs choice entries folder → taken choice folder entries ≡ [] → EntriesFault choice entries NoEntries
-  too_many : {at : ℕ} (folder : List ℕ) → FolderIs choice entries folder → slice_get (taken choice folder entries) jobs_max ≡ Some at → EntriesFault choice entries (TooMany at)
-  bad_entry : {fault : DatabaseFault} (places : List ℕ) → ArePlaces choice entries places → HasBadEntry entries places fault → EntriesFault choice entries fault
+  too_many : {at : ℕ} (folder : List ℕ) → FolderIs choice entries folder
+      → slice_get (taken choice folder entries) jobs_max ≡ Some at → EntriesFault choice entries (TooMany at)
+  bad_entry : {fault : DatabaseFault} (places : List ℕ) → ArePlaces choice entries places → HasBadEntry entries places fault
+      → EntriesFault choice entries fault
   list_fault : {fault : DatabaseFault} → HasListFault choice entries fault → EntriesFault choice entries fault
 
 -- why a text gives no job list

@@ -3,7 +3,8 @@ use Rattle.std.specs.Prelude.{ℕ, List, ◌++◌, codes}
 use Rattle.std.specs.Fmt.{decimal}
 use Rattle.job_list.specs.Faults.{job_fault_number}
 use Rattle.compile_database.specs.declared.fault.DatabaseFault.{DatabaseFault}
-use Rattle.compile_database.specs.declared.fault.DatabaseFault.TheVariants.{NotJson, NotArray, NoFolder, OtherFolder, NoEntries, TooMany, NoForm, OpenQuote, NoWords, BadWord, JobList}
+use Rattle.compile_database.specs.declared.fault.DatabaseFault.TheVariants.{NotJson, NotArray, NoFolder, OtherFolder, NoEntries, TooMany}
+use Rattle.compile_database.specs.declared.fault.DatabaseFault.TheVariants.{NoForm, OpenQuote, NoWords, BadWord, JobList}
 
 abbrev pub fault_text : DatabaseFault → List ℕ
 fault_text NotJson = codes "not JSON"

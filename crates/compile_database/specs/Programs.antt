@@ -57,21 +57,30 @@ Wanted sinks sinks_now answer = WantOf no_memory_text [] sinks sinks_now answer
 -- The job list of the text was printed; or the text has this fault, which was told; or memory was wanting.
 pub data Listed (choice : Choice) (text : List ℕ) (sinks sinks_now : SinksView) (answer : ℕ) : Type 0 where
   printed_list : (list : List ℕ) → ListOf choice text list → Told list sinks sinks_now answer → Listed choice text sinks sinks_now answer
-  faulty_text : (fault : DatabaseFault) → FaultStands choice text fault → Refused (refusal_text fault) bad_text_status sinks sinks_now answer → Listed choice text sinks sinks_now answer
+  faulty_text : (fault : DatabaseFault) → FaultStands choice text fault
+      → Refused (refusal_text fault) bad_text_status sinks sinks_now answer → Listed choice text sinks sinks_now answer
   unlisted : Wanted sinks sinks_now answer → Listed choice text sinks sinks_now answer
 
--- The input was read to its end, and its text was listed; or it was too long, or couldn't be read; or memory was wanting while it was read, and
+-- The input was read to its end, and its text was listed; or it was too long, or couldn't be read; or memory was wanting while it
+-- was read, and
 -- then its count stands still: no fault of the input is told so.
 pub data Reads (choice : Choice) (old new : SourceView) (sinks sinks_now : SinksView) (answer : ℕ) : Type 0 where
-  whole_input : (text : List ℕ) → AllRead old new text → length text < too_long → Listed choice text sinks sinks_now answer → Reads choice old new sinks sinks_now answer
-  long_input : ReadTo too_long old new → Refused unreadable_text fault_status sinks sinks_now answer → Reads choice old new sinks sinks_now answer
-  broken_input : BrokeOff too_long old new → Refused unreadable_text fault_status sinks sinks_now answer → Reads choice old new sinks sinks_now answer
-  unread : HasReadSome too_long old new → Still old.faults new.faults → Wanted sinks sinks_now answer → Reads choice old new sinks sinks_now answer
+  whole_input : (text : List ℕ) → AllRead old new text → length text < too_long → Listed choice text sinks sinks_now answer
+      → Reads choice old new sinks sinks_now answer
+  long_input : ReadTo too_long old new → Refused unreadable_text fault_status sinks sinks_now answer
+      → Reads choice old new sinks sinks_now answer
+  broken_input : BrokeOff too_long old new → Refused unreadable_text fault_status sinks sinks_now answer
+      → Reads choice old new sinks sinks_now answer
+  unread : HasReadSome too_long old new → Still old.faults new.faults → Wanted sinks sinks_now answer
+      → Reads choice old new sinks sinks_now answer
 
 -- The words ask for a text, which was printed; or they don't fit, at this place; or they say which entries are taken; or memory was
 -- wanting, and nothing was read.
 pub data Does (words : List (List ℕ)) (old new : SourceView) (sinks sinks_now : SinksView) (answer : ℕ) : Type 0 where
-  told : (ask : Ask) → asked words ≡ Some ask → new ≡ old → Told (text_of ask) sinks sinks_now answer → Does words old new sinks sinks_now answer
-  bad_words : (place : ℕ) → asked words ≡ None → BadWordsAt words place → new ≡ old → Refused (bad_words_text place) bad_words_status sinks sinks_now answer → Does words old new sinks sinks_now answer
-  listed : (choice : Choice) → asked words ≡ None → Chooses words choice → Reads choice old new sinks sinks_now answer → Does words old new sinks sinks_now answer
+  told : (ask : Ask) → asked words ≡ Some ask → new ≡ old → Told (text_of ask) sinks sinks_now answer
+      → Does words old new sinks sinks_now answer
+  bad_words : (place : ℕ) → asked words ≡ None → BadWordsAt words place → new ≡ old
+      → Refused (bad_words_text place) bad_words_status sinks sinks_now answer → Does words old new sinks sinks_now answer
+  listed : (choice : Choice) → asked words ≡ None → Chooses words choice → Reads choice old new sinks sinks_now answer
+      → Does words old new sinks sinks_now answer
   unheard : new ≡ old → Wanted sinks sinks_now answer → Does words old new sinks sinks_now answer

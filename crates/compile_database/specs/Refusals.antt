@@ -9,7 +9,9 @@ abbrev pub ToldOrWanted : List ℕ → SinksView → SinksView → ℕ → Type 
 ToldOrWanted text sinks sinks_now answer = Told text sinks sinks_now answer ⊎ Wanted sinks sinks_now answer
 
 abbrev pub WordsRefused : ℕ → SinksView → SinksView → ℕ → Type 0
-WordsRefused place sinks sinks_now answer = Refused (bad_words_text place) bad_words_status sinks sinks_now answer ⊎ Wanted sinks sinks_now answer
+WordsRefused place sinks sinks_now answer = Refused (bad_words_text place) bad_words_status sinks sinks_now answer
+    ⊎ Wanted sinks sinks_now answer
 
 abbrev pub FaultRefused : DatabaseFault → SinksView → SinksView → ℕ → Type 0
-FaultRefused fault sinks sinks_now answer = Refused (refusal_text fault) bad_text_status sinks sinks_now answer ⊎ Wanted sinks sinks_now answer
+FaultRefused fault sinks sinks_now answer = Refused (refusal_text fault) bad_text_status sinks sinks_now answer
+    ⊎ Wanted sinks sinks_now answer

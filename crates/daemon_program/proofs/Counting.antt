@@ -306,7 +306,8 @@ pub counted_plain : {A S : Type 0} (shows : S → StationView) (table : List Com
     → DoorsPaths (went shows) table 1 (take count ins) (take count outs) log → drop count outs ≡ drop count ins
     → (stats : List Stats) → stats ≡ map (λ kit. stats_of (book_of kit)) outs → AreShort table
     → DoorsCounted shows (take count olds) (take count news) log stats
-counted_plain shows table rules serve door ran count bound ins outs many left olds news before after few served_few fresh log served paths others stats are short =
+counted_plain shows table rules serve door ran count bound ins outs many left olds news before after few served_few fresh log served
+    paths others stats are short =
     let same = count_ok table rules serve door shows ran count ins outs many log served others in
     let in_whole = whole count ins many in
     let out_whole = whole count outs same in

@@ -49,7 +49,8 @@ stop_then old mid new on (inr stop) = inr stop
 -- ---- the notice
 
 pub notice_stopped : (old new : SinkView) → IsPart no_memory_text old new → DidStop old new → WantsAfter [] old new stopped_status
-notice_stopped old new part stop = record { told = part.front; grew = part.grew; noticed = told_stopped part.rest part.parts part.left stop refl }
+notice_stopped old new part stop =
+    record { told = part.front; grew = part.grew; noticed = told_stopped part.rest part.parts part.left stop refl }
 
 pub notice_wanted : (old new : SinkView) → IsPart no_memory_text old new → GoesOn old new → WantsAfter [] old new memory_status
 notice_wanted old new part on = record { told = part.front; grew = part.grew; noticed = told_wanted part.rest part.parts part.left on refl }

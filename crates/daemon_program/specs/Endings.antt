@@ -17,8 +17,10 @@ pub record IsPart (text : List ℕ) (old new : SinkView) : Type 0 where
 -- Of the notice for want of memory this was told: the whole, or a part, since the sink stopped, or a part, since it wanted memory.
 pub data Noticed (old new : SinkView) (answer : ℕ) (told : List ℕ) : Type 0 where
   told_whole : told ≡ no_memory_text → GoesOn old new → answer ≡ memory_status → Noticed old new answer told
-  told_stopped : (rest : List ℕ) → no_memory_text ≡ told ++ rest → rest ≢ [] → DidStop old new → answer ≡ stopped_status → Noticed old new answer told
-  told_wanted : (rest : List ℕ) → no_memory_text ≡ told ++ rest → rest ≢ [] → GoesOn old new → answer ≡ memory_status → Noticed old new answer told
+  told_stopped : (rest : List ℕ) → no_memory_text ≡ told ++ rest → rest ≢ [] → DidStop old new → answer ≡ stopped_status
+      → Noticed old new answer told
+  told_wanted : (rest : List ℕ) → no_memory_text ≡ told ++ rest → rest ≢ [] → GoesOn old new → answer ≡ memory_status
+      → Noticed old new answer told
 
 -- memory was wanting after this text: the notice for it follows
 pub record WantsAfter (text : List ℕ) (old new : SinkView) (answer : ℕ) : Type 0 where

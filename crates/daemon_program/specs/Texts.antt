@@ -34,7 +34,8 @@ what_text met.DoorMemory = codes "no memory"
 
 -- one line for an entry of the log
 abbrev pub line_text : Entry → List ℕ
-line_text entry = codes "door " ++ decimal entry.door ++ codes " conn " ++ decimal entry.number ++ codes " " ++ what_text entry.what ++ codes "\n"
+line_text entry = codes "door " ++ decimal entry.door ++ codes " conn " ++ decimal entry.number ++ codes " " ++ what_text entry.what
+    ++ codes "\n"
 
 abbrev pub log_text : List Entry → List ℕ
 log_text entries = flat_map line_text entries

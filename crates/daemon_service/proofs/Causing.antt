@@ -21,7 +21,8 @@ still_station : (station : StationView) → StationStill station station
 still_station station = record { faults = refl; overruns = refl }
 
 -- where no whole request was read, the station is as before
-pub unread_station : (served : Served) (old new : LinkView) (given : List ℕ) (station : StationView) → RequestIs (Err served) old new given → StationCause served station station
+pub unread_station : (served : Served) (old new : LinkView) (given : List ℕ) (station : StationView)
+    → RequestIs (Err served) old new given → StationCause served station station
 unread_station (Answered status) old new given station is = still_station station
 unread_station (Refused at fault) old new given station is = still_station station
 unread_station (Cut have) old new given station is = still_station station
@@ -31,7 +32,8 @@ unread_station StationFault old new given station is = absurd is
 unread_station Memory old new given station is = still_station station
 
 -- where no outcome was made, the link is as before
-pub unmade_link : (served : Served) (table : List Compiler) (ran : List Word → List ℕ → Ran → Type 0) (before after : StationView) (q : Request) (count : ℕ) → Made table ran before after q (Err served) → LinkCause served count count
+pub unmade_link : (served : Served) (table : List Compiler) (ran : List Word → List ℕ → Ran → Type 0) (before after : StationView)
+    (q : Request) (count : ℕ) → Made table ran before after q (Err served) → LinkCause served count count
 unmade_link (Answered status) table ran before after q count made = refl
 unmade_link (Refused at fault) table ran before after q count made = refl
 unmade_link (Cut have) table ran before after q count made = refl
@@ -41,7 +43,8 @@ unmade_link StationFault table ran before after q count made = refl
 unmade_link Memory table ran before after q count made = refl
 
 -- while a reply is sent, the station is as before
-pub replied_station : (served : Served) (text : List ℕ) (status : ℕ) (old new : LinkView) (before after : StationView) → Replied text status old new served → StationStill before after → StationCause served before after
+pub replied_station : (served : Served) (text : List ℕ) (status : ℕ) (old new : LinkView) (before after : StationView)
+    → Replied text status old new served → StationStill before after → StationCause served before after
 replied_station (Answered said) text status old new before after done none = none
 replied_station (Refused at fault) text status old new before after done none = none
 replied_station (Cut have) text status old new before after done none = none

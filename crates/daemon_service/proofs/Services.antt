@@ -19,22 +19,30 @@ either : {A B : Type 0} → A ⊎ B → (A → ⊥) → (B → ⊥) → ⊥
 either (inl a) no_a no_b = no_a a
 either (inr b) no_a no_b = no_b b
 
-pub whole : (table : List Compiler) (served : Served) (runs : List Run) (x : Visit) (used : ℕ) (q : Request) (old now : ℕ) (before after : StationView)
+pub whole : (table : List Compiler) (served : Served) (runs : List Run) (x : Visit) (used : ℕ) (q : Request) (old now : ℕ)
+    (before after : StationView)
     → ServedAs table served runs x → EndsBy served x → LinkCause served old now → StationCause served before after
     → BeginsRequest x.given used q → (Rose old now → ⊥) → (Rose before.faults after.faults → ⊥) → (Rose before.overruns after.overruns → ⊥)
     → x.stopped ≡ false → IsAnswered served ⊎ (served ≡ Memory)
 whole table (Answered status) runs x used q old now before after is ends link station begins no_link no_fault no_overrun going = inl tt
-whole table (Refused at fault) runs x used q old now before after is ends link station begins no_link no_fault no_overrun going = absurd (spelled_or_fault x.given used at q fault begins is.0)
-whole table (Cut have) runs x used q old now before after is ends link station begins no_link no_fault no_overrun going = absurd (is.0.no_value used q begins)
-whole table LinkFault runs x used q old now before after is ends link station begins no_link no_fault no_overrun going = absurd (no_link link)
-whole table Stopped runs x used q old now before after is ends link station begins no_link no_fault no_overrun going = absurd (cc ends.stopped)
-whole table StationFault runs x used q old now before after is ends link station begins no_link no_fault no_overrun going = absurd (either station no_fault no_overrun)
+whole table (Refused at fault) runs x used q old now before after is ends link station begins no_link no_fault no_overrun going =
+    absurd (spelled_or_fault x.given used at q fault begins is.0)
+whole table (Cut have) runs x used q old now before after is ends link station begins no_link no_fault no_overrun going =
+    absurd (is.0.no_value used q begins)
+whole table LinkFault runs x used q old now before after is ends link station begins no_link no_fault no_overrun going =
+    absurd (no_link link)
+whole table Stopped runs x used q old now before after is ends link station begins no_link no_fault no_overrun going =
+    absurd (cc ends.stopped)
+whole table StationFault runs x used q old now before after is ends link station begins no_link no_fault no_overrun going =
+    absurd (either station no_fault no_overrun)
 whole table Memory runs x used q old now before after is ends link station begins no_link no_fault no_overrun going = inr refl
 
-asked_or_fault : (table : List Compiler) (given : List ℕ) (runs : List Run) (o : Outcome) (at : ℕ) (fault : RequestFault) → IsAsked table given runs o → RequestFaultStands given at fault → ⊥
+asked_or_fault : (table : List Compiler) (given : List ℕ) (runs : List Run) (o : Outcome) (at : ℕ) (fault : RequestFault)
+    → IsAsked table given runs o → RequestFaultStands given at fault → ⊥
 asked_or_fault table given runs o at fault asked stands = spelled_or_fault given asked.used at asked.q fault asked.spelled stands
 
-unread_or_asked : (table : List Compiler) (runs : List Run) (x : Visit) (at : ℕ) (fault : RequestFault) → ((IsShortRequest x.given × WroteNothing runs x) ⊎ WrotePart table runs x) → RequestFaultStands x.given at fault → ⊥
+unread_or_asked : (table : List Compiler) (runs : List Run) (x : Visit) (at : ℕ) (fault : RequestFault)
+    → ((IsShortRequest x.given × WroteNothing runs x) ⊎ WrotePart table runs x) → RequestFaultStands x.given at fault → ⊥
 unread_or_asked table runs x at fault (inl unread) stands = unread.0.no_fault at fault stands
 unread_or_asked table runs x at fault (inr part) stands = asked_or_fault table x.given runs part.o at fault part.asked stands
 
@@ -50,7 +58,8 @@ refused table Stopped runs x at f is stands = absurd (asked_or_fault table x.giv
 refused table StationFault runs x at f is stands = absurd (spelled_or_fault x.given is.0.0 at is.0.1 f is.0.2 stands)
 refused table Memory runs x at f is stands = inr refl
 
-asked_or_short : (table : List Compiler) (given : List ℕ) (runs : List Run) (o : Outcome) → IsAsked table given runs o → IsShortRequest given → ⊥
+asked_or_short : (table : List Compiler) (given : List ℕ) (runs : List Run) (o : Outcome) → IsAsked table given runs o
+    → IsShortRequest given → ⊥
 asked_or_short table given runs o asked short = short.no_value asked.used asked.q asked.spelled
 
 pub short : (table : List Compiler) (served : Served) (runs : List Run) (x : Visit) (old now : ℕ)
@@ -64,7 +73,8 @@ short table Stopped runs x old now is link less no_link = absurd (asked_or_short
 short table StationFault runs x old now is link less no_link = absurd (less.no_value is.0.0 is.0.1 is.0.2)
 short table Memory runs x old now is link less no_link = inr refl
 
-pub end : (table : List Compiler) (served : Served) (runs : List Run) (x : Visit) → ServedAs table served runs x → EndsBy served x → x.ended ≡ true → served ≡ Cut (length x.given)
+pub end : (table : List Compiler) (served : Served) (runs : List Run) (x : Visit) → ServedAs table served runs x → EndsBy served x
+    → x.ended ≡ true → served ≡ Cut (length x.given)
 end table (Answered status) runs x is ends ended = absurd (cc ends.ended)
 end table (Refused place found) runs x is ends ended = absurd (cc ends.ended)
 end table (Cut have) runs x is ends ended = ap Cut (sym is.1)
@@ -78,7 +88,8 @@ one_answer table q runs o (unknown is) = omega (arith, ap length is.no_run)
 one_answer table q runs o (not_one_source is) = omega (arith, ap length is.no_run)
 one_answer table q runs o (compiled is) = omega (arith, ap length is.one_run)
 
-unread_or_part : (table : List Compiler) (runs : List Run) (x : Visit) → ((IsShortRequest x.given × WroteNothing runs x) ⊎ WrotePart table runs x) → length runs ≤ 1
+unread_or_part : (table : List Compiler) (runs : List Run) (x : Visit)
+    → ((IsShortRequest x.given × WroteNothing runs x) ⊎ WrotePart table runs x) → length runs ≤ 1
 unread_or_part table runs x (inl unread) = omega (arith, ap length unread.1.no_run)
 unread_or_part table runs x (inr part) = one_answer table part.asked.q runs part.o part.asked.answers.answer
 

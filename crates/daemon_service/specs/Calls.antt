@@ -26,7 +26,8 @@ abbrev pub IsUncompiled : Served → Type 0
 IsUncompiled (Answered status) = IsRefused status
 IsUncompiled other = Unit {0}
 
--- The answer is by a run that ended so: with a status it is that of the run, and any other than a fault of the station or want of memory comes of a run
+-- The answer is by a run that ended so: with a status it is that of the run, and any other than a fault of the station or want of
+-- memory comes of a run
 -- that came to something.
 abbrev pub IsEnded : Result Ran StationFault → Served → Type 0
 IsEnded ended (Answered status) = (ran : Ran) × (ended ≡ Ok ran) × (ran.status ≡ status)
@@ -38,7 +39,8 @@ module _ {S : Type 0} (goes : S → List Word → List ℕ → Bounds → Result
   -- The words that compile a request were run once, by this program, or memory was wanting before.
   abbrev pub Tries : List ℕ → Request → S → S → Result Ran StationFault → Type 0
   Tries program q before after ended =
-      ((after ≡ before) × (ended ≡ Err Memory)) ⊎ goes before (with_program program (placed_words q.words)) q.source compile_bounds ended after
+      ((after ≡ before) × (ended ≡ Err Memory)) ⊎ goes before (with_program program (placed_words q.words)) q.source compile_bounds
+      ended after
 
   -- The station wasn't called for a request; or it was once, and the outcome is that of this run.
   pub data Asks (table : List Compiler) (q : Request) (before after : S) (result : Result Outcome Served) : Type 0 where

@@ -97,7 +97,8 @@ MayRun ran (run ∷ runs) = ran run.words run.input run.ran × MayRun ran runs
 
 -- What passed over the link and what was run show the service by its answer. The link and the station tell it, where they
 -- tell anything; a station that doesn't tell its runs made some of which the same holds.
-pub record Service (table : List Compiler) (ran : List Word → List ℕ → Ran → Type 0) (old new : LinkView) (before after : StationView) (answer : Served) : Type 0 where
+pub record Service (table : List Compiler) (ran : List Word → List ℕ → Ran → Type 0) (old new : LinkView)
+    (before after : StationView) (answer : Served) : Type 0 where
   pub given : List ℕ
   pub sent : List ℕ
   pub runs : List Run

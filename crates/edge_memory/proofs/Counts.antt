@@ -11,7 +11,8 @@ module _ {A : Type 0} (p : A → Bool) where
   step : (x : A) (xs : List A) → count_by p (x ∷ xs) ≡ one_if (p x) + count_by p xs
   step x xs = sum_by-cons (λ y. one_if (p y)) x xs
 
-  pub count-set : (l : List A) (i : ℕ) (a b : A) → get_elem? l i ≡ some b → count_by p (set l i a) + one_if (p b) ≡ count_by p l + one_if (p a)
+  pub count-set : (l : List A) (i : ℕ) (a b : A) → get_elem? l i ≡ some b
+      → count_by p (set l i a) + one_if (p b) ≡ count_by p l + one_if (p a)
   count-set [] i a b e = absurd (some-ne-none b (sym e))
   count-set (x ∷ xs) zero a b e =
       let same : one_if (p x) ≡ one_if (p b) = ap (λ (y : A). one_if (p y)) (some-injective x b e) in

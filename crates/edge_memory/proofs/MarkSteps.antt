@@ -18,20 +18,34 @@ pub admits : Admits KeptAt outsider
 admits x views kept = let more = count-snoc is_inside views outsider in let k : count_by is_inside views ≡ marks_of x = kept in omega arith
 
 -- a user enters
-entered : (pass : ℕ) (v : MarkView) → v.inside ≡ false → (views : List MarkView) → KeptAt Clear views → get_elem? views pass ≡ some v → KeptAt Set (set views pass (tried v Clear))
+entered : (pass : ℕ) (v : MarkView) → v.inside ≡ false → (views : List MarkView) → KeptAt Clear views
+    → get_elem? views pass ≡ some v → KeptAt Set (set views pass (tried v Clear))
 entered pass v outside views kept at =
     let out : one_if (is_inside v) ≡ 0 = ap one_if outside in
     let n = count-set is_inside views pass (tried v Clear) v at in
     let k : count_by is_inside views ≡ 0 = kept in omega arith
 
 -- a user is refused
-refused : (pass : ℕ) (v : MarkView) (views : List MarkView) → KeptAt Set views → get_elem? views pass ≡ some v → KeptAt Set (set views pass (tried v Set))
-refused pass v views kept at = let n = count-set is_inside views pass (tried v Set) v at in let k : count_by is_inside views ≡ 1 = kept in omega arith
+refused : (pass : ℕ) (v : MarkView) (views : List MarkView) → KeptAt Set views → get_elem? views pass ≡ some v
+    → KeptAt Set (set views pass (tried v Set))
+refused pass v views kept at = let n = count-set is_inside views pass (tried v Set) v at in let k : count_by is_inside views ≡ 1 =
+    kept in omega arith
 
 -- an exchange from Clear to Set, where the test tells the two apart
-pub enters-turn : (same : Marked → Bool) → same Clear ≡ true → same Set ≡ false → (pass : ℕ) (v : MarkView) → v.inside ≡ false → Turns KeptAt pass v (λ x. if same x then Set else x) EntersAt
-enters-turn same hit miss pass v outside Clear views kept at = (tried v Clear, subst (λ b. KeptAt (if b then Set else Clear) (set views pass (tried v Clear))) (sym hit) (entered pass v outside views kept at), refl)
-enters-turn same hit miss pass v outside Set views kept at = (tried v Set, subst (λ b. KeptAt (if b then Set else Set) (set views pass (tried v Set))) (sym miss) (refused pass v views kept at), refl)
+pub enters-turn : (same : Marked → Bool) → same Clear ≡ true → same Set ≡ false → (pass : ℕ) (v : MarkView) → v.inside ≡ false
+    → Turns KeptAt pass v (λ x. if same x then Set else x) EntersAt
+enters-turn same hit miss pass v outside Clear views kept at = (
+  tried v Clear,
+  subst (λ b. KeptAt (if b then Set else Clear) (set views pass (tried v Clear))) (sym hit)
+      (entered pass v outside views kept at),
+  refl,
+)
+enters-turn same hit miss pass v outside Set views kept at = (
+  tried v Set,
+  subst (λ b. KeptAt (if b then Set else Set) (set views pass (tried v Set))) (sym miss)
+      (refused pass v views kept at),
+  refl,
+)
 
 -- the user that is inside leaves
 pub leaves-turn : (pass : ℕ) (v : MarkView) → v.inside ≡ true → Turns KeptAt pass v (λ x. Clear) LeavesAt

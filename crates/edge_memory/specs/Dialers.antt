@@ -22,15 +22,23 @@ pub record DialerState : Type 0 where
   pub exchanges : List Exchange
 
 abbrev pub dialer_state : MemDialer → DialerState
-dialer_state dialer = record { links = dialer.links.items; fails = dialer.calls.fails; made = dialer.calls.made; exchanges = dialer.exchanges }
+dialer_state dialer = record {
+  links = dialer.links.items;
+  fails = dialer.calls.fails;
+  made = dialer.calls.made;
+  exchanges =
+      dialer.exchanges;
+}
 
 -- what it tells
 abbrev pub dialer_shows : DialerState → DialerView
 dialer_shows dialer = record { exchanges = told dialer.exchanges; faults = failed_calls dialer.fails dialer.made }
 
--- The next dial may answer this. One that isn't to fail gives a link of the next script, or one that ends at once where the scripts are used up. Each dial may want memory, since its entry takes some.
+-- The next dial may answer this. One that isn't to fail gives a link of the next script, or one that ends at once where the scripts
+-- are used up. Each dial may want memory, since its entry takes some.
 abbrev pub IsDialAnswer : DialerState → HostName → ℕ → Result MemLink EdgeFault → Type 0
-IsDialAnswer dialer host port (Ok link) = (names_next dialer.fails dialer.made ≡ false) × (link_state link ≡ new_link (first_or ends_at_once dialer.links) (record { host = host; port = port }) true false)
+IsDialAnswer dialer host port (Ok link) = (names_next dialer.fails dialer.made ≡ false)
+    × (link_state link ≡ new_link (first_or ends_at_once dialer.links) (record { host = host; port = port }) true false)
 IsDialAnswer dialer host port (Err Failed) = names_next dialer.fails dialer.made ≡ true
 IsDialAnswer dialer host port (Err Memory) = Unit {0}
 

@@ -14,7 +14,8 @@ use Rattle.edge_memory.specs.Scripts.{first_or, ends_at_once}
 use Rattle.edge_memory.specs.Links.{link_state, new_link, nowhere}
 use Rattle.edge_memory.specs.Dialers.{links_after}
 
--- the scripts of links and the peers that are still to come, which accepts fail, how many there were, counted up to the greatest u64, the addresses that were given, and the entries
+-- the scripts of links and the peers that are still to come, which accepts fail, how many there were, counted up to the greatest
+-- u64, the addresses that were given, and the entries
 pub record DoorState : Type 0 where
   pub links : List LinkScript
   pub peers : List ℕ
@@ -24,15 +25,26 @@ pub record DoorState : Type 0 where
   pub visits : List Visit
 
 abbrev pub door_state : MemDoor → DoorState
-door_state door = record { links = door.links.items; peers = door.peers.items; fails = door.calls.fails; made = door.calls.made; came = door.came; visits = door.visits }
+door_state door = record {
+  links = door.links.items;
+  peers = door.peers.items;
+  fails = door.calls.fails;
+  made =
+      door.calls.made;
+  came = door.came;
+  visits = door.visits;
+}
 
 -- what it tells
 abbrev pub door_shows : DoorState → DoorView
 door_shows door = record { visits = told door.visits; peers = told door.came; faults = failed_calls door.fails door.made }
 
--- The next accept may answer this. One that isn't to fail gives a link of the next script, or one that ends at once where the scripts are used up, and the next peer, or 0.
+-- The next accept may answer this. One that isn't to fail gives a link of the next script, or one that ends at once where the
+-- scripts are used up, and the next peer, or 0.
 abbrev pub IsAcceptAnswer : DoorState → Result (MemLink × ℕ) EdgeFault → Type 0
-IsAcceptAnswer door (Ok accepted) = (names_next door.fails door.made ≡ false) × (link_state accepted.0 ≡ new_link (first_or ends_at_once door.links) nowhere false true) × (accepted.1 ≡ first_or 0 door.peers)
+IsAcceptAnswer door (Ok accepted) =
+    (names_next door.fails door.made ≡ false)
+    × (link_state accepted.0 ≡ new_link (first_or ends_at_once door.links) nowhere false true) × (accepted.1 ≡ first_or 0 door.peers)
 IsAcceptAnswer door (Err Failed) = names_next door.fails door.made ≡ true
 IsAcceptAnswer door (Err Memory) = names_next door.fails door.made ≡ false
 

@@ -13,7 +13,8 @@ use Rattle.edge_traits.specs.Keepers.{PendingPut, KeeperView, HasLength, put_ent
 use Rattle.edge_memory.specs.declared.keeper.MemKeeper.{MemKeeper}
 use Rattle.edge_traits.specs.Calls.{names_next, one_more, failed_calls}
 
--- the files, which calls fail, how many calls and overruns there were, both counted up to the greatest u64, the entries, and the put that is pending
+-- the files, which calls fail, how many calls and overruns there were, both counted up to the greatest u64, the entries, and the
+-- put that is pending
 pub record KeeperState : Type 0 where
   pub files : Files
   pub fails : List ℕ
@@ -24,7 +25,16 @@ pub record KeeperState : Type 0 where
   pub pending : Option Put
 
 abbrev pub keeper_state : MemKeeper → KeeperState
-keeper_state keeper = record { files = keeper.files; fails = keeper.calls.fails; made = keeper.calls.made; overruns = keeper.overruns; puts = keeper.puts; fetches = keeper.fetches; pending = keeper.pending }
+keeper_state keeper = record {
+  files = keeper.files;
+  fails = keeper.calls.fails;
+  made = keeper.calls.made;
+  overruns =
+      keeper.overruns;
+  puts = keeper.puts;
+  fetches = keeper.fetches;
+  pending = keeper.pending;
+}
 
 -- what a pending put tells, which is all of it
 abbrev pub pending_of : Option Put → Option PendingPut
@@ -83,13 +93,16 @@ pub record IsHeld (keeper : KeeperState) (path : List ℕ) (bound : ℕ) (bytes 
   pub there : get keeper.files path ≡ Some bytes
   pub within : length bytes ≤ bound
 
--- The next fetch may answer this. The script alone decides which fetches fail; of the others only one that has a file to give may want memory.
+-- The next fetch may answer this. The script alone decides which fetches fail; of the others only one that has a file to give may
+-- want memory.
 abbrev pub IsFetchAnswer : KeeperState → List ℕ → ℕ → Result (List ℕ) FetchFault → Type 0
 IsFetchAnswer keeper path bound (Ok bytes) = (names_next keeper.fails keeper.made ≡ false) × IsHeld keeper path bound bytes
 IsFetchAnswer keeper path bound (Err Failed) = names_next keeper.fails keeper.made ≡ true
 IsFetchAnswer keeper path bound (Err Absent) = (names_next keeper.fails keeper.made ≡ false) × (get keeper.files path ≡ None)
-IsFetchAnswer keeper path bound (Err (TooMuch bytes)) = (names_next keeper.fails keeper.made ≡ false) × HasLength keeper.files path bytes × (bound < bytes)
-IsFetchAnswer keeper path bound (Err Memory) = (names_next keeper.fails keeper.made ≡ false) × (bytes : List ℕ) × IsHeld keeper path bound bytes
+IsFetchAnswer keeper path bound (Err (TooMuch bytes)) = (names_next keeper.fails keeper.made ≡ false)
+    × HasLength keeper.files path bytes × (bound < bytes)
+IsFetchAnswer keeper path bound (Err Memory) = (names_next keeper.fails keeper.made ≡ false) × (bytes : List ℕ)
+    × IsHeld keeper path bound bytes
 
 abbrev pub after_fetch : KeeperState → List ℕ → Result (List ℕ) FetchFault → KeeperState
 after_fetch keeper path result = record keeper {

@@ -8,7 +8,8 @@ use Rattle.edge_memory.specs.declared.link.MemLink.{MemLink}
 use Rattle.edge_traits.specs.Calls.{one_more, failed_calls}
 use Rattle.edge_memory.specs.Moving.{count_of}
 
--- the script and whom the link was dialed to; how many calls it had, counted up to the greatest u64; what passed so far; and what may be done with it at its end
+-- the script and whom the link was dialed to; how many calls it had, counted up to the greatest u64; what passed so far; and what
+-- may be done with it at its end
 pub record LinkState : Type 0 where
   pub script : LinkScript
   pub origin : Origin
@@ -69,7 +70,13 @@ abbrev pub left_of : LinkState → List ℕ
 left_of link = drop link.given link.script.gives
 
 abbrev pub after_send : LinkState → List ℕ → Result ℕ EdgeFault → LinkState
-after_send link piece result = record link { made = one_more link.made; sent = link.sent ++ moved result piece; stopped = link.stopped || moved_none result }
+after_send link piece result =
+    record link { made = one_more link.made; sent = link.sent ++ moved result piece; stopped = link.stopped || moved_none result }
 
 abbrev pub after_recv : LinkState → Result ℕ EdgeFault → LinkState
-after_recv link result = record link { made = one_more link.made; given = link.given + count_of result; ended = link.ended || moved_none result }
+after_recv link result = record link {
+  made = one_more link.made;
+  given = link.given + count_of result;
+  ended =
+      link.ended || moved_none result;
+}

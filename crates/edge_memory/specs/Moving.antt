@@ -5,7 +5,8 @@ use Rattle.edge_traits.specs.declared.faults.EdgeFault.TheVariants.{Failed}
 use Rattle.edge_memory.specs.declared.script.Moves.{Moves}
 use Rattle.edge_traits.specs.Calls.{names_next}
 
--- How many bytes the call after so many moves, where so many could be moved: 0 where its number is in the list, and else as many as one call may.
+-- How many bytes the call after so many moves, where so many could be moved: 0 where its number is in the list, and else as many as
+-- one call may.
 abbrev pub next_size : List ℕ → ℕ → ℕ → ℕ → ℕ
 next_size zeros most made limit = if names_next zeros made then 0 else min limit most
 

@@ -16,11 +16,18 @@ pub record SinkState : Type 0 where
   pub stopped : Bool
 
 abbrev pub sink_state : MemSink → SinkState
-sink_state sink = record { moves = record { fails = sink.calls.fails; zeros = sink.zeros; most = sink.most }; made = sink.calls.made; written = sink.written; stopped = sink.stopped }
+sink_state sink = record {
+  moves = record { fails = sink.calls.fails; zeros = sink.zeros; most = sink.most };
+  made =
+      sink.calls.made;
+  written = sink.written;
+  stopped = sink.stopped;
+}
 
 -- what it tells
 abbrev pub sink_shows : SinkState → SinkView
 sink_shows sink = record { written = told sink.written; stopped = sink.stopped; faults = failed_calls sink.moves.fails sink.made }
 
 abbrev pub after_write : SinkState → List ℕ → Result ℕ EdgeFault → SinkState
-after_write sink piece result = record sink { made = one_more sink.made; written = sink.written ++ moved result piece; stopped = sink.stopped || moved_none result }
+after_write sink piece result =
+    record sink { made = one_more sink.made; written = sink.written ++ moved result piece; stopped = sink.stopped || moved_none result }

@@ -19,7 +19,15 @@ pub record SourceState : Type 0 where
   pub ended : Bool
 
 abbrev pub source_state : MemSource → SourceState
-source_state source = record { text = source.text; fails = source.calls.fails; most = source.most; made = source.calls.made; given = source.at; ended = source.ended }
+source_state source = record {
+  text = source.text;
+  fails = source.calls.fails;
+  most = source.most;
+  made = source.calls.made;
+  given =
+      source.at;
+  ended = source.ended;
+}
 
 -- the bytes that are still to be given
 abbrev pub left_of : SourceState → List ℕ
@@ -36,7 +44,9 @@ source_shows source = record {
 
 -- what the next read answers, into a room of so many bytes
 abbrev pub read_answer : SourceState → ℕ → Result ℕ EdgeFault
-read_answer source limit = if names_next source.fails source.made then Err Failed else Ok (min (min limit (length (left_of source))) source.most)
+read_answer source limit =
+    if names_next source.fails source.made then Err Failed else Ok (min (min limit (length (left_of source))) source.most)
 
 abbrev pub after_read : SourceState → Result ℕ EdgeFault → SourceState
-after_read source result = record source { made = one_more source.made; given = source.given + count_of result; ended = source.ended || moved_none result }
+after_read source result =
+    record source { made = one_more source.made; given = source.given + count_of result; ended = source.ended || moved_none result }

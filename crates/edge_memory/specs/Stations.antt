@@ -15,7 +15,8 @@ use Rattle.edge_memory.specs.declared.station.MemStation.{MemStation}
 use Rattle.edge_traits.specs.Calls.{names_next, one_more, failed_calls}
 use Rattle.edge_memory.specs.Scripts.{first_or}
 
--- the runs that are still to be given, which calls fail, how many calls and overruns there were, both counted up to the greatest u64, and the entries
+-- the runs that are still to be given, which calls fail, how many calls and overruns there were, both counted up to the greatest
+-- u64, and the entries
 pub record StationState : Type 0 where
   pub rans : List Ran
   pub fails : List ℕ
@@ -24,7 +25,14 @@ pub record StationState : Type 0 where
   pub runs : List Run
 
 abbrev pub station_state : MemStation → StationState
-station_state station = record { rans = station.rans.items; fails = station.calls.fails; made = station.calls.made; overruns = station.overruns; runs = station.runs }
+station_state station = record {
+  rans = station.rans.items;
+  fails = station.calls.fails;
+  made = station.calls.made;
+  overruns =
+      station.overruns;
+  runs = station.runs;
+}
 
 -- what it tells
 abbrev pub station_shows : StationState → StationView
@@ -48,10 +56,13 @@ first_over bounds ran =
 
 -- The next run may answer this. The script alone decides which runs fail and which are above a bound; of the others one may want memory.
 abbrev pub IsRunAnswer : StationState → List Word → Bounds → Result Ran StationFault → Type 0
-IsRunAnswer station words bounds (Ok ran) = (names_next station.fails station.made ≡ false) × (first_over bounds (next_ran station words) ≡ None) × (ran ≡ next_ran station words)
+IsRunAnswer station words bounds (Ok ran) = (names_next station.fails station.made ≡ false)
+    × (first_over bounds (next_ran station words) ≡ None) × (ran ≡ next_ran station words)
 IsRunAnswer station words bounds (Err Failed) = names_next station.fails station.made ≡ true
-IsRunAnswer station words bounds (Err (TooMuch stream bytes)) = (names_next station.fails station.made ≡ false) × (first_over bounds (next_ran station words) ≡ Some (stream, bytes))
-IsRunAnswer station words bounds (Err Memory) = (names_next station.fails station.made ≡ false) × (first_over bounds (next_ran station words) ≡ None)
+IsRunAnswer station words bounds (Err (TooMuch stream bytes)) = (names_next station.fails station.made ≡ false)
+    × (first_over bounds (next_ran station words) ≡ Some (stream, bytes))
+IsRunAnswer station words bounds (Err Memory) = (names_next station.fails station.made ≡ false)
+    × (first_over bounds (next_ran station words) ≡ None)
 
 -- the script after a run: one that was given or was above its bound is used up
 abbrev pub rans_after : List Ran → Result Ran StationFault → List Ran

@@ -11,7 +11,10 @@ use Rattle.object_delivery.specs.Staging.{Kept}
 use Rattle.edge_real.specs.Kits.{IsSystemKit}
 
 -- one kit more
-pub one_kit_more : {R : Type 0} (rt : R) (folder : List ℕ) (process : ℕ) (kits more : List (Kit (TcpDialer R) (ChildStation R) (Kept (DiskFiles R)) (WallClock R))) (kit : Kit (TcpDialer R) (ChildStation R) (Kept (DiskFiles R)) (WallClock R))
-    → IsSystemKit rt folder process kit → All (IsSystemKit rt folder process) kits → more ≡ kits ++ kit ∷ [] → All (IsSystemKit rt folder process) more
+pub one_kit_more : {R : Type 0} (rt : R) (folder : List ℕ) (process : ℕ)
+    (kits more : List (Kit (TcpDialer R) (ChildStation R) (Kept (DiskFiles R)) (WallClock R)))
+    (kit : Kit (TcpDialer R) (ChildStation R) (Kept (DiskFiles R)) (WallClock R))
+    → IsSystemKit rt folder process kit → All (IsSystemKit rt folder process) kits → more ≡ kits ++ kit ∷ []
+    → All (IsSystemKit rt folder process) more
 one_kit_more rt folder process kits more kit is all grown =
     subst (All (IsSystemKit rt folder process)) (sym grown) (All-push (IsSystemKit rt folder process) kits kit all is)

@@ -1,5 +1,6 @@
 -- What a program is given, and what a run of it that came to nothing may answer.
-use Rattle.std.specs.Prelude.{◌≡◌, ℕ, ◌<◌, ◌==◌, Bool, false, not, ◌&&◌, ◌||◌, nat_eq, List, [], ◌∷◌, ◌++◌, map, Option, None, Some, Result, Ok, Err, codes, if◌then◌else◌}
+use Rattle.std.specs.Prelude.{◌≡◌, ℕ, ◌<◌, ◌==◌, Bool, false, not, ◌&&◌, ◌||◌, nat_eq, List, [], ◌∷◌, ◌++◌, map, Option, None, Some}
+use Rattle.std.specs.Prelude.{Result, Ok, Err, codes, if◌then◌else◌}
 use Rattle.std.specs.List.{list_any, starts_with}
 use Rattle.std.specs.Option.{option_map, unwrap_or, is_some}
 use Rattle.std.specs.Str.{IsUtf8}
@@ -118,7 +119,8 @@ first_named_from here (program ∷ arguments) = named_from here program ∷ argu
 
 -- the words' program with their arguments, in this process's environment and in the folder in which the input and the object are
 pub record IsCommandIn {A : Type 0} (words : List Word) (here place : List ℕ) (command : Command A) : Type 0 where
-  pub words_given : command_program command ∷ command_args command ≡ first_named_from here (map (given_word (source_of words) object_text) words)
+  pub words_given : command_program command ∷ command_args command
+      ≡ first_named_from here (map (given_word (source_of words) object_text) words)
   pub environment : clears_env command ≡ false
   pub variables : (name : List ℕ) → command_var command name ≡ None
   pub folder : command_dir command ≡ Some place

@@ -7,10 +7,13 @@ use Rattle.edge_real.specs.declared.disk.DiskFiles.{DiskFiles}
 use Rattle.edge_real.specs.declared.clock.WallClock.{WallClock}
 use Rattle.object_delivery.specs.Staging.{Kept}
 use Rattle.edge_real.specs.OwnNames.{first_names}
-use Rattle.edge_real.specs.Views.{dialer_view, counted_dialer, station_view, counted_station, folder_of, files_view, counted_files, files_names, runtime_of}
+use Rattle.edge_real.specs.Views.{dialer_view, counted_dialer, station_view, counted_station, folder_of, files_view, counted_files}
+use Rattle.edge_real.specs.Views.{files_names, runtime_of}
 
--- nothing happened yet, the folders of the station's runs are made in this folder, and what is for a device is written there, under the number of this process
-pub record IsSystemKit {R : Type 0} (rt : R) (folder : List ℕ) (process : ℕ) (kit : Kit (TcpDialer R) (ChildStation R) (Kept (DiskFiles R)) (WallClock R)) : Type 0 where
+-- nothing happened yet, the folders of the station's runs are made in this folder, and what is for a device is written there, under
+-- the number of this process
+pub record IsSystemKit {R : Type 0} (rt : R) (folder : List ℕ) (process : ℕ)
+    (kit : Kit (TcpDialer R) (ChildStation R) (Kept (DiskFiles R)) (WallClock R)) : Type 0 where
   pub dialer : dialer_view kit.dialer ≡ counted_dialer 0
   pub station : station_view kit.station ≡ counted_station 0 0
   pub runs : folder_of kit.station ≡ folder

@@ -22,7 +22,8 @@ next_names names = record { folder = names.folder; process = names.process; seri
 
 -- `FOLDER/farm-PROCESS-SERIAL.ENDING`, with the serial of the last name
 abbrev pub own_name : NamesView → List ℕ → List ℕ
-own_name names ending = names.folder ++ (codes "/farm-" ++ decimal names.process ++ codes "-" ++ decimal names.serial ++ codes ".") ++ ending
+own_name names ending = names.folder ++ (codes "/farm-" ++ decimal names.process ++ codes "-" ++ decimal names.serial ++ codes ".")
+    ++ ending
 
 -- the names are of one folder and one process
 pub record SameOwner (old new : NamesView) : Type 0 where

@@ -204,7 +204,8 @@ may f l r b w v m turns courses inv (Waits j mask kind) next room fit idle =
     elim (inv.stands j below) [
       | inl over ↦ let none : Some fit.2.0 ≡ None = sym fit.2.1 ∙ over.0 in cc
       | inr o ↦
-          let is : MaskIs mask (f.wants (slots_of o.done)) = subst (λ (p : List SlotEvent). MaskIs mask (f.wants p)) (sym o.slots) fit.1 in (
+          let is : MaskIs mask (f.wants (slots_of o.done)) =
+          subst (λ (p : List SlotEvent). MaskIs mask (f.wants p)) (sym o.slots) fit.1 in (
             o.done,
             o.begun ∙ ap (λ (u : ℕ). Begun u o.done) by,
             is,

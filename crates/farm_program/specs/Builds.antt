@@ -32,7 +32,8 @@ abbrev pub input_limit : ℕ
 input_limit = job_list_max + 1
 
 -- Each job of the list was run, by this many workers over slots that keep the limits of the host list. What was built tells of it.
-pub record JobsDone {K : Type 0} (d : Devices K) (config : JobConfig) (jobs : List (List (List ℕ))) (workers : ℕ) (built : List Built) (old new : List K) : Type 0 where
+pub record JobsDone {K : Type 0} (d : Devices K) (config : JobConfig) (jobs : List (List (List ℕ))) (workers : ℕ)
+    (built : List Built) (old new : List K) : Type 0 where
   pub one : Built
   pub only : built ≡ one ∷ []
   pub of_hosts : AreLimitsOf one.last.limits config.hosts
@@ -61,7 +62,8 @@ pub data HasFaultOf (Stands : List ℕ → ℕ → JobFault → Type 0) (old new
 abbrev pub HasListFault : SourceView → SourceView → ℕ → JobFault → Type 0
 HasListFault = HasFaultOf JobFaultStands
 
--- Memory was wanting before the first job began: while the input was read or after that, and no more of it was read than the limit. None was run, and
+-- Memory was wanting before the first job began: while the input was read or after that, and no more of it was read than the limit.
+-- None was run, and
 -- nothing but the notice was printed. No fault of the input is told so.
 pub record Wanted {K : Type 0} (old new : World K) (answer : ℕ) : Type 0 where
   pub read : HasReadSome input_limit old.source new.source
@@ -93,7 +95,8 @@ pub data JobsEnd {K : Type 0} (d : Devices K) (config : JobConfig) (most : ℕ) 
       → JobsEnd d config most jobs old_kits new_kits made old new answer
 
 -- The command was run as the one job of one worker, and its report was to be printed.
-pub record CommandRan {K : Type 0} (d : Devices K) (config : JobConfig) (words : List (List ℕ)) (old new : World K) (answer : ℕ) : Type 0 where
+pub record CommandRan {K : Type 0} (d : Devices K) (config : JobConfig) (words : List (List ℕ)) (old new : World K)
+    (answer : ℕ) : Type 0 where
   pub unread : new.source ≡ old.source
   pub done : JobsDone d config (words ∷ []) 1 new.built old.kits new.kits
   pub report : Report
@@ -101,6 +104,8 @@ pub record CommandRan {K : Type 0} (d : Devices K) (config : JobConfig) (words :
   pub prints : Printing no_memory_text (command_pieces config.hosts.list report.end) (number (report ∷ [])) old.sinks new.sinks answer
 
 -- a single command by this configuration; want of memory before it began is free
-pub data RunsCommand {K : Type 0} (d : Devices K) (config : JobConfig) (words : List (List ℕ)) (old new : World K) (answer : ℕ) : Type 0 where
+pub data RunsCommand {K : Type 0} (d : Devices K) (config : JobConfig) (words : List (List ℕ)) (old new : World K)
+    (answer : ℕ) : Type 0 where
   command_ran : CommandRan d config words old new answer → RunsCommand d config words old new answer
-  command_wanted : new.source ≡ old.source → WithoutJobs old new → WantOf no_memory_text [] old.sinks new.sinks answer → RunsCommand d config words old new answer
+  command_wanted : new.source ≡ old.source → WithoutJobs old new → WantOf no_memory_text [] old.sinks new.sinks answer
+      → RunsCommand d config words old new answer

@@ -23,19 +23,25 @@ use Rattle.farm_program.specs.WatchBuilds.{Watches}
 use Rattle.farm_program.specs.Rehearsed.{DidRehearse}
 use Rattle.farm_program.specs.Settings.{IsConfigOf, build_config}
 
--- A command that runs jobs, by the back-off period of the environment and by the text of a host list. Both are right, and then this is done;
+-- A command that runs jobs, by the back-off period of the environment and by the text of a host list. Both are right, and then this
+-- is done;
 -- or the period isn't; or the period is, and the list has this fault; or memory was wanting while the list was read. What the environment
 -- and the text are tells the first three apart; the last is free.
-pub data OnHosts {K : Type 0} (text : List ℕ) (variables : List (List ℕ × List ℕ)) (Rest : Hosts → ℕ → Type 0) (old new : World K) (answer : ℕ) : Type 0 where
-  on_hosts : {hosts : Hosts} {period : ℕ} → PeriodOf variables period → HostListOf text hosts → Rest hosts period → OnHosts text variables Rest old new answer
-  bad_period : HasBadPeriod variables → OnlyPrinted (complaint bad_period_text) bad_words_status old new answer → OnHosts text variables Rest old new answer
-  bad_hosts : {at : ℕ} {fault : HostFault} (period : ℕ) → PeriodOf variables period → HostFaultStands text at fault → OnlyPrinted (complaint (host_fault_text at fault)) bad_hosts_status old new answer → OnHosts text variables Rest old new answer
+pub data OnHosts {K : Type 0} (text : List ℕ) (variables : List (List ℕ × List ℕ)) (Rest : Hosts → ℕ → Type 0) (old new : World K)
+    (answer : ℕ) : Type 0 where
+  on_hosts : {hosts : Hosts} {period : ℕ} → PeriodOf variables period → HostListOf text hosts → Rest hosts period
+      → OnHosts text variables Rest old new answer
+  bad_period : HasBadPeriod variables → OnlyPrinted (complaint bad_period_text) bad_words_status old new answer
+      → OnHosts text variables Rest old new answer
+  bad_hosts : {at : ℕ} {fault : HostFault} (period : ℕ) → PeriodOf variables period → HostFaultStands text at fault
+      → OnlyPrinted (complaint (host_fault_text at fault)) bad_hosts_status old new answer → OnHosts text variables Rest old new answer
   no_hosts : Untouched old new → WantOf no_memory_text [] old.sinks new.sinks answer → OnHosts text variables Rest old new answer
 
 -- The host list is printed as it is read, or refused by its fault.
 pub record ListsHosts {K : Type 0} (text : List ℕ) (old new : World K) (answer : ℕ) : Type 0 where
   pub untouched : Untouched old new
-  pub lists : ByHosts text (λ hosts. Printing no_memory_text (output (printed_hosts hosts) ∷ []) 0 old.sinks new.sinks answer) old.sinks new.sinks answer
+  pub lists : ByHosts text (λ hosts. Printing no_memory_text (output (printed_hosts hosts) ∷ []) 0 old.sinks new.sinks answer)
+      old.sinks new.sinks answer
 
 -- how a single command is run: with retry, and at one host
 abbrev pub command_config : List (List ℕ × List ℕ) → Hosts → ℕ → JobConfig
@@ -44,13 +50,18 @@ command_config variables hosts period = config_of hosts (is_fallback_on true var
 -- What each command does, by the variables of the environment.
 abbrev pub Does : {K : Type 0} → Devices K → List (List ℕ × List ℕ) → World K → World K → ℕ → Meaning → Type 0
 Does d variables old new answer (Build options) =
-    OnHosts (host_text_of options.hosts variables) variables (λ hosts period. Builds d (build_config options variables hosts period) (worker_count options) old new answer) old new answer
+    OnHosts (host_text_of options.hosts variables) variables
+    (λ hosts period. Builds d (build_config options variables hosts period) (worker_count options) old new answer) old new answer
 Does d variables old new answer (Watch options) =
-    OnHosts (host_text_of options.hosts variables) variables (λ hosts period. Watches d (build_config options variables hosts period) (worker_count options) (line_count options) old new answer) old new answer
+    OnHosts (host_text_of options.hosts variables) variables
+    (λ hosts period. Watches d (build_config options variables hosts period) (worker_count options) (line_count options) old new
+    answer) old new answer
 Does d variables old new answer (Graph options) =
-    OnHosts (host_text_of options.hosts variables) variables (λ hosts period. BuildsGraph d (build_config options variables hosts period) (worker_count options) old new answer) old new answer
+    OnHosts (host_text_of options.hosts variables) variables
+    (λ hosts period. BuildsGraph d (build_config options variables hosts period) (worker_count options) old new answer) old new answer
 Does d variables old new answer (Cc words) =
-    OnHosts (host_text_of None variables) variables (λ hosts period. RunsCommand d (command_config variables hosts period) words old new answer) old new answer
+    OnHosts (host_text_of None variables) variables
+    (λ hosts period. RunsCommand d (command_config variables hosts period) words old new answer) old new answer
 Does d variables old new answer (HostsCommand text) = ListsHosts (host_text_of text variables) old new answer
 Does d variables old new answer (Scan words) = OnlyPrinted (output (class_line words)) 0 old new answer
 Does d variables old new answer (Rehearse jobs) = DidRehearse jobs old new answer

@@ -106,7 +106,8 @@ pub data RunsGraph {K : Type 0} (d : Devices K) (config : JobConfig) (most : ℕ
 -- ---- where source and sinks do nothing wrong
 
 -- Nothing is left unread, all levels of the graph were run, no job waits, and the answer is the number of what became of the jobs.
-pub record GraphCompleted {K : Type 0} (d : Devices K) (config : JobConfig) (most : ℕ) (graph : Graph) (old new : World K) (answer : ℕ) : Type 0 where
+pub record GraphCompleted {K : Type 0} (d : Devices K) (config : JobConfig) (most : ℕ) (graph : Graph) (old new : World K)
+    (answer : ℕ) : Type 0 where
   pub nothing_left : new.source.left.value ≡ []
   pub outcomes : List JobOutcome
   pub levels : LevelsRan d config most graph (level_count graph.depths) outcomes new.built old.kits new.kits

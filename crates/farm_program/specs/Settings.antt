@@ -15,7 +15,8 @@ use Rattle.farm_program.specs.Builds.{config_of}
 
 -- how a build with these options runs its jobs
 abbrev pub build_config : Given → List (List ℕ × List ℕ) → Hosts → ℕ → JobConfig
-build_config options variables hosts period = config_of hosts (is_fallback_on options.fallback variables) options.retry period (try_count options)
+build_config options variables hosts period =
+    config_of hosts (is_fallback_on options.fallback variables) options.retry period (try_count options)
 
 -- The period of the environment is right and the text of the hosts is a host list, and this is the configuration that they give.
 pub record IsConfigOf (options : Given) (variables : List (List ℕ × List ℕ)) (config : JobConfig) : Type 0 where

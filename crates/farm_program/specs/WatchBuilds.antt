@@ -93,7 +93,8 @@ AfterLines SinkFault hosts reports old new answer = (new ≡ old) × (answer ≡
 AfterLines Memory hosts reports old new answer = WantOf no_memory_text [] old new answer
 
 -- the rest of a watched build, once its jobs were read
-pub data WatchEnd {K : Type 0} (d : Devices K) (config : JobConfig) (most lines : ℕ) (jobs : List (List (List ℕ))) (old_kits new_kits : List K)
+pub data WatchEnd {K : Type 0} (d : Devices K) (config : JobConfig) (most lines : ℕ) (jobs : List (List (List ℕ)))
+    (old_kits new_kits : List K)
     (made : List Built) (old new : SinksView) (answer : ℕ) : Type 0 where
   jobs_watched : {counts : List Count} (told : Bool)
       → (done : JobsWatched d config jobs (watched_workers most old_kits jobs) made old_kits new_kits)

@@ -47,13 +47,17 @@ pub record RunMeans {K : Type 0} (d : Devices K) (l : Limits 16) (jobs : ℕ →
   pub honest_ends : (j : ℕ) (other : K) → j < l.jobs
       → AnswersBy (d.peers (slice_index_or old (read.worker j) other)) (d.programs (slice_index_or old (read.worker j) other))
       (d.shows (slice_index_or new (read.worker j) other)) (jobs j) (read.acts j) (read.ends j)
-  -- With fallback on a job whose worker's station and keeper did nothing wrong is done, or memory was wanting, whatever dialers, links and hosts do. So
+  -- With fallback on a job whose worker's station and keeper did nothing wrong is done, or memory was wanting, whatever dialers,
+  -- links and hosts do. So
   -- it is with fallback off where there is a host and no exchange of the run broke: then no host is ever left alone.
   pub returns : (j : ℕ) (other : K) → j < l.jobs → (jobs j).config.fallback ≡ true
-      → IsCalm (d.shows (slice_index_or old (read.worker j) other)) (d.shows (slice_index_or new (read.worker j) other)) → is_done_or_wanted (read.ends j) ≡ true
+      → IsCalm (d.shows (slice_index_or old (read.worker j) other)) (d.shows (slice_index_or new (read.worker j) other))
+      → is_done_or_wanted (read.ends j) ≡ true
   pub returns_unbroken : (j : ℕ) (other : K) → j < l.jobs → 0 < l.count → ((i : ℕ) → i < l.jobs → NoneBroke (jobs i) (read.acts i))
-      → IsCalm (d.shows (slice_index_or old (read.worker j) other)) (d.shows (slice_index_or new (read.worker j) other)) → is_done_or_wanted (read.ends j) ≡ true
-  -- where none of a worker's jobs failed by its station, the station counted nothing, and where none failed by a fetch, no file was missing or too long
+      → IsCalm (d.shows (slice_index_or old (read.worker j) other)) (d.shows (slice_index_or new (read.worker j) other))
+      → is_done_or_wanted (read.ends j) ≡ true
+  -- where none of a worker's jobs failed by its station, the station counted nothing, and where none failed by a fetch, no file was
+  -- missing or too long
   pub stands : (worker : ℕ) (other : K) → worker < workers → ends_so is_station_failure (reports_by worker reports) ≡ 0
       → StationStill (d.shows (slice_index_or old worker other)).station (d.shows (slice_index_or new worker other)).station
   pub found : (worker : ℕ) (other : K) → worker < workers → ends_so is_fetch_failure (reports_by worker reports) ≡ 0
@@ -61,5 +65,6 @@ pub record RunMeans {K : Type 0} (d : Devices K) (l : Limits 16) (jobs : ℕ →
 
 -- so it is of every run of jobs over such devices
 abbrev pub RunMeansLaw : {K : Type 0} → Devices K → Type 0
-RunMeansLaw {K = K} d = (l : Limits 16) (jobs : ℕ → Job) (period workers : ℕ) (reports : List Report) (history : List CallEntry) (last : SlotState 16) (old new : List K)
+RunMeansLaw {K = K} d = (l : Limits 16) (jobs : ℕ → Job) (period workers : ℕ) (reports : List Report) (history : List CallEntry)
+    (last : SlotState 16) (old new : List K)
     → (ran : JobsRan d l jobs period workers reports history last old new) → RunMeans d l jobs workers reports ran.read last old new

@@ -23,7 +23,8 @@ pub record HasKits {K : Type 0} (d : Devices K) (workers : ℕ) (kits : List K) 
   pub idle : All (λ kit. IsIdle (d.shows kit).keeper) kits
 
 -- workers that have done nothing yet, one for each pass of the cell
-pub record AreFresh {D S K C : Type 0} (d : Devices (Kit D S K C)) (c : Cell 16 34) (jobs : ℕ) (workers : List (Worker D S K C)) : Type 0 where
+pub record AreFresh {D S K C : Type 0} (d : Devices (Kit D S K C)) (c : Cell 16 34) (jobs : ℕ)
+    (workers : List (Worker D S K C)) : Type 0 where
   pub passes : AreAllOf c (map pass_of workers)
   pub blank : All (λ p. (seen_of p ≡ []) × (mine_of p ≡ [])) (map pass_of workers)
   pub reserves : All (λ reserve. HasRoom jobs reserve) (map reserve_of workers)

@@ -73,10 +73,12 @@ pub record AreReady {D S K C : Type 0} (d : Devices (Kit D S K C)) (c : Cell 16 
   pub each : All (λ worker. IsReady d c jobs worker) workers
 
 -- a worker did jobs until a draw answered none
-pub record HasWorked {D S K C : Type 0} (d : Devices (Kit D S K C)) (c : Cell 16 34) (jobs : ℕ → Job) (period : ℕ) (old new : Worker D S K C) : Type 0 where
+pub record HasWorked {D S K C : Type 0} (d : Devices (Kit D S K C)) (c : Cell 16 34) (jobs : ℕ → Job) (period : ℕ)
+    (old new : Worker D S K C) : Type 0 where
   pub pass : IsPassOf c new.pass
   pub number : number_of new.pass ≡ number_of old.pass
-  pub worked : WorkedOff (d.peers old.kit) (d.programs old.kit) jobs period (limits_of c) (number_of old.pass) (reports_on new.reserve) (mine_of new.pass) (d.shows old.kit) (d.shows new.kit)
+  pub worked : WorkedOff (d.peers old.kit) (d.programs old.kit) jobs period (limits_of c) (number_of old.pass)
+      (reports_on new.reserve) (mine_of new.pass) (d.shows old.kit) (d.shows new.kit)
   pub back : outstanding (mine_of new.pass) ≡ []
   pub idle : IsIdle (d.shows new.kit).keeper
   pub peers : SameRelation (d.peers old.kit) (d.peers new.kit)

@@ -6,7 +6,8 @@ use Rattle.std.specs.Ordering.{nat_cmp, eq_by_cmp, is_eq}
 use Rattle.std.specs.declared.cmp.Ordering.TheVariants.{Less, Equal, Greater}
 use Rattle.std.specs.Cmp.{eq_by_cmp_equiv}
 use Rattle.std.specs.Cmp.Lexicographic.{slice_cmp, nat_list_cmp_total, texts_ties}
-use Rattle.std.specs.FinMap.{get, insert, remove, retain_keys, get-insert, get-remove, get-retain_keys, slice_cmp-IsAntisymmetric, nat_cmp-IsAntisymmetric}
+use Rattle.std.specs.FinMap.{get, insert, remove, retain_keys, get-insert, get-remove, get-retain_keys, slice_cmp-IsAntisymmetric}
+use Rattle.std.specs.FinMap.{nat_cmp-IsAntisymmetric}
 use Rattle.file_map.specs.FileMaps.{Files}
 use Rattle.file_map.proofs.FileLemmas.{same_files, put-put}
 use Rattle.object_delivery.specs.FileViews.{content_of, appended, with_moved, moved_file}
@@ -60,7 +61,8 @@ remove-remove files name = same_files _ _ (λ q.
     ∙ sym (at_remove files name q))
 
 -- bytes are added to those that were just written
-pub appended-insert : (files : Files) (name first second : List ℕ) → appended (insert files name first) name second ≡ insert files name (first ++ second)
+pub appended-insert : (files : Files) (name first second : List ℕ)
+    → appended (insert files name first) name second ≡ insert files name (first ++ second)
 appended-insert files name first second =
     ap (λ content. insert (insert files name first) name (unwrap_or content [] ++ second)) (at_written files name first)
     ∙ put-put files name first (first ++ second)
@@ -72,7 +74,8 @@ content-insert files name bytes = ap (λ content. unwrap_or content []) (at_writ
 -- nothing is added to a file that is there
 pub appended-nil : (files : Files) (name : List ℕ) → HasFile files name → files ≡ appended files name []
 appended-nil files name file =
-    let same : content_of files name ++ [] ≡ file.content = append-nil (content_of files name) ∙ ap (λ content. unwrap_or content []) file.there in
+    let same : content_of files name ++ [] ≡ file.content = append-nil (content_of files name)
+    ∙ ap (λ content. unwrap_or content []) file.there in
     sym (ap (λ bytes. insert files name bytes) same ∙ same_files _ _ (λ q.
     at_insert files name file.content q
     ∙ elim (is_name q name) as (λ b. is_name q name ≡ b → cond b (Some file.content) (get files q) ≡ get files q) [
@@ -81,16 +84,19 @@ appended-nil files name file =
     ] refl))
 
 -- bytes are added, and then others
-pub appended-appended : (files : Files) (name first second : List ℕ) → appended (appended files name first) name second ≡ appended files name (first ++ second)
+pub appended-appended : (files : Files) (name first second : List ℕ)
+    → appended (appended files name first) name second ≡ appended files name (first ++ second)
 appended-appended files name first second =
-    appended-insert files name (content_of files name ++ first) second ∙ ap (λ bytes. insert files name bytes) (append_assoc (content_of files name) first second)
+    appended-insert files name (content_of files name ++ first) second
+    ∙ ap (λ bytes. insert files name bytes) (append_assoc (content_of files name) first second)
 
 -- a removal after bytes were added
 pub remove-appended : (files : Files) (name bytes : List ℕ) → remove (appended files name bytes) name ≡ remove files name
 remove-appended files name bytes = remove-insert files name (content_of files name ++ bytes)
 
 -- a file that was just written gets another name
-pub moved_file-insert : (files : Files) (from to bytes : List ℕ) → moved_file (insert files from bytes) from to ≡ insert (remove files from) to bytes
+pub moved_file-insert : (files : Files) (from to bytes : List ℕ)
+    → moved_file (insert files from bytes) from to ≡ insert (remove files from) to bytes
 moved_file-insert files from to bytes =
     ap (λ content. with_moved (insert files from bytes) from to content) (at_written files from bytes)
     ∙ ap (λ left. insert left to bytes) (remove-insert files from bytes)
@@ -99,10 +105,15 @@ moved_file-insert files from to bytes =
 pub named : (p q from to : List ℕ) (test : Bool) → test ≡ not (pointwise nat_eq p q) → p ≡ from → q ≡ to → is_name from to ≡ not test
 named p q from to test is first second =
     sym (texts_ties from to) ∙ ap (λ a. pointwise nat_eq a to) (sym first) ∙ ap (λ b. pointwise nat_eq p b) (sym second)
-    ∙ elim (pointwise nat_eq p q) as (λ b. test ≡ not b → b ≡ not test) [ true ↦ λ e. ap (λ b. not b) (sym e) | false ↦ λ e. ap (λ b. not b) (sym e) ] is
+    ∙ elim (pointwise nat_eq p q) as (λ b. test ≡ not b → b ≡ not test) [
+      | true ↦ λ e. ap (λ b. not b) (sym e)
+      | false ↦
+          λ e. ap (λ b. not b) (sym e)
+    ] is
 
 -- a file that is there has its content under the other name
-pub moved_file-there : (files : Files) (from to content : List ℕ) → get files from ≡ Some content → moved_file files from to ≡ insert (remove files from) to content
+pub moved_file-there : (files : Files) (from to content : List ℕ) → get files from ≡ Some content
+    → moved_file files from to ≡ insert (remove files from) to content
 moved_file-there files from to content there = ap (λ found. with_moved files from to found) there
 
 -- a write under a name that is taken away
@@ -110,27 +121,35 @@ pub insert-remove : (files : Files) (name content : List ℕ) → insert (remove
 insert-remove files name content = same_files _ _ (λ q.
     at_insert (remove files name) name content q
     ∙ ap (λ found. cond (is_name q name) (Some content) found) (at_remove files name q)
-    ∙ elim (is_name q name) as (λ b. cond b (Some content) (unless b (get files q)) ≡ cond b (Some content) (get files q)) [ true ↦ refl | false ↦ refl ]
+    ∙ elim (is_name q name) as (λ b. cond b (Some content) (unless b (get files q)) ≡ cond b (Some content) (get files q))
+    [ true ↦ refl | false ↦ refl ]
     ∙ sym (at_insert files name content q))
 
-swapped : (away put : Bool) (bytes content : Option (List ℕ)) → (away ≡ true → put ≡ false) → unless away (cond put bytes content) ≡ cond put bytes (unless away content)
+swapped : (away put : Bool) (bytes content : Option (List ℕ)) → (away ≡ true → put ≡ false)
+    → unless away (cond put bytes content) ≡ cond put bytes (unless away content)
 swapped true put bytes content other = sym (ap (λ b. cond b bytes None) (other refl))
 swapped false put bytes content other = refl
 
 -- a write and a removal under two names
-pub remove-insert_other : (files : Files) (from to content : List ℕ) → is_name from to ≡ false → remove (insert files to content) from ≡ insert (remove files from) to content
+pub remove-insert_other : (files : Files) (from to content : List ℕ) → is_name from to ≡ false
+    → remove (insert files to content) from ≡ insert (remove files from) to content
 remove-insert_other files from to content other = same_files _ _ (λ q.
     at_remove (insert files to content) from q
     ∙ ap (λ found. unless (is_name q from) found) (at_insert files to content q)
-    ∙ swapped (is_name q from) (is_name q to) (Some content) (get files q) (λ same. ap (λ name. is_name name to) (one_name q from same) ∙ other)
+    ∙ swapped (is_name q from) (is_name q to) (Some content) (get files q)
+    (λ same. ap (λ name. is_name name to) (one_name q from same) ∙ other)
     ∙ ap (λ found. cond (is_name q to) (Some content) found) (sym (at_remove files from q))
     ∙ sym (at_insert (remove files from) to content q))
 
 -- the content was put under another name, and then the old name taken away
-pub moved-away : (files : Files) (from to content : List ℕ) → get files from ≡ Some content → is_name from to ≡ false → remove (insert files to content) from ≡ moved_file files from to
-moved-away files from to content there other = remove-insert_other files from to content other ∙ sym (moved_file-there files from to content there)
+pub moved-away : (files : Files) (from to content : List ℕ) → get files from ≡ Some content → is_name from to ≡ false
+    → remove (insert files to content) from ≡ moved_file files from to
+moved-away files from to content there other = remove-insert_other files from to content other
+    ∙ sym (moved_file-there files from to content there)
 
 -- the content was put under its own name
-pub moved-nowhere : (files : Files) (from to content : List ℕ) → get files from ≡ Some content → is_name from to ≡ true → insert files to content ≡ moved_file files from to
+pub moved-nowhere : (files : Files) (from to content : List ℕ) → get files from ≡ Some content → is_name from to ≡ true
+    → insert files to content ≡ moved_file files from to
 moved-nowhere files from to content there same =
-    sym (moved_file-there files from to content there ∙ ap (λ name. insert (remove files name) to content) (one_name from to same) ∙ insert-remove files to content)
+    sym (moved_file-there files from to content there ∙ ap (λ name. insert (remove files name) to content) (one_name from to same)
+    ∙ insert-remove files to content)

@@ -1,5 +1,6 @@
 -- A file that is being written, piece by piece.
-use Rattle.std.proofs.Common.{◌≡◌, ℕ, List, [], ◌∷◌, ◌++◌, length, take, drop, refl, ◌∙◌, sym, ap, subst, inl, inr, append_assoc, append-nil, arith}
+use Rattle.std.proofs.Common.{◌≡◌, ℕ, List, [], ◌∷◌, ◌++◌, length, take, drop, refl, ◌∙◌, sym, ap, subst, inl, inr, append_assoc}
+use Rattle.std.proofs.Common.{append-nil, arith}
 use Rattle.std.proofs.lemmas.List.{take-append-drop}
 use Rattle.std.specs.Prelude.{IsTrue, Result, Ok, Err, OnErr}
 use Rattle.std.specs.FinMap.{insert, remove}
@@ -29,7 +30,8 @@ on_err (Ok value) holds = tt
 on_err (Err fault) holds = holds
 
 -- nothing was added yet
-pub filling-begins : (old : FilesView) (name bytes : List ℕ) → (IsTrue old.files.known → HasFile old.files.value name) → Filling old old name bytes bytes
+pub filling-begins : (old : FilesView) (name bytes : List ℕ) → (IsTrue old.files.known → HasFile old.files.value name)
+    → Filling old old name bytes bytes
 filling-begins old name bytes there = record {
   done = [];
   split = refl;
@@ -39,24 +41,30 @@ filling-begins old name bytes there = record {
 }
 
 -- what an append adds to it
-added : (old mid new : Told Files) (name done piece : List ℕ) → Became old mid (appended old.value name done) → Became mid new (appended mid.value name piece) → Became old new (appended old.value name (done ++ piece))
+added : (old mid new : Told Files) (name done piece : List ℕ) → Became old mid (appended old.value name done)
+    → Became mid new (appended mid.value name piece) → Became old new (appended old.value name (done ++ piece))
 added old mid new name done piece before then = record {
   known = λ k. before.known (then.known k);
-  became = λ k. then.became k ∙ ap (λ files. appended files name piece) (before.became (then.known k)) ∙ appended-appended old.value name done piece;
+  became = λ k. then.became k ∙ ap (λ files. appended files name piece) (before.became (then.known k))
+      ∙ appended-appended old.value name done piece;
 }
 
 -- a piece was added
-pub filling-more : (old mid new : FilesView) (name bytes rest after : List ℕ) (n : ℕ) → Filling old mid name bytes rest → Became mid.files new.files (appended mid.files.value name (take n rest)) → after ≡ drop n rest → new.overruns ≡ mid.overruns → Still mid.faults new.faults → Filling old new name bytes after
+pub filling-more : (old mid new : FilesView) (name bytes rest after : List ℕ) (n : ℕ) → Filling old mid name bytes rest
+    → Became mid.files new.files (appended mid.files.value name (take n rest)) → after ≡ drop n rest → new.overruns ≡ mid.overruns
+    → Still mid.faults new.faults → Filling old new name bytes after
 filling-more old mid new name bytes rest after n filling add left overruns still = record {
   done = filling.done ++ take n rest;
-  split = filling.split ∙ ap (λ r. filling.done ++ r) (sym (take-append-drop n rest) ∙ ap (λ r. take n rest ++ r) (sym left)) ∙ sym (append_assoc filling.done (take n rest) after);
+  split = filling.split ∙ ap (λ r. filling.done ++ r) (sym (take-append-drop n rest) ∙ ap (λ r. take n rest ++ r) (sym left))
+      ∙ sym (append_assoc filling.done (take n rest) after);
   files = added old.files mid.files new.files name filling.done (take n rest) filling.files add;
   overruns = overruns ∙ filling.overruns;
   still = still ∙ filling.still;
 }
 
 -- all bytes were added
-pub filling-ends : (old now : FilesView) (name bytes rest : List ℕ) → Filling old now name bytes rest → length rest ≡ 0 → Became old.files now.files (appended old.files.value name bytes)
+pub filling-ends : (old now : FilesView) (name bytes rest : List ℕ) → Filling old now name bytes rest → length rest ≡ 0
+    → Became old.files now.files (appended old.files.value name bytes)
 filling-ends old now name bytes rest filling empty =
     let whole : filling.done ≡ bytes = sym (filling.split ∙ ap (λ r. filling.done ++ r) (no_length rest empty) ∙ append-nil filling.done) in
     subst (λ done. Became old.files now.files (appended old.files.value name done)) whole filling.files
@@ -80,11 +88,14 @@ pub changes-none : (old new : Told Files) (name : List ℕ) → Became old new o
 changes-none old new name files = record { known = files.known; others = λ k. ap (λ fs. remove fs name) (files.became k) }
 
 -- one change after another
-pub changes-then : (old mid new : Told Files) (name : List ℕ) → ChangesOnly old mid name → ChangesOnly mid new name → ChangesOnly old new name
-changes-then old mid new name first second = record { known = λ k. first.known (second.known k); others = λ k. second.others k ∙ first.others (second.known k) }
+pub changes-then : (old mid new : Told Files) (name : List ℕ) → ChangesOnly old mid name → ChangesOnly mid new name
+    → ChangesOnly old new name
+changes-then old mid new name first second =
+    record { known = λ k. first.known (second.known k); others = λ k. second.others k ∙ first.others (second.known k) }
 
 -- whatever an append answers, it changes only its file
-pub changes-append : (old new : Told Files) (name piece : List ℕ) (result : Result ℕ EdgeFault) → Appends old new name piece result → ChangesOnly old new name
+pub changes-append : (old new : Told Files) (name piece : List ℕ) (result : Result ℕ EdgeFault) → Appends old new name piece result
+    → ChangesOnly old new name
 changes-append old new name piece (Ok n) appends = changes-written old new name _ appends
 changes-append old new name piece (Err fault) appends = elim appends [
   | inl none ↦ changes-none old new name none
@@ -92,6 +103,8 @@ changes-append old new name piece (Err fault) appends = elim appends [
 ]
 
 -- a piece that wasn't added ends the writing
-pub filling-stops : (old mid : FilesView) (new : Told Files) (name bytes rest : List ℕ) (result : Result ℕ EdgeFault) → Filling old mid name bytes rest → Appends mid.files new name rest result → ChangesOnly old.files new name
+pub filling-stops : (old mid : FilesView) (new : Told Files) (name bytes rest : List ℕ) (result : Result ℕ EdgeFault)
+    → Filling old mid name bytes rest → Appends mid.files new name rest result → ChangesOnly old.files new name
 filling-stops old mid new name bytes rest result filling appends =
-    changes-then old.files mid.files new name (changes-written old.files mid.files name _ filling.files) (changes-append mid.files new name rest result appends)
+    changes-then old.files mid.files new name (changes-written old.files mid.files name _ filling.files)
+    (changes-append mid.files new name rest result appends)

@@ -28,22 +28,28 @@ pub get-finished : (files : Files) (path : List ℕ) → ¬ (IsStaged path) → 
 get-finished files path other = at_finished files path ∙ ap (λ b. cond (not b) (get files path) None) (is_staged-other path other)
 
 -- the path that is asked for is the one, or being written, or another
-shown : (is being staging : Bool) (bytes content : Option (List ℕ)) → (is ≡ true → staging ≡ false) → (being ≡ true → staging ≡ true) → cond (not staging) (cond is bytes (unless being content)) None ≡ cond is bytes (cond (not staging) content None)
+shown : (is being staging : Bool) (bytes content : Option (List ℕ)) → (is ≡ true → staging ≡ false)
+    → (being ≡ true → staging ≡ true) → cond (not staging) (cond is bytes (unless being content)) None
+    ≡ cond is bytes (cond (not staging) content None)
 shown true being staging bytes content other same = ap (λ b. cond (not b) bytes None) (other refl)
-shown false true staging bytes content other same = ap (λ b. cond (not b) None None) (same refl) ∙ ap (λ b. cond (not b) content None) (sym (same refl))
+shown false true staging bytes content other same = ap (λ b. cond (not b) None None) (same refl)
+    ∙ ap (λ b. cond (not b) content None) (sym (same refl))
 shown false false staging bytes content other same = refl
 
-pub finished-delivered : (files : Files) (path bytes : List ℕ) → ¬ (IsStaged path) → finished (delivered files path bytes) ≡ insert (finished files) path bytes
+pub finished-delivered : (files : Files) (path bytes : List ℕ) → ¬ (IsStaged path)
+    → finished (delivered files path bytes) ≡ insert (finished files) path bytes
 finished-delivered files path bytes other = same_files _ _ (λ q.
     at_finished (delivered files path bytes) q
-    ∙ ap (λ content. cond (not (is_staged q)) content None) (at_insert (remove files (staged path)) path bytes q ∙ ap (λ content. cond (is_name q path) (Some bytes) content) (at_remove files (staged path) q))
+    ∙ ap (λ content. cond (not (is_staged q)) content None) (at_insert (remove files (staged path)) path bytes q
+    ∙ ap (λ content. cond (is_name q path) (Some bytes) content) (at_remove files (staged path) q))
     ∙ shown (is_name q path) (is_name q (staged path)) (is_staged q) (Some bytes) (get files q)
     (λ is. ap is_staged (one_name q path is) ∙ is_staged-other path other)
     (λ being. ap is_staged (one_name q (staged path) being) ∙ is_staged-staged path)
     ∙ ap (λ content. cond (is_name q path) (Some bytes) content) (sym (at_finished files q))
     ∙ sym (at_insert (finished files) path bytes q))
 
-hidden : (being staging : Bool) (content : Option (List ℕ)) → (being ≡ true → staging ≡ true) → cond (not staging) (unless being content) None ≡ cond (not staging) content None
+hidden : (being staging : Bool) (content : Option (List ℕ)) → (being ≡ true → staging ≡ true)
+    → cond (not staging) (unless being content) None ≡ cond (not staging) content None
 hidden true staging content same = ap (λ b. cond (not b) None None) (same refl) ∙ ap (λ b. cond (not b) content None) (sym (same refl))
 hidden false staging content same = refl
 
@@ -52,7 +58,8 @@ pub finished-remove : (files : Files) (path : List ℕ) → finished (remove fil
 finished-remove files path = same_files _ _ (λ q.
     at_finished (remove files (staged path)) q
     ∙ ap (λ content. cond (not (is_staged q)) content None) (at_remove files (staged path) q)
-    ∙ hidden (is_name q (staged path)) (is_staged q) (get files q) (λ being. ap is_staged (one_name q (staged path) being) ∙ is_staged-staged path)
+    ∙ hidden (is_name q (staged path)) (is_staged q) (get files q) (λ being. ap is_staged (one_name q (staged path) being)
+    ∙ is_staged-staged path)
     ∙ sym (at_finished files q))
 
 -- where no file but the one that is being written was changed, the finished files are the same

@@ -1,5 +1,6 @@
 -- What files tell, and what the calls on them do.
-use Rattle.std.specs.Prelude.{◌≡◌, ℕ, ◌<◌, ◌≤◌, ◌++◌, ◌⊎◌, List, [], length, take, Option, Some, None, Result, Ok, Err, IfOk, IsErrOf, unwrap_or}
+use Rattle.std.specs.Prelude.{◌≡◌, ℕ, ◌<◌, ◌≤◌, ◌++◌, ◌⊎◌, List, [], length, take, Option, Some, None, Result, Ok, Err, IfOk, IsErrOf}
+use Rattle.std.specs.Prelude.{unwrap_or}
 use Rattle.std.specs.FinMap.{get, insert, remove}
 use Rattle.edge_traits.specs.declared.faults.EdgeFault.{EdgeFault}
 use Rattle.edge_traits.specs.declared.faults.EdgeFault.TheVariants.{Failed, Memory}
@@ -16,7 +17,15 @@ pub record FilesView : Type 0 where
 
 -- a keeper of these files that tells neither its puts nor its fetches
 abbrev pub as_keeper : FilesView → KeeperView
-as_keeper view = record { files = view.files; puts = untold []; fetches = untold []; pending = None; faults = view.faults; overruns = view.overruns }
+as_keeper view = record {
+  files = view.files;
+  puts = untold [];
+  fetches = untold [];
+  pending = None;
+  faults =
+      view.faults;
+  overruns = view.overruns;
+}
 
 -- the content of a file, which is nothing where it isn't there
 abbrev pub content_of : Files → List ℕ → List ℕ
@@ -37,7 +46,8 @@ abbrev pub Appends : Told Files → Told Files → List ℕ → List ℕ → Res
 Appends old new name piece (Ok count) = Became old new (appended old.value name (take count piece))
 Appends old new name piece (Err fault) = Became old new old.value ⊎ FrontAppended old new name piece
 
--- Why an append may answer a fault. It may take nothing of a piece with bytes only where the count rose, and wants memory only where it stands still.
+-- Why an append may answer a fault. It may take nothing of a piece with bytes only where the count rose, and wants memory only
+-- where it stands still.
 pub record HasAppendCause (before now : ℕ) (piece : List ℕ) (result : Result ℕ EdgeFault) : Type 0 where
   pub later : before ≤ now
   pub failed : IsErrOf result Failed → Rose before now

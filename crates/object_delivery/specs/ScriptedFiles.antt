@@ -12,7 +12,8 @@ use Rattle.edge_traits.specs.Keepers.{HasLength, overruns_after}
 use Rattle.object_delivery.specs.declared.mem_files.MemFiles.{MemFiles}
 use Rattle.object_delivery.specs.FileViews.{FilesView, appended, files_renamed, files_without}
 
--- the files, which calls fail, the most bytes that an append adds, and how many calls and overruns there were, both counted up to the greatest u64
+-- the files, which calls fail, the most bytes that an append adds, and how many calls and overruns there were, both counted up to
+-- the greatest u64
 pub record FilesState : Type 0 where
   pub files : Files
   pub fails : List ℕ
@@ -21,7 +22,14 @@ pub record FilesState : Type 0 where
   pub overruns : ℕ
 
 abbrev pub files_state : MemFiles → FilesState
-files_state files = record { files = files.files; fails = files.calls.fails; most = files.most; made = files.calls.made; overruns = files.overruns }
+files_state files = record {
+  files = files.files;
+  fails = files.calls.fails;
+  most = files.most;
+  made = files.calls.made;
+  overruns =
+      files.overruns;
+}
 
 -- what they tell
 abbrev pub files_shows : FilesState → FilesView
@@ -54,7 +62,8 @@ abbrev pub IsLoadAnswer : FilesState → List ℕ → ℕ → Result (List ℕ) 
 IsLoadAnswer files name bound (Ok bytes) = (names_next files.fails files.made ≡ false) × IsHeld files name bound bytes
 IsLoadAnswer files name bound (Err Failed) = names_next files.fails files.made ≡ true
 IsLoadAnswer files name bound (Err Absent) = (names_next files.fails files.made ≡ false) × (get files.files name ≡ None)
-IsLoadAnswer files name bound (Err (TooMuch bytes)) = (names_next files.fails files.made ≡ false) × HasLength files.files name bytes × (bound < bytes)
+IsLoadAnswer files name bound (Err (TooMuch bytes)) = (names_next files.fails files.made ≡ false) × HasLength files.files name bytes
+    × (bound < bytes)
 IsLoadAnswer files name bound (Err Memory) = (names_next files.fails files.made ≡ false) × (bytes : List ℕ) × IsHeld files name bound bytes
 
 abbrev pub after_load : FilesState → Result (List ℕ) FetchFault → FilesState

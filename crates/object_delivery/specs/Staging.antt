@@ -56,12 +56,15 @@ IsSound view None = Unit {0}
 
 -- a put that is pending, whose bytes are those of the file that is being written
 abbrev pub pending_put : Told Files → Option (List ℕ) → Option PendingPut
-pending_put files (Some path) = Some (record { path = path; bytes = record { known = files.known; value = content_of files.value (staged path) } })
+pending_put files (Some path) =
+    Some (record { path = path; bytes = record { known = files.known; value = content_of files.value (staged path) } })
 pending_put files None = None
 
 -- A keeper over files shows those that are finished.
 abbrev pub keeper_view : FilesView → Option (List ℕ) → KeeperView
-keeper_view view pending = record (as_keeper (record view { files = record { known = view.files.known; value = finished view.files.value } })) { pending = pending_put view.files pending }
+keeper_view view pending =
+    record (as_keeper (record view { files = record { known = view.files.known; value = finished view.files.value } }))
+    { pending = pending_put view.files pending }
 
 -- what is pending after a `begin` and after an `add`: none at `Err`
 abbrev pub begun : {T E : Type 0} → List ℕ → Result T E → Option (List ℕ)
@@ -106,7 +109,8 @@ DroppedPut old new path fault = RemovedOrLeft old new (staged path) fault
 
 -- the same where nothing had failed before
 abbrev pub AbandonedPut : FilesView → FilesView → List ℕ → Type 0
-AbandonedPut old new path = Became old.files new.files (remove old.files.value (staged path)) ⊎ (Became old.files new.files old.files.value × Rose old.faults new.faults)
+AbandonedPut old new path = Became old.files new.files (remove old.files.value (staged path))
+    ⊎ (Became old.files new.files old.files.value × Rose old.faults new.faults)
 
 -- what a failed put does to the files: it takes away what was being written, or leaves it where that fails
 abbrev pub FailedPut : FilesView → FilesView → List ℕ → EdgeFault → Type 0

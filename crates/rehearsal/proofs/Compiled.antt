@@ -1,5 +1,6 @@
 -- A job whose source was preprocessed here ends by a host, or by a compile here.
-use Rattle.std.proofs.Common.{◌≡◌, ◌⊎◌, inl, inr, ℕ, ◌+◌, Bool, true, false, ◌&&◌, cond, List, [], ◌∷◌, length, nat_eq, nat_lt, refl, ap, ◌∙◌}
+use Rattle.std.proofs.Common.{◌≡◌, ◌⊎◌, inl, inr, ℕ, ◌+◌, Bool, true, false, ◌&&◌, cond, List, [], ◌∷◌, length, nat_eq, nat_lt, refl, ap}
+use Rattle.std.proofs.Common.{◌∙◌}
 use Rattle.farm_types.specs.declared.ran.Outcome.{Outcome}
 use Rattle.edge_traits.specs.declared.cause.Cause.{Cause}
 use Rattle.edge_traits.specs.Deeds.{ran, exchanged, put}
@@ -10,7 +11,8 @@ use Rattle.farm_machine.specs.declared.reports.End.{End}
 use Rattle.farm_machine.specs.declared.reports.End.TheVariants.{Done, Failed}
 use Rattle.farm_machine.specs.Acts.{Takes, Gives, GivesBad, FindsDown, TakesLocal, GivesLocal, Act, Did, Met}
 use Rattle.farm_machine.specs.Jobs.{Job}
-use Rattle.farm_machine.specs.Course.{At, Start, LentInPlace, RanInPlace, Send, Lent, RanThere, Sent, Locally, LentHere, RanHere, Finish, Over, outcome_of, or_here, after_broken, after_whole, Tried, tried_too, no_host, Next, Ends, From}
+use Rattle.farm_machine.specs.Course.{At, Start, LentInPlace, RanInPlace, Send, Lent, RanThere, Sent, Locally, LentHere, RanHere, Finish}
+use Rattle.farm_machine.specs.Course.{Over, outcome_of, or_here, after_broken, after_whole, Tried, tried_too, no_host, Next, Ends, From}
 
 -- a host or this machine compiled
 abbrev pub compiles : By → Bool
@@ -46,17 +48,20 @@ module _ (j : Job) where
       go true = refl
       go false = by
 
-  at-broken : (host : ℕ) (cause : Cause) (source note : List ℕ) (tried : List Tried) → has_source (after_broken j host cause source note tried) ≡ true
+  at-broken : (host : ℕ) (cause : Cause) (source note : List ℕ) (tried : List Tried)
+      → has_source (after_broken j host cause source note tried) ≡ true
   at-broken host cause source note tried = go (nat_lt (length tried + 1) j.config.tries)
     where
-      go : (b : Bool) → has_source (cond b (Send source note (tried_too host cause tried)) (or_here j source note (Failed (Broke host cause)))) ≡ true
+      go : (b : Bool) → has_source
+          (cond b (Send source note (tried_too host cause tried)) (or_here j source note (Failed (Broke host cause)))) ≡ true
       go true = refl
       go false = at-or_here source note (Failed (Broke host cause)) refl
 
   at-whole : (host : ℕ) (source note : List ℕ) (o : Outcome) → has_source (after_whole j host source note o) ≡ true
   at-whole host source note o = go (nat_eq o.status 0) (j.config.fallback && j.config.retry)
     where
-      go : (a b : Bool) → has_source (cond a (Finish (Remote host) note o) (cond b (Locally source note) (Over (Done o.status note o.err o.out (Remote host))))) ≡ true
+      go : (a b : Bool) → has_source
+          (cond a (Finish (Remote host) note o) (cond b (Locally source note) (Over (Done o.status note o.err o.out (Remote host))))) ≡ true
       go true b = refl
       go false true = refl
       go false false = refl
@@ -65,12 +70,14 @@ module _ (j : Job) where
   at-next Start c a has h = absurd (cc)
   at-next LentInPlace c a has h = absurd (cc)
   at-next (RanInPlace r) c a has h = absurd (cc)
-  at-next (Send source note tried) c (Met FindsDown) has h = as-at c (or_here j source note (Failed (no_host tried))) h.1 (at-or_here source note (Failed (no_host tried)) refl)
+  at-next (Send source note tried) c (Met FindsDown) has h =
+      as-at c (or_here j source note (Failed (no_host tried))) h.1 (at-or_here source note (Failed (no_host tried)) refl)
   at-next (Send source note tried) c (Met (Takes host)) has h = as-at c (Lent host source note tried) h.3 refl
   at-next (Send source note tried) c (Met TakesLocal) has h = as-at c (LentHere source note) h.1 refl
   at-next (Lent host source note tried) c (Did (ran x)) has h = as-at c (RanThere host note x.ran) h.2 refl
   at-next (Lent host source note tried) c (Did (exchanged x)) has h = as-at c (Sent host source note tried x) h.2 refl
-  at-next (Lent host source note tried) c (Met (Gives i)) has h = elim h.1 [ inl e ↦ as-at c (Over (Failed Station)) e.1 refl | inr e ↦ as-at c (Over (Failed Memory)) e refl ]
+  at-next (Lent host source note tried) c (Met (Gives i)) has h =
+      elim h.1 [ inl e ↦ as-at c (Over (Failed Station)) e.1 refl | inr e ↦ as-at c (Over (Failed Memory)) e refl ]
   at-next (RanThere host note r) c (Met (Gives i)) has h = one-of c (Finish Here note (outcome_of r)) (Over (Failed Memory)) h.1 refl refl
   at-next (Sent host source note tried x) c (Met (Gives i)) has h =
       elim h.1 [
@@ -80,7 +87,8 @@ module _ (j : Job) where
           | inr e ↦ as-at c (Over (Failed Memory)) e refl
         ]
       ]
-  at-next (Sent host source note tried x) c (Met (GivesBad i until)) has h = as-at c (after_broken j host h.2.0 source note tried) h.2.4 (at-broken host h.2.0 source note tried)
+  at-next (Sent host source note tried x) c (Met (GivesBad i until)) has h =
+      as-at c (after_broken j host h.2.0 source note tried) h.2.4 (at-broken host h.2.0 source note tried)
   at-next (Locally source note) c (Met TakesLocal) has h = as-at c (LentHere source note) h refl
   at-next (LentHere source note) c (Did (ran x)) has h = as-at c (RanHere note x.ran) h.1 refl
   at-next (LentHere source note) c (Met GivesLocal) has h = one-of c (Over (Failed Station)) (Over (Failed Memory)) h refl refl

@@ -1,5 +1,6 @@
 -- The numbers of all reports.
-use Rattle.std.proofs.Common.{◌≡◌, ℕ, suc, ◌+◌, ◌<◌, Bool, true, cond, List, [], ◌∷◌, length, get_or, Option, Some, None, refl, sym, ap, ◌∙◌, subst, arith}
+use Rattle.std.proofs.Common.{◌≡◌, ℕ, suc, ◌+◌, ◌<◌, Bool, true, cond, List, [], ◌∷◌, length, get_or, Option, Some, None, refl, sym, ap}
+use Rattle.std.proofs.Common.{◌∙◌, subst, arith}
 use Rattle.std.specs.Prelude.{All, map, count_by, slice_get, ◌==◌}
 use Rattle.std.specs.List.{AllZip, sum_by, range_with_len}
 use Rattle.std.proofs.lemmas.List.Sums.{sum_by-cons}
@@ -34,19 +35,23 @@ same_test : (end : End) (ran : Ran) → EndsAs end ran → is_done_well end ≡ 
 same_test (Done status note err out by) ran ends = ap (λ (s : ℕ). s == 0) ends.0
 same_test (Failed why) ran ends = absurd ends
 
-same_sum : {A B : Type 0} (f : A → ℕ) (g : B → ℕ) (x : A) (xs : List A) (y : B) (ys : List B) → f x ≡ g y → sum_by f xs ≡ sum_by g ys → sum_by f (x ∷ xs) ≡ sum_by g (y ∷ ys)
+same_sum : {A B : Type 0} (f : A → ℕ) (g : B → ℕ) (x : A) (xs : List A) (y : B) (ys : List B) → f x ≡ g y
+    → sum_by f xs ≡ sum_by g ys → sum_by f (x ∷ xs) ≡ sum_by g (y ∷ ys)
 same_sum f g x xs y ys one more = sum_by-cons f x xs ∙ ap (λ k. k + sum_by f xs) one ∙ ap (λ k. g y + k) more ∙ sym (sum_by-cons g y ys)
 
-collect : (n : ℕ) (puts : ℕ → List Put) (from : ℕ) (reports : List Report) → ((i : ℕ) (report : Report) → slice_get reports i ≡ Some report → Counted n (i + from) puts report) → Collected n puts from reports
+collect : (n : ℕ) (puts : ℕ → List Put) (from : ℕ) (reports : List Report)
+    → ((i : ℕ) (report : Report) → slice_get reports i ≡ Some report → Counted n (i + from) puts report) → Collected n puts from reports
 collect n puts from [] all = record { rans = []; left = tt; ends = tt; done = refl; bytes = refl }
 collect n puts from (report ∷ reports) all =
     let here : Counted n from puts report = subst (λ job. Counted n job puts report) (omega arith) (all 0 report refl) in
-    let more = collect n puts (from + 1) reports (λ i other there. subst (λ job. Counted n job puts other) (omega arith) (all (suc i) other there)) in
+    let more = collect n puts (from + 1) reports
+    (λ i other there. subst (λ job. Counted n job puts other) (omega arith) (all (suc i) other there)) in
     record {
       rans = here.left ∷ more.rans;
       left = (here.sample, more.left);
       ends = (here.ends, more.ends);
-      done = same_sum (λ r. cond (well r) 1 0) (λ r. cond (ended_well r) 1 0) report reports here.left more.rans (ap (λ (b : Bool). cond b 1 0) (same_test report.end here.left here.ends)) more.done;
+      done = same_sum (λ r. cond (well r) 1 0) (λ r. cond (ended_well r) 1 0) report reports here.left more.rans
+          (ap (λ (b : Bool). cond b 1 0) (same_test report.end here.left here.ends)) more.done;
       bytes = same_sum (report_len puts) object_len report reports here.left more.rans here.len more.bytes;
     }
 
@@ -75,10 +80,12 @@ module _ (n : ℕ) (puts : ℕ → List Put) (reports : List Report) (one_each :
   all_told (Some count) (done, number, bytes) =
       let all = collect n puts 1 reports (λ i report there.
       (told i report (within i report there) there).counted
-      (let is = get_or_from_slice_get reports i report report there in subst (λ r. IsDone r.end) is (done i report (subst (λ m. i < m) (sym one_each) (within i report there))))) in
+      (let is = get_or_from_slice_get reports i report report there in
+      subst (λ r. IsDone r.end) is (done i report (subst (λ m. i < m) (sym one_each) (within i report there))))) in
       record {
         rans = all.rans;
-        left = subst (λ m. AllZip (λ words ran. SampleOf (files_of n) words ran) (map job_words (range_with_len 1 m)) all.rans) one_each all.left;
+        left = subst (λ m. AllZip (λ words ran. SampleOf (files_of n) words ran) (map job_words (range_with_len 1 m)) all.rans)
+            one_each all.left;
         ends = all.ends;
         done = number ∙ all.done;
         reported = number;

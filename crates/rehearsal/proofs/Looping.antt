@@ -20,7 +20,8 @@ use Rattle.job_driver.proofs.Meaning.{means}
 use Rattle.rehearsal.specs.Loops.{LoopKit, IsLoop, loop_kits, LoopLaw, HonestLoopLaw}
 
 -- a job that has a source may be sent
-has_sent : (j : Job) (acts more : List Act) (end : End) (source : List ℕ) → Course j (acts ++ more) end → IsSource acts source → may_be_sent j ≡ true
+has_sent : (j : Job) (acts more : List Act) (end : End) (source : List ℕ) → Course j (acts ++ more) end → IsSource acts source
+    → may_be_sent j ≡ true
 has_sent j [] more end source course is = absurd is
 has_sent j (Did (fetched x) ∷ acts) more end source (c, next, from) is = next.0
 has_sent j (Did (ran x) ∷ acts) more end source (c, next, from) is = next.0
@@ -39,7 +40,9 @@ loop-law {K = K} {C = C} keeper clock l jobs period workers reports history last
     let loop : IsLoop kit = All-get_or IsLoop old worker other (omega (arith, one, enough)) loops in
     let files = station_files kit.station in
     let peers = DialerGives (λ s. StationRan (station_files s)) kit.dialer in
-    let own : IsHonest peers (StationRan files) = subst (λ held. IsHonest peers (StationRan held)) loop.same (honest (held_of kit.dialer).table.rows (StationRan (station_files (held_of kit.dialer).station)) loop.names) in
+    let own : IsHonest peers (StationRan files) =
+    subst (λ held. IsHonest peers (StationRan held)) loop.same
+    (honest (held_of kit.dialer).table.rows (StationRan (station_files (held_of kit.dialer).station)) loop.names) in
     let run_means = means (loop_kits keeper clock) l jobs period workers reports history last old new run in
     let answer = run_means.honest_objects j other below before rest x refl own is in
     let left = answer.compiles.run in

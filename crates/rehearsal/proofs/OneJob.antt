@@ -1,5 +1,6 @@
 -- What one job of the workload leaves, and what its report names.
-use Rattle.std.proofs.Common.{◌≡◌, inl, inr, ℕ, ◌<◌, ◌≤◌, ◌^◌, Bool, true, false, List, [], ◌∷◌, ◌++◌, length, Option, Some, None, refl, sym, ap, ◌∙◌, subst, arith}
+use Rattle.std.proofs.Common.{◌≡◌, inl, inr, ℕ, ◌<◌, ◌≤◌, ◌^◌, Bool, true, false, List, [], ◌∷◌, ◌++◌, length, Option, Some, None, refl}
+use Rattle.std.proofs.Common.{sym, ap, ◌∙◌, subst, arith}
 use Rattle.std.specs.Prelude.{map, if◌then◌else◌}
 use Rattle.std.proofs.lemmas.Bool.Decides.{Decides-eqb}
 use Rattle.farm_types.specs.Limits.{jobs_max}
@@ -62,9 +63,12 @@ module _ (laws : RunLaws) (n job : ℕ) (config : JobConfig) (most : n ≤ jobs_
   small : job < 2 ^ 64
   small = omega (arith, most, within)
 
-  source-run : (r : Ran) (words : List _) (input : List ℕ) → words ≡ map Text (preprocessing_words (job_words job)) → input ≡ [] → StationRan (files_of n) words input r → r ≡ printed (text_of_job n job)
+  source-run : (r : Ran) (words : List _) (input : List ℕ) → words ≡ map Text (preprocessing_words (job_words job)) → input ≡ []
+      → StationRan (files_of n) words input r → r ≡ printed (text_of_job n job)
   source-run r words input is none left =
-      laws.preprocessed n job r most some within (subst (λ i. StationRan (files_of n) (map Text (preprocessing_words (job_words job))) i r) none (subst (λ w. StationRan (files_of n) w input r) is left))
+      laws.preprocessed n job r most some within
+      (subst (λ i. StationRan (files_of n) (map Text (preprocessing_words (job_words job))) i r) none
+      (subst (λ w. StationRan (files_of n) w input r) is left))
 
   pub goes-on : (acts : List Act) (end : End) → Course the_job acts end → AllRan (StationRan (files_of n)) acts → GoesOn n job acts end
   goes-on [] end (inl e) runs = record { by = ap is_compiled e; source = λ source is. absurd is }
@@ -87,12 +91,15 @@ module _ (laws : RunLaws) (n job : ℕ) (config : JobConfig) (most : n ≤ jobs_
       }
   goes-on (a ∷ acts) end (c, next, from) runs = absurd next
 
-  left-by : (acts : List Act) (end : End) (status : ℕ) (err out : List ℕ) → GoesOn n job acts end → HasOutcome (StationRan (files_of n)) the_job acts status err out → IsLeft n job acts status err out
+  left-by : (acts : List Act) (end : End) (status : ℕ) (err out : List ℕ) → GoesOn n job acts end
+      → HasOutcome (StationRan (files_of n)) the_job acts status err out → IsLeft n job acts status err out
   left-by acts end status err out on h =
       let run = h.compiles.run in
       record {
         left = run;
-        sample = laws.compiled n job run most some within (subst (λ text. StationRan (files_of n) (placed_words (stripped (job_words job))) text run) (on.source h.source h.source_is) h.compiles.may);
+        sample = laws.compiled n job run most some within
+            (subst (λ text. StationRan (files_of n) (placed_words (stripped (job_words job))) text run)
+            (on.source h.source h.source_is) h.compiles.may);
         status_is = sym h.status_is ∙ h.compiles.status;
         err_is = sym h.err_is ∙ h.compiles.err;
         out_is = sym h.out_is ∙ h.compiles.out;
@@ -101,8 +108,10 @@ module _ (laws : RunLaws) (n job : ℕ) (config : JobConfig) (most : n ≤ jobs_
             (x.0, x.1, x.2 ∙ h.compiles.object ∙ whole-object run (sym h.compiles.status ∙ h.status_is ∙ good));
       }
 
-  pub left-as : (acts : List Act) (end : End) → Course the_job acts end → AllRan (StationRan (files_of n)) acts → IsAnswered (StationRan (files_of n)) the_job acts end → LeftAs n job acts end
-  left-as acts (Done status note err out (Remote host)) course runs answered = left-by acts _ status err out (goes-on acts _ course runs) answered
+  pub left-as : (acts : List Act) (end : End) → Course the_job acts end → AllRan (StationRan (files_of n)) acts
+      → IsAnswered (StationRan (files_of n)) the_job acts end → LeftAs n job acts end
+  left-as acts (Done status note err out (Remote host)) course runs answered =
+      left-by acts _ status err out (goes-on acts _ course runs) answered
   left-as acts (Done status note err out Here) course runs answered = left-by acts _ status err out (goes-on acts _ course runs) answered
   left-as acts (Done status note err out Cpp) course runs answered = let by = (goes-on acts _ course runs).by in absurd (cc by)
   left-as acts (Done status note err out InPlace) course runs answered = let by = (goes-on acts _ course runs).by in absurd (cc by)
@@ -118,16 +127,19 @@ pub record FoundAmong (a : Act) (acts : List Act) : Type 0 where
 found-among : (a : Act) (acts : List Act) → IsAmong a acts → FoundAmong a acts
 found-among a [] among = absurd among
 found-among a (b ∷ acts) (inl same) = record { before = []; rest = acts; is = ap (λ (x : Act). x ∷ acts) same }
-found-among a (b ∷ acts) (inr later) = let is = found-among a acts later in record { before = b ∷ is.before; rest = is.rest; is = ap (λ (xs : List Act). b ∷ xs) is.is }
+found-among a (b ∷ acts) (inr later) = let is = found-among a acts later in
+    record { before = b ∷ is.before; rest = is.rest; is = ap (λ (xs : List Act). b ∷ xs) is.is }
 
 module _ (puts : PutLaw) (n job : ℕ) (j : Job) (es : Entries) (events : List Event) (acts : List Act) (reads : ReadsAll es events acts)
-    (status : ℕ) (note err out : List ℕ) (by : _) (course : Course j acts (Done status note err out by)) (is : IsLeft n job acts status err out) where
+    (status : ℕ) (note err out : List ℕ) (by : _) (course : Course j acts (Done status note err out by))
+    (is : IsLeft n job acts status err out) where
   good-len : is.left.status ≡ 0 → len_at es.puts (last_put events) ≡ length is.left.object
   good-len good =
       let x = is.object (is.status_is ∙ good) in
       let found = found-among (Did (put x.0)) acts x.1 in
       let last = puts j found.before x.0 found.rest _ (subst (λ xs. Course j xs (Done status note err out by)) found.is course) in
-      let ends : acts ≡ found.before ++ Did (put x.0) ∷ [] = found.is ∙ ap (λ (xs : List Act). found.before ++ Did (put x.0) ∷ xs) last.last in
+      let ends : acts ≡ found.before ++ Did (put x.0) ∷ [] =
+      found.is ∙ ap (λ (xs : List Act). found.before ++ Did (put x.0) ∷ xs) last.last in
       let names = names-put es events found.before x.0 (subst (ReadsAll es events) ends reads) in
       ap (len_at es.puts) names.named ∙ ap put_len names.there ∙ ap length x.2
 

@@ -34,23 +34,29 @@ doable n some most = record {
 }
 
 module _ (laws : RunLaws) (put_law : PutLaw) (n : ℕ) (some : 1 ≤ n) (most : n ≤ jobs_max) where
-  pub rehearsed : (built : Built) (jobs : List (List (List ℕ))) (config : JobConfig) (workers : ℕ) (old new seen : List RehearsalKit) (reports : List Report) (count : Option Count)
+  pub rehearsed : (built : Built) (jobs : List (List (List ℕ))) (config : JobConfig) (workers : ℕ)
+      (old new seen : List RehearsalKit) (reports : List Report) (count : Option Count)
       → jobs ≡ jobs_of n → config ≡ rehearsal_config → workers ≡ rehearsal_workers n → length old ≡ workers → All (IsFresh (files_of n)) old
       → AreLimitsOf built.last.limits config.hosts → built.last.limits.jobs ≡ length jobs
-      → JobsRan loop_devices built.last.limits (job_at jobs config) config.period workers built.reports (seen_of built.pass) built.last.state old new
+      → JobsRan loop_devices built.last.limits (job_at jobs config) config.period workers built.reports (seen_of built.pass)
+      built.last.state old new
       → seen ≡ new → reports ≡ built.reports → CountsDone (puts_of seen) reports count → IsRehearsal n built count
-  rehearsed built jobs config workers old new seen reports count jobs_are config_is workers_are many fresh limits number ran seen_are reports_are counts =
+  rehearsed built jobs config workers old new seen reports count jobs_are config_is workers_are many fresh limits number ran
+      seen_are reports_are counts =
       let l = built.last.limits in
       let all : l.jobs ≡ n = number ∙ ap length jobs_are ∙ job_number n in
       let ran_by : JobsRan loop_devices l (job_at (jobs_of n) rehearsal_config) period_default (rehearsal_workers n) built.reports
       (seen_of built.pass) built.last.state old new =
       subst (λ w. JobsRan loop_devices l (job_at (jobs_of n) rehearsal_config) period_default w built.reports
       (seen_of built.pass) built.last.state old new) workers_are
-      (subst (λ (c : JobConfig). JobsRan loop_devices l (job_at (jobs_of n) c) c.period workers built.reports (seen_of built.pass) built.last.state old new) config_is
-      (subst (λ js. JobsRan loop_devices l (job_at js config) config.period workers built.reports (seen_of built.pass) built.last.state old new) jobs_are ran)) in
+      (subst (λ (c : JobConfig). JobsRan loop_devices l (job_at (jobs_of n) c) c.period workers built.reports (seen_of built.pass)
+      built.last.state old new) config_is
+      (subst (λ js. JobsRan loop_devices l (job_at js config) config.period workers built.reports (seen_of built.pass)
+      built.last.state old new) jobs_are ran)) in
       let one_each : length built.reports ≡ n = ran_by.are_read.one ∙ all in
       let counted : CountsDone (puts_of new) built.reports count =
-      subst (λ ks. CountsDone (puts_of ks) built.reports count) seen_are (subst (λ rs. CountsDone (puts_of seen) rs count) reports_are counts) in
+      subst (λ ks. CountsDone (puts_of ks) built.reports count) seen_are
+      (subst (λ rs. CountsDone (puts_of seen) rs count) reports_are counts) in
       let enough : rehearsal_workers n ≤ length old = omega (arith, many, workers_are) in
       let kits : 0 < length old = omega (arith, many, workers_are, some) in
       first-of (IsRehearsal n built count) old kits (λ other.

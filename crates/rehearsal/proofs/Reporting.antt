@@ -56,7 +56,8 @@ calm old new = record { station = still; station_overruns = still; keeper = stil
 
 module _ (laws : RunLaws) (put_law : PutLaw) (n : ℕ) (most : n ≤ jobs_max)
     (l : Limits 16) (all : l.jobs ≡ n) (workers : ℕ) (reports : List Report)
-    (history : List CallEntry) (last : SlotState 16) (old new : List RehearsalKit) (fresh : All (IsFresh (files_of n)) old) (enough : workers ≤ length old)
+    (history : List CallEntry) (last : SlotState 16) (old new : List RehearsalKit) (fresh : All (IsFresh (files_of n)) old)
+    (enough : workers ≤ length old)
     (ran : JobsRan loop_devices l (job_at (jobs_of n) rehearsal_config) period_default workers reports history last old new)
     (other : RehearsalKit) where
   run : RunMeans loop_devices l (job_at (jobs_of n) rehearsal_config) workers reports ran.read last old new
@@ -87,9 +88,11 @@ module _ (laws : RunLaws) (put_law : PutLaw) (n : ℕ) (most : n ≤ jobs_max)
       let worker = ran.read.worker j in
       let kit = fresh_kit worker (ran.by_workers j within) in
       let peers = DialerGives (λ s. StationRan (station_files s)) (slice_index_or old worker other).dialer in
-      let honest : IsHonest peers (StationRan (compiler_files (slice_index_or old worker other).station)) = subst (λ files. IsHonest peers (StationRan files)) (sym kit.station) kit.honest in
+      let honest : IsHonest peers (StationRan (compiler_files (slice_index_or old worker other).station)) =
+      subst (λ files. IsHonest peers (StationRan files)) (sym kit.station) kit.honest in
       subst (λ job. IsAnswered (StationRan (files_of n)) job (ran.read.acts j) (ran.read.ends j)) (job_is j below)
-      (subst (λ files. IsAnswered (StationRan files) (job_at (jobs_of n) rehearsal_config j) (ran.read.acts j) (ran.read.ends j)) kit.station
+      (subst (λ files. IsAnswered (StationRan files) (job_at (jobs_of n) rehearsal_config j) (ran.read.acts j) (ran.read.ends j))
+      kit.station
       (run.honest_ends j other within refl (inl (honest, refl, refl))))
 
   left : (j : ℕ) → j < n → LeftAs n (j + 1) (ran.read.acts j) (ran.read.ends j)
@@ -102,18 +105,21 @@ module _ (laws : RunLaws) (put_law : PutLaw) (n : ℕ) (most : n ≤ jobs_max)
       (answered j below)
 
   by_end : (j : ℕ) (report : Report) (end : End) → j < n → report.end ≡ end → report.worker ≡ ran.read.worker j
-      → ReadsAll (ran.entries report.worker) report.events (ran.read.acts j) → Course (job_number j) (ran.read.acts j) end → LeftAs n (j + 1) (ran.read.acts j) end
+      → ReadsAll (ran.entries report.worker) report.events (ran.read.acts j) → Course (job_number j) (ran.read.acts j) end
+      → LeftAs n (j + 1) (ran.read.acts j) end
       → IsDone report.end → Counted n (j + 1) (puts_of new) report
   by_end j report (Failed why) below same worker reads course is done = absurd (subst IsDone same done)
   by_end j report (Done status note err out by) below same worker reads course is done =
       let within : j < l.jobs = omega (arith, below, all) in
-      let puts : puts_of new report.worker ≡ (ran.entries report.worker).puts = kit_puts report.worker (subst (λ w. w < workers) (sym worker) (ran.by_workers j within)) in
+      let puts : puts_of new report.worker ≡ (ran.entries report.worker).puts =
+      kit_puts report.worker (subst (λ w. w < workers) (sym worker) (ran.by_workers j within)) in
       record {
         left = is.left;
         sample = is.sample;
         ends = subst (λ end. EndsAs end is.left) (sym same) (is.status_is, is.err_is, is.out_is);
         len = ap (λ (ps : List Put). len_at ps (last_put report.events)) puts
-            ∙ len-is put_law n (j + 1) (job_number j) (ran.entries report.worker) report.events (ran.read.acts j) reads status note err out by course is;
+            ∙ len-is put_law n (j + 1) (job_number j) (ran.entries report.worker) report.events (ran.read.acts j) reads status note
+            err out by course is;
       }
 
   pub telling : (j : ℕ) (report : Report) → j < n → slice_get reports j ≡ Some report → TellsOf n (j + 1) (puts_of new) report
@@ -122,7 +128,8 @@ module _ (laws : RunLaws) (put_law : PutLaw) (n : ℕ) (most : n ≤ jobs_max)
       let is = ran.are_read.each j report there in
       record {
         returned = ap is_done_or_wanted is.end
-            ∙ run.returns j other within refl (calm (slice_index_or old (ran.read.worker j) other) (slice_index_or new (ran.read.worker j) other));
+            ∙ run.returns j other within refl
+            (calm (slice_index_or old (ran.read.worker j) other) (slice_index_or new (ran.read.worker j) other));
         counted = by_end j report (ran.read.ends j) below is.end is.worker is.acts
             (subst (λ job. Course job (ran.read.acts j) (ran.read.ends j)) (job_is j below) (run.courses j within)) (left j below);
       }

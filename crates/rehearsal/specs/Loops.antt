@@ -40,7 +40,8 @@ abbrev pub loop_kits : {K C : Type 0} → (K → KeeperView) → (C → ClockVie
 loop_kits keeper clock = devices (λ d. dialer_shows (dialer_state d)) station_shows keeper clock
     (λ d. DialerGives (λ s. StationRan (station_files s)) d) (λ s. StationRan (station_files s))
 
--- The put is of the object of status 0 that a run of the sample compiler leaves over these files, by the job's words and on the source that the job has
+-- The put is of the object of status 0 that a run of the sample compiler leaves over these files, by the job's words and on the
+-- source that the job has
 -- after these acts.
 pub record IsCompilers (files : Files) (j : Job) (before : List Act) (x : Put) : Type 0 where
   pub source : List ℕ
@@ -58,12 +59,14 @@ AllCompilers {K = K} {C = C} l jobs worker acts old = (j : ℕ) (other : LoopKit
 
 -- So it is of every run of jobs over loops.
 abbrev pub LoopLaw : {K C : Type 0} → (K → KeeperView) → (C → ClockView) → Type 0
-LoopLaw {K = K} {C = C} keeper clock = (l : Limits 16) (jobs : ℕ → Job) (period workers : ℕ) (reports : List Report) (history : List CallEntry) (last : SlotState 16)
+LoopLaw {K = K} {C = C} keeper clock =
+    (l : Limits 16) (jobs : ℕ → Job) (period workers : ℕ) (reports : List Report) (history : List CallEntry) (last : SlotState 16)
     (old new : List (LoopKit K C)) → All IsLoop old → workers ≤ length old
     → (ran : JobsRan (loop_kits keeper clock) l jobs period workers reports history last old new)
     → AllCompilers l jobs ran.read.worker ran.read.acts old
 
--- A loop over a table of own names is fully honest to each job that may be sent and whose compiler the table names, with fallback and retry on or off.
+-- A loop over a table of own names is fully honest to each job that may be sent and whose compiler the table names, with fallback
+-- and retry on or off.
 abbrev pub HonestLoopLaw : Programs → Type 0
 HonestLoopLaw ran = (table : List Compiler) (j : Job) (program : List ℕ)
     → AreOwnNames table → may_be_sent j ≡ true → program_of table (first_word (request_for j []).words) ≡ Some program

@@ -1,5 +1,6 @@
 -- What a rehearsal leaves.
-use Rattle.std.specs.Prelude.{ℕ, Bool, ◌≡◌, min, true, false, codes, List, [], ◌∷◌, length, All, count_by, Option, Some, None, slice_get, if◌then◌else◌, ◌==◌}
+use Rattle.std.specs.Prelude.{ℕ, Bool, ◌≡◌, min, true, false, codes, List, [], ◌∷◌, length, All, count_by, Option, Some, None, slice_get}
+use Rattle.std.specs.Prelude.{if◌then◌else◌, ◌==◌}
 use Rattle.std.specs.List.{AllZip, sum_by}
 use Rattle.farm_types.specs.Limits.{period_default, port_default}
 use Rattle.farm_types.specs.declared.hosts.Hosts.{Hosts}
@@ -86,7 +87,8 @@ abbrev pub EndsAs : End → Ran → Type 0
 EndsAs (Done status note err out by) ran = (status ≡ ran.status) × (err ≡ ran.err) × (out ≡ ran.out)
 EndsAs (Failed why) ran = ⊥
 
--- All jobs were done, each as the compiler leaves it. The one number is how many of them have status 0, among the compiler's runs as among the
+-- All jobs were done, each as the compiler leaves it. The one number is how many of them have status 0, among the compiler's runs
+-- as among the
 -- reports; the other is the length of their objects together.
 pub record AreCounted (n : ℕ) (reports : List Report) (count : Count) : Type 0 where
   pub rans : List Ran
@@ -105,7 +107,8 @@ abbrev pub Tells : ℕ → List Report → Option Count → Type 0
 Tells n reports (Some count) = AreCounted n reports count
 Tells n reports None = SomeWanted reports
 
--- The jobs of the workload were run by four workers at most, over loops to a daemon that runs the compiler over the workload's files. There is a
+-- The jobs of the workload were run by four workers at most, over loops to a daemon that runs the compiler over the workload's
+-- files. There is a
 -- report for each, in order; each was done, or wanted memory.
 pub record IsRehearsal (n : ℕ) (built : Built) (count : Option Count) : Type 0 where
   pub of_hosts : AreLimitsOf built.last.limits rehearsal_hosts
@@ -113,7 +116,8 @@ pub record IsRehearsal (n : ℕ) (built : Built) (count : Option Count) : Type 0
   pub old : List RehearsalKit
   pub fresh : All (λ kit. IsFresh (files_of n) kit) old
   pub new : List RehearsalKit
-  pub ran : JobsRan loop_devices built.last.limits (job_at (jobs_of n) rehearsal_config) period_default (rehearsal_workers n) built.reports (seen_of built.pass) built.last.state old new
+  pub ran : JobsRan loop_devices built.last.limits (job_at (jobs_of n) rehearsal_config) period_default (rehearsal_workers n)
+      built.reports (seen_of built.pass) built.last.state old new
   pub one_each : length built.reports ≡ n
   pub returned : All (λ report. is_done_or_wanted report.end ≡ true) built.reports
   pub tells : Tells n built.reports count

@@ -41,7 +41,8 @@ spanned-front span n room s =
     let whole : n ≡ span.from + (n - span.from) = omega arith in
     let front : drop span.from (take n room) ≡ take (n - span.from) (drop span.from room) =
     ap (λ (k : ℕ). drop span.from (take k room)) whole ∙ drop-take span.from (n - span.from) room in
-    ap (λ (x : List ℕ). take (span.to - span.from) x) front ∙ take-take (span.to - span.from) (n - span.from) (drop span.from room) (omega arith)
+    ap (λ (x : List ℕ). take (span.to - span.from) x) front ∙ take-take (span.to - span.from) (n - span.from) (drop span.from room)
+    (omega arith)
 
 pub comes-more : (before after : Place) (n used : ℕ) (room : List ℕ) (span : Span) → Uses (take n room) (More used span)
     → ((text object : List ℕ) → IsAt before text object → Says text object (take n room) (More used span))
@@ -59,8 +60,14 @@ pub comes-whole : (before after : Place) (n used : ℕ) (room : List ℕ) (span 
     → ((text object : List ℕ) → IsAt before text object → Says text object (take n room) (Whole used span o))
     → (text object : List ℕ) → IsAt before text object → Comes (text ++ take n room) (object ++ spanned span room) after (Some o)
 comes-whole before after n used room span o uses says text object at =
-    let same = spanned-front span n room (span_fits span used n room uses.1 uses.0) in
-    (uses.2, (length text + used, subst (λ (x : List ℕ). BeginsReply (text ++ take n room) (length text + used) (with_object o (object ++ x))) same (says text object at)))
+    let same = spanned-front span n room (span_fits span used n room uses.1 uses.0) in (
+      uses.2,
+      (
+        length text + used,
+        subst (λ (x : List ℕ). BeginsReply (text ++ take n room) (length text + used) (with_object o (object ++ x))) same
+            (says text object at),
+      ),
+    )
 
 -- ---- one piece after another
 
@@ -78,13 +85,17 @@ unfoldable pub receiving-begins : (link : LinkView) (place : Place) → IsAt pla
 receiving-begins link place at =
     record { text = []; grew = Grew-refl link.given; at = at; long = refl; short = empty_is_short; ended = refl; still = refl }
 
-pub receiving-small : (old now : LinkView) (place : Place) (have : ℕ) (object : List ℕ) → Receiving old now place have object → have ≤ 35651643
+pub receiving-small : (old now : LinkView) (place : Place) (have : ℕ) (object : List ℕ) → Receiving old now place have object
+    → have ≤ 35651643
 receiving-small old now place have object r = let small = short_len r.text r.short in omega (arith, r.long)
 
-pub receiving-fresh : (old now : LinkView) (place : Place) (have : ℕ) (object : List ℕ) → Receiving old now place have object → IsSpent place → ⊥
+pub receiving-fresh : (old now : LinkView) (place : Place) (have : ℕ) (object : List ℕ) → Receiving old now place have object
+    → IsSpent place → ⊥
 receiving-fresh old now place have object r = not_spent place r.text object r.at
 
-unfoldable pub receiving-more : (old mid new : LinkView) (before after : Place) (have count : ℕ) (object bytes : List ℕ) → Receiving old mid before have object → PieceRead mid new before after count bytes None → Receiving old new after (have + count) (object ++ bytes)
+unfoldable pub receiving-more : (old mid new : LinkView) (before after : Place) (have count : ℕ) (object bytes : List ℕ)
+    → Receiving old mid before have object → PieceRead mid new before after count bytes None
+    → Receiving old new after (have + count) (object ++ bytes)
 receiving-more old mid new before after have count object bytes r p =
     let z = p.read r.text object r.at in
     record {
@@ -97,28 +108,39 @@ receiving-more old mid new before after have count object bytes r p =
       still = p.still ∙ r.still;
     }
 
-pub receiving-whole : (old mid new : LinkView) (before after : Place) (have count : ℕ) (object bytes : List ℕ) (o : Outcome) → Receiving old mid before have object → PieceRead mid new before after count bytes (Some o)
+pub receiving-whole : (old mid new : LinkView) (before after : Place) (have count : ℕ) (object bytes : List ℕ) (o : Outcome)
+    → Receiving old mid before have object → PieceRead mid new before after count bytes (Some o)
     → (o.object ≡ []) × Given (ReplyIs (Ok (with_object o (object ++ bytes))) old new) old.given new.given
 receiving-whole old mid new before after have count object bytes o r p =
     let z = p.read r.text object r.at in
     (z.0, record { bytes = r.text ++ p.piece; grew = Grew-then r.grew p.grew; is = (z.1, p.ended ∙ r.ended, p.still ∙ r.still) })
 
-unfoldable pub receiving-memory : (old mid new : LinkView) (piece : List ℕ) (before : Place) (have : ℕ) (object : List ℕ) → Receiving old mid before have object → Grew mid.given new.given piece → new.ended ≡ mid.ended → Still mid.faults new.faults → Given (ReplyIs (Err Memory) old new) old.given new.given
-receiving-memory old mid new piece before have object r grew ended still = record { bytes = r.text ++ piece; grew = Grew-then r.grew grew; is = (ended ∙ r.ended, still ∙ r.still) }
+unfoldable pub receiving-memory : (old mid new : LinkView) (piece : List ℕ) (before : Place) (have : ℕ) (object : List ℕ)
+    → Receiving old mid before have object → Grew mid.given new.given piece → new.ended ≡ mid.ended → Still mid.faults new.faults
+    → Given (ReplyIs (Err Memory) old new) old.given new.given
+receiving-memory old mid new piece before have object r grew ended still =
+    record { bytes = r.text ++ piece; grew = Grew-then r.grew grew; is = (ended ∙ r.ended, still ∙ r.still) }
 
-unfoldable pub receiving-stops : (old mid new : LinkView) (before : Place) (have : ℕ) (object : List ℕ) (stop : Stop) → Receiving old mid before have object → PieceStops have before mid new stop → Given (ReplyIs (Err stop) old new) old.given new.given
+unfoldable pub receiving-stops : (old mid new : LinkView) (before : Place) (have : ℕ) (object : List ℕ) (stop : Stop)
+    → Receiving old mid before have object → PieceStops have before mid new stop → Given (ReplyIs (Err stop) old new) old.given new.given
 receiving-stops old mid new before have object (Broke Dial) r s = absurd s
 receiving-stops old mid new before have object (Broke Send) r s = absurd s
-receiving-stops old mid new before have object (Broke Recv) r s = record { bytes = r.text; grew = Grew-still r.grew s.0; is = (r.short, omega (arith, s.1, r.still), s.2 ∙ r.ended) }
-receiving-stops old mid new before have object (Broke (Truncated bytes)) r s = record { bytes = r.text; grew = Grew-still r.grew s.0; is = (r.short, r.long ∙ s.1, s.2, s.3 ∙ r.still) }
-receiving-stops old mid new before have object (Broke (BadReply at fault)) r s = record { bytes = r.text ++ s.0.0; grew = Grew-then r.grew s.0.1; is = (s.0.2 r.text object r.at, s.1 ∙ r.ended, s.2 ∙ r.still) }
+receiving-stops old mid new before have object (Broke Recv) r s =
+    record { bytes = r.text; grew = Grew-still r.grew s.0; is = (r.short, omega (arith, s.1, r.still), s.2 ∙ r.ended) }
+receiving-stops old mid new before have object (Broke (Truncated bytes)) r s =
+    record { bytes = r.text; grew = Grew-still r.grew s.0; is = (r.short, r.long ∙ s.1, s.2, s.3 ∙ r.still) }
+receiving-stops old mid new before have object (Broke (BadReply at fault)) r s =
+    record { bytes = r.text ++ s.0.0; grew = Grew-then r.grew s.0.1; is = (s.0.2 r.text object r.at, s.1 ∙ r.ended, s.2 ∙ r.still) }
 receiving-stops old mid new before have object (Broke Stopped) r s = absurd s
 receiving-stops old mid new before have object Memory r s = receiving-memory old mid new s.0.0 before have object r s.0.1 s.1 s.2
 
 -- the last piece, whose bytes of the object were joined to the others
-pub received-last : (old new : LinkView) (result : Result Outcome Stop) (joined whole_object : List ℕ) (o : Outcome) → IfOk result (λ same. (same ≡ o) × (joined ≡ whole_object)) → IfErr result (λ stop. stop ≡ Memory)
-    → (o.object ≡ []) × Given (ReplyIs (Ok (with_object o whole_object)) old new) old.given new.given → Given (ReplyIs (Err Memory) old new) old.given new.given → Received result joined old new
+pub received-last : (old new : LinkView) (result : Result Outcome Stop) (joined whole_object : List ℕ) (o : Outcome)
+    → IfOk result (λ same. (same ≡ o) × (joined ≡ whole_object)) → IfErr result (λ stop. stop ≡ Memory)
+    → (o.object ≡ []) × Given (ReplyIs (Ok (with_object o whole_object)) old new) old.given new.given
+    → Given (ReplyIs (Err Memory) old new) old.given new.given → Received result joined old new
 received-last old new (Ok same) joined whole_object o ok err whole memory =
     subst (λ (x : Outcome × List ℕ). (x.0.object ≡ []) × Given (ReplyIs (Ok (with_object x.0 x.1)) old new) old.given new.given)
     (sym (ap (λ (a : Outcome). (a, joined)) ok.0 ∙ ap (λ (b : List ℕ). (o, b)) ok.1)) whole
-received-last old new (Err stop) joined whole_object o ok err whole memory = subst (λ (s : Stop). Given (ReplyIs (Err s) old new) old.given new.given) (sym err) memory
+received-last old new (Err stop) joined whole_object o ok err whole memory =
+    subst (λ (s : Stop). Given (ReplyIs (Err s) old new) old.given new.given) (sym err) memory

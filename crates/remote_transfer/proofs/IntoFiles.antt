@@ -1,5 +1,6 @@
 -- The object of a reply on its way into a file.
-use Rattle.std.proofs.Common.{inl, inr, ◌≡◌, ℕ, ◌+◌, ◌<◌, ◌≤◌, List, [], ◌++◌, length, refl, sym, subst, ◌∙◌, arith, append-nil, length-append, rules}
+use Rattle.std.proofs.Common.{inl, inr, ◌≡◌, ℕ, ◌+◌, ◌<◌, ◌≤◌, List, [], ◌++◌, length, refl, sym, subst, ◌∙◌, arith, append-nil}
+use Rattle.std.proofs.Common.{length-append, rules}
 use Rattle.std.specs.Prelude.{◌≢◌, ◌⊎◌, Result, Ok, Err, IfOk, IfErr, Option, Some, None, IsSome}
 use Rattle.edge_traits.specs.Keepers.{PendingPut, KeeperView, IsIdle, IsPending, IsPutOf, HasPending}
 use Rattle.edge_traits.specs.Causes.{Still}
@@ -23,7 +24,8 @@ use Rattle.remote_transfer.specs.declared.landing.ObjectState.{ObjectState}
 use Rattle.remote_transfer.specs.declared.landing.ObjectState.TheVariants.{Waiting, Begun, Lost}
 use Rattle.remote_transfer.specs.Links.{ReplyIs}
 use Rattle.remote_transfer.specs.Pieces.{PieceRead, PieceStops}
-use Rattle.remote_transfer.specs.Landings.{KeeperStays, LandsAt, attempt_of, Lands, LandedCause, IsUnasked, IsLanding, paired, received_of, LandsOr, ReceivedInto}
+use Rattle.remote_transfer.specs.Landings.{KeeperStays, LandsAt, attempt_of, Lands, LandedCause, IsUnasked, IsLanding, paired}
+use Rattle.remote_transfer.specs.Landings.{received_of, LandsOr, ReceivedInto}
 use Rattle.remote_transfer.specs.Landings.{HasBytes, RisesBehind, RisesByPuts, StopsBehind}
 use Rattle.remote_transfer.proofs.ByPieces.{Receiving, receiving-begins, receiving-more, receiving-whole, receiving-memory, receiving-stops}
 
@@ -38,7 +40,11 @@ stays-same keeper = record {
 
 pub stays-then : (old mid new : KeeperView) → KeeperStays old mid → KeeperStays mid new → KeeperStays old new
 stays-then old mid new first second = record {
-  files = record { known = λ k. first.files.known (second.files.known k); became = λ k. second.files.became k ∙ first.files.became (second.files.known k) };
+  files = record {
+    known = λ k. first.files.known (second.files.known k);
+    became = λ k. second.files.became k
+        ∙ first.files.became (second.files.known k);
+  };
   puts = Grew-then first.puts second.puts;
   fetches = Grew-then first.fetches second.fetches;
   overruns = second.overruns ∙ first.overruns;
@@ -50,13 +56,15 @@ of_put (Some put) some = (put.path, put.bytes.value, (refl, λ k. refl))
 of_put None some = absurd (search rules)
 
 -- a put that is pending still is after more bytes
-pub still-pending : (old new : KeeperView) (piece : List ℕ) → IsPending old → ((path bytes : List ℕ) → HasPending old path bytes → HasPending new path (bytes ++ piece)) → IsPending new
+pub still-pending : (old new : KeeperView) (piece : List ℕ) → IsPending old
+    → ((path bytes : List ℕ) → HasPending old path bytes → HasPending new path (bytes ++ piece)) → IsPending new
 still-pending old new piece pending added =
     let z = of_put old.pending pending in
     is-there new z.0 (z.1 ++ piece) (added z.0 z.1 z.2)
 
 -- The object's bytes so far have come as far as the state says.
-pub record ReceivingInto (old now : LinkView) (place : Place) (have : ℕ) (state : ObjectState) (path : List ℕ) (before keeper : KeeperView) : Type 0 where
+pub record ReceivingInto (old now : LinkView) (place : Place) (have : ℕ) (state : ObjectState) (path : List ℕ)
+    (before keeper : KeeperView) : Type 0 where
   pub object : List ℕ
   pub receiving : Receiving old now place have object
   pub so_far : object ≡ object_so_far receiving.text
@@ -74,11 +82,13 @@ into-begins link place path keeper at idle =
     record { object = []; receiving = receiving-begins link place at; so_far = none-so-far; lands = (idle, refl, refl) }
 
 -- a count that stands still may stand for the one before it
-pub lands-after : (result : Result ObjectState Stop) (path bytes : List ℕ) (before mid : ℕ) (now : KeeperView) → mid ≡ before → IfOk result (λ next. LandsAt next path bytes mid now) → IfOk result (λ next. LandsAt next path bytes before now)
+pub lands-after : (result : Result ObjectState Stop) (path bytes : List ℕ) (before mid : ℕ) (now : KeeperView) → mid ≡ before
+    → IfOk result (λ next. LandsAt next path bytes mid now) → IfOk result (λ next. LandsAt next path bytes before now)
 lands-after result path bytes before mid now same at = subst (λ (m : ℕ). IfOk result (λ next. LandsAt next path bytes m now)) same at
 
 -- more bytes
-pub land-begun : (state : ObjectState) (path object bytes : List ℕ) (before : ℕ) (old new : KeeperView) (result : Result ObjectState Stop) → state ≡ Begun
+pub land-begun : (state : ObjectState) (path object bytes : List ℕ) (before : ℕ) (old new : KeeperView)
+    (result : Result ObjectState Stop) → state ≡ Begun
     → ((path object : List ℕ) → HasPending old path object → IfOk result (λ next. LandsAt next path (object ++ bytes) old.faults new))
     → LandsAt state path object before old → IfOk result (λ next. LandsAt next path (object ++ bytes) before new)
 land-begun state path object bytes before old new result is lands at =
@@ -98,7 +108,8 @@ never-asked sends.Stopped keeper = refl
 never-asked sends.Memory keeper = tt
 
 -- behind a request that was sent whole it may have been
-pub maybe-asked : (talked : Result (Outcome × Landing) Stop) (object : List ℕ) (old new : LinkView) (given : List ℕ) (before now : KeeperView) → ReplyIs (received_of talked object) old new given → IsUnasked (landed_of talked) before now
+pub maybe-asked : (talked : Result (Outcome × Landing) Stop) (object : List ℕ) (old new : LinkView) (given : List ℕ)
+    (before now : KeeperView) → ReplyIs (received_of talked object) old new given → IsUnasked (landed_of talked) before now
 maybe-asked (Ok received) object old new given before now is = tt
 maybe-asked (Err (Broke Dial)) object old new given before now is = absurd is
 maybe-asked (Err (Broke Send)) object old new given before now is = absurd is
@@ -108,17 +119,20 @@ maybe-asked (Err (Broke (BadReply at fault))) object old new given before now is
 maybe-asked (Err (Broke Stopped)) object old new given before now is = absurd is
 maybe-asked (Err Memory) object old new given before now is = tt
 
-pub same-answer : (talked : Result (Outcome × Landing) Stop) (object : List ℕ) → answer_of (received_of talked object) ≡ attempt_of (landed_of talked) object
+pub same-answer : (talked : Result (Outcome × Landing) Stop) (object : List ℕ)
+    → answer_of (received_of talked object) ≡ attempt_of (landed_of talked) object
 same-answer (Ok received) object = refl
 same-answer (Err (Broke cause)) object = refl
 same-answer (Err Memory) object = refl
 
-pub lands-answer : (talked : Result (Outcome × Landing) Stop) (path object : List ℕ) (before : ℕ) (now : KeeperView) → LandsOr talked path object before now → Lands (landed_of talked) path object before now
+pub lands-answer : (talked : Result (Outcome × Landing) Stop) (path object : List ℕ) (before : ℕ) (now : KeeperView)
+    → LandsOr talked path object before now → Lands (landed_of talked) path object before now
 lands-answer (Ok received) path object before now lands = lands
 lands-answer (Err (Broke cause)) path object before now lands = lands
 lands-answer (Err Memory) path object before now lands = lands
 
-pub landed-cause : (talked : Result (Outcome × Landing) Stop) (object : List ℕ) (before now : ℕ) → DialCause (answer_of (received_of talked object)) before now → LandedCause (landed_of talked) before now
+pub landed-cause : (talked : Result (Outcome × Landing) Stop) (object : List ℕ) (before now : ℕ)
+    → DialCause (answer_of (received_of talked object)) before now → LandedCause (landed_of talked) before now
 landed-cause (Ok received) object before now cause = cause
 landed-cause (Err (Broke Dial)) object before now cause = cause
 landed-cause (Err (Broke Send)) object before now cause = cause
@@ -129,7 +143,8 @@ landed-cause (Err (Broke Stopped)) object before now cause = cause
 landed-cause (Err Memory) object before now cause = cause
 
 -- what the entry of a link says of the keeper's count
-pub rises-answer : (may : List ℕ → List ℕ → Type 0) (talked : Result (Outcome × Landing) Stop) (old new : Told (List Exchange)) (before now : ℕ)
+pub rises-answer : (may : List ℕ → List ℕ → Type 0) (talked : Result (Outcome × Landing) Stop) (old new : Told (List Exchange))
+    (before now : ℕ)
     → Adds may old new (λ x. RisesBehind (landed_of talked) x.given before now) → RisesByPuts may (landed_of talked) old new before now
 rises-answer may (Ok received) old new before now added = added
 rises-answer may (Err (Broke Dial)) old new before now added = tt
@@ -181,7 +196,8 @@ came state path before keeper into given rest parts = elim (begun-with state pat
   })
 ]
 
-stops-behind : (old mid new : LinkView) (reader : Place) (have : ℕ) (state : ObjectState) (path : List ℕ) (before keeper : KeeperView) (stop : Stop)
+stops-behind : (old mid new : LinkView) (reader : Place) (have : ℕ) (state : ObjectState) (path : List ℕ)
+    (before keeper : KeeperView) (stop : Stop)
     (into : ReceivingInto old mid reader have state path before keeper) (stops : PieceStops have reader mid new stop)
     → StopsBehind stop (receiving-stops old mid new reader have into.object stop into.receiving stops).bytes before.faults keeper
 unfolding receiving-stops receiving-memory
@@ -200,7 +216,8 @@ stops-behind old mid new reader have state path before keeper Memory into stops 
       | inr some ↦ inr (inl some)
     ]
 
-pub into-stops : (old mid new : LinkView) (reader : Place) (have : ℕ) (state : ObjectState) (path : List ℕ) (before keeper : KeeperView) (stop : Stop)
+pub into-stops : (old mid new : LinkView) (reader : Place) (have : ℕ) (state : ObjectState) (path : List ℕ)
+    (before keeper : KeeperView) (stop : Stop)
     → ReceivingInto old mid reader have state path before keeper → PieceStops have reader mid new stop
     → ReceivedInto (Err stop) path old new before keeper
 into-stops old mid new reader have state path before keeper stop into stops = record {
@@ -210,8 +227,10 @@ into-stops old mid new reader have state path before keeper stop into stops = re
 }
 
 -- some bytes came, and there was no memory for their put
-pub into-memory : (old mid new : LinkView) (reader next : Place) (have : ℕ) (state : ObjectState) (path : List ℕ) (before keeper after : KeeperView)
-    (count : ℕ) (bytes : List ℕ) → ReceivingInto old mid reader have state path before keeper → PieceRead mid new reader next count bytes None
+pub into-memory : (old mid new : LinkView) (reader next : Place) (have : ℕ) (state : ObjectState) (path : List ℕ)
+    (before keeper after : KeeperView)
+    (count : ℕ) (bytes : List ℕ) → ReceivingInto old mid reader have state path before keeper
+    → PieceRead mid new reader next count bytes None
     → 0 < length bytes → ReceivedInto (Err Memory) path old new before after
 unfolding receiving-memory
 into-memory old mid new reader next have state path before keeper after count bytes into p some =
@@ -229,8 +248,11 @@ into-memory old mid new reader next have state path before keeper after count by
       }));
     }
 
-pub into-more : (old mid new : LinkView) (reader next : Place) (have : ℕ) (state further : ObjectState) (path : List ℕ) (before keeper after : KeeperView) (count : ℕ) (bytes : List ℕ) → ReceivingInto old mid reader have state path before keeper → before.faults ≤ keeper.faults → PieceRead mid new reader next count bytes None
-    → ((object : List ℕ) (since : ℕ) → since ≤ keeper.faults → LandsAt state path object since keeper → LandsAt further path (object ++ bytes) since after)
+pub into-more : (old mid new : LinkView) (reader next : Place) (have : ℕ) (state further : ObjectState) (path : List ℕ)
+    (before keeper after : KeeperView) (count : ℕ) (bytes : List ℕ) → ReceivingInto old mid reader have state path before keeper
+    → before.faults ≤ keeper.faults → PieceRead mid new reader next count bytes None
+    → ((object : List ℕ) (since : ℕ) → since ≤ keeper.faults → LandsAt state path object since keeper
+    → LandsAt further path (object ++ bytes) since after)
     → ReceivingInto old new next (have + count) further path before after
 unfolding receiving-more
 into-more old mid new reader next have state further path before keeper after count bytes into later p lands = record {
@@ -240,14 +262,23 @@ into-more old mid new reader next have state further path before keeper after co
   lands = lands into.object before.faults later into.lands;
 }
 
-pub into-last : (old mid new : LinkView) (reader next : Place) (have : ℕ) (state : ObjectState) (path : List ℕ) (before keeper after : KeeperView) (count : ℕ) (bytes : List ℕ) (o : Outcome) (landed : Result Landing Stop) → ReceivingInto old mid reader have state path before keeper → before.faults ≤ keeper.faults → PieceRead mid new reader next count bytes (Some o)
-    → ((object : List ℕ) (since : ℕ) → since ≤ keeper.faults → LandsAt state path object since keeper → (o.status ≢ 0 → object ++ bytes ≡ []) → IfOk landed (λ landing. IsLanding landing o path (object ++ bytes) since after))
+pub into-last : (old mid new : LinkView) (reader next : Place) (have : ℕ) (state : ObjectState) (path : List ℕ)
+    (before keeper after : KeeperView) (count : ℕ) (bytes : List ℕ) (o : Outcome) (landed : Result Landing Stop)
+    → ReceivingInto old mid reader have state path before keeper → before.faults ≤ keeper.faults
+    → PieceRead mid new reader next count bytes (Some o)
+    → ((object : List ℕ) (since : ℕ) → since ≤ keeper.faults → LandsAt state path object since keeper
+    → (o.status ≢ 0 → object ++ bytes ≡ []) → IfOk landed (λ landing. IsLanding landing o path (object ++ bytes) since after))
     → IfErr landed (λ stop. stop ≡ Memory) → ReceivedInto (paired o landed) path old new before after
 unfolding receiving-memory
 into-last old mid new reader next have state path before keeper after count bytes o (Ok _) into later p lands memory =
     let w = receiving-whole old mid new reader next have count into.object bytes o into.receiving p in
     let spelled = w.1.is.0.1.spelled in
-    record { object = into.object ++ bytes; given = w.1; lands = (w.0, lands into.object before.faults later into.lands spelled.fits.failure) }
+    record {
+      object = into.object ++ bytes;
+      given = w.1;
+      lands =
+          (w.0, lands into.object before.faults later into.lands spelled.fits.failure);
+    }
 into-last old mid new reader next have state path before keeper after count bytes o (Err stop) into later p lands memory =
     let r = into.receiving in
     let z = p.read r.text into.object r.at in

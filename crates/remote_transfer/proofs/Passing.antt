@@ -31,7 +31,8 @@ failed_not unlike faults = absurd (cc)
 abbrev pub Says : Request → Host → Attempt → LinkView → LinkView → Type 0
 Says q h answer old new = Passed old new (λ x. ExchangeIs q h answer x × EndsBy answer x)
 
-module _ (q : Request) (h : Host) (text : List ℕ) (old new : LinkView) (is_for : IsFor q h text old) (fresh : IsNew old) (origin : new.origin ≡ old.origin) where
+module _ (q : Request) (h : Host) (text : List ℕ) (old new : LinkView) (is_for : IsFor q h text old) (fresh : IsNew old)
+    (origin : new.origin ≡ old.origin) where
   begun : (sent unsent given : List ℕ) → text ≡ sent ++ unsent → IsBegun (entry_of new sent given) q h
   begun sent unsent given parts = record {
     host = ap (λ o. o.host) origin ∙ is_for.host;
@@ -41,33 +42,80 @@ module _ (q : Request) (h : Host) (text : List ℕ) (old new : LinkView) (is_for
   }
 
   -- the text was not sent whole
-  pub not_sent : (fault : SendFault) → SentPart text old.sent new.sent → SendStops old new fault → Grew old.given new.given [] → new.ended ≡ old.ended
+  pub not_sent : (fault : SendFault) → SentPart text old.sent new.sent → SendStops old new fault → Grew old.given new.given []
+      → new.ended ≡ old.ended
       → Says q h (answer_of (Err (stop_of fault))) old new
   not_sent sends.Failed part stops none ended = record {
     sent = part.sent;
     given = [];
     grew_sent = part.grew;
     grew_given = none;
-    is = (record { begun = begun part.sent part.unsent [] part.parts; shown = (record { dialed = refl; unsent = part.unsent; prefix = sym is_for.spelled ∙ part.parts; proper = part.proper; given = refl }, rose_above_none _ _ stops.0) }, record { ended = ended ∙ fresh.ended; stopped = stops.1 ∙ fresh.stopped; faults = λ unlike. failed_not unlike _ });
+    is = (
+      record {
+        begun = begun part.sent part.unsent [] part.parts;
+        shown = (
+          record {
+            dialed = refl;
+            unsent = part.unsent;
+            prefix = sym is_for.spelled ∙ part.parts;
+            proper = part.proper;
+            given =
+                refl;
+          },
+          rose_above_none _ _ stops.0,
+        );
+      },
+      record {
+        ended = ended ∙ fresh.ended;
+        stopped = stops.1 ∙ fresh.stopped;
+        faults =
+            λ unlike. failed_not unlike _;
+      },
+    );
   }
   not_sent sends.Stopped part stops none ended = record {
     sent = part.sent;
     given = [];
     grew_sent = part.grew;
     grew_given = none;
-    is = (record { begun = begun part.sent part.unsent [] part.parts; shown = (record { dialed = refl; unsent = part.unsent; prefix = sym is_for.spelled ∙ part.parts; proper = part.proper; given = refl }, stops.0) }, record { ended = ended ∙ fresh.ended; stopped = stops.0; faults = λ none. stops.1 ∙ fresh.faults });
+    is = (
+      record {
+        begun = begun part.sent part.unsent [] part.parts;
+        shown = (
+          record {
+            dialed = refl;
+            unsent = part.unsent;
+            prefix = sym is_for.spelled ∙ part.parts;
+            proper = part.proper;
+            given =
+                refl;
+          },
+          stops.0,
+        );
+      },
+      record { ended = ended ∙ fresh.ended; stopped = stops.0; faults = λ none. stops.1 ∙ fresh.faults },
+    );
   }
   not_sent sends.Memory part stops none ended = record {
     sent = part.sent;
     given = [];
     grew_sent = part.grew;
     grew_given = none;
-    is = ((begun part.sent part.unsent [] part.parts, refl), record { ended = ended ∙ fresh.ended; stopped = stops.0 ∙ fresh.stopped; faults = λ none. stops.1 ∙ fresh.faults });
+    is = (
+      (begun part.sent part.unsent [] part.parts, refl),
+      record {
+        ended = ended ∙ fresh.ended;
+        stopped =
+            stops.0 ∙ fresh.stopped;
+        faults = λ none. stops.1 ∙ fresh.faults;
+      },
+    );
   }
 
   -- the whole text was sent, and then these bytes were given
   module _ (mid : LinkView) (sent : Grew old.sent mid.sent text) (no_more : Grew mid.sent new.sent []) (none : Grew old.given mid.given [])
-      (running : mid.stopped ≡ old.stopped) (stopped : new.stopped ≡ mid.stopped) (open_still : mid.ended ≡ old.ended) (calm : Still old.faults mid.faults) where
+      (running : mid.stopped ≡ old.stopped) (stopped : new.stopped ≡ mid.stopped) (open_still : mid.ended ≡ old.ended)
+      (calm : Still old.faults mid.faults) where
     all_sent : Grew old.sent new.sent text
     all_sent = Grew-still sent no_more
 
@@ -92,7 +140,17 @@ module _ (q : Request) (h : Host) (text : List ℕ) (old new : LinkView) (is_for
       given = given.bytes;
       grew_sent = all_sent;
       grew_given = all_given given.bytes given.grew;
-      is = (record { begun = whole_begun given.bytes; dialed = refl; sent = is_for.spelled; used = given.is.0.0; spelled = given.is.0.1 }, record { ended = never_ended given.is.1; stopped = never_stopped; faults = λ none. never_failed given.is.2 });
+      is = (
+        record {
+          begun = whole_begun given.bytes;
+          dialed = refl;
+          sent = is_for.spelled;
+          used = given.is.0.0;
+          spelled =
+              given.is.0.1;
+        },
+        record { ended = never_ended given.is.1; stopped = never_stopped; faults = λ none. never_failed given.is.2 },
+      );
     }
     replied (Err (Broke Dial)) given = absurd given.is
     replied (Err (Broke Send)) given = absurd given.is
@@ -101,21 +159,38 @@ module _ (q : Request) (h : Host) (text : List ℕ) (old new : LinkView) (is_for
       given = given.bytes;
       grew_sent = all_sent;
       grew_given = all_given given.bytes given.grew;
-      is = (record { begun = whole_begun given.bytes; shown = (record { sent = is_for.spelled; short = given.is.0 }, rose_above_none _ _ given.is.1) }, record { ended = never_ended given.is.2; stopped = never_stopped; faults = λ unlike. failed_not unlike _ });
+      is = (
+        record {
+          begun = whole_begun given.bytes;
+          shown =
+              (record { sent = is_for.spelled; short = given.is.0 }, rose_above_none _ _ given.is.1);
+        },
+        record { ended = never_ended given.is.2; stopped = never_stopped; faults = λ unlike. failed_not unlike _ },
+      );
     }
     replied (Err (Broke (Truncated have))) given = record {
       sent = text;
       given = given.bytes;
       grew_sent = all_sent;
       grew_given = all_given given.bytes given.grew;
-      is = (record { begun = whole_begun given.bytes; shown = (record { sent = is_for.spelled; short = given.is.0 }, given.is.1, given.is.2) }, record { ended = given.is.2; stopped = never_stopped; faults = λ none. never_failed given.is.3 });
+      is = (
+        record {
+          begun = whole_begun given.bytes;
+          shown =
+              (record { sent = is_for.spelled; short = given.is.0 }, given.is.1, given.is.2);
+        },
+        record { ended = given.is.2; stopped = never_stopped; faults = λ none. never_failed given.is.3 },
+      );
     }
     replied (Err (Broke (BadReply at fault))) given = record {
       sent = text;
       given = given.bytes;
       grew_sent = all_sent;
       grew_given = all_given given.bytes given.grew;
-      is = (record { begun = whole_begun given.bytes; shown = (is_for.spelled, given.is.0) }, record { ended = never_ended given.is.1; stopped = never_stopped; faults = λ none. never_failed given.is.2 });
+      is = (
+        record { begun = whole_begun given.bytes; shown = (is_for.spelled, given.is.0) },
+        record { ended = never_ended given.is.1; stopped = never_stopped; faults = λ none. never_failed given.is.2 },
+      );
     }
     replied (Err (Broke Stopped)) given = absurd given.is
     replied (Err Memory) given = record {
@@ -123,5 +198,13 @@ module _ (q : Request) (h : Host) (text : List ℕ) (old new : LinkView) (is_for
       given = given.bytes;
       grew_sent = all_sent;
       grew_given = all_given given.bytes given.grew;
-      is = ((whole_begun given.bytes, refl), record { ended = never_ended given.is.0; stopped = never_stopped; faults = λ none. never_failed given.is.1 });
+      is = (
+        (whole_begun given.bytes, refl),
+        record {
+          ended = never_ended given.is.0;
+          stopped = never_stopped;
+          faults =
+              λ none. never_failed given.is.1;
+        },
+      );
     }

@@ -10,7 +10,8 @@ use Rattle.edge_traits.specs.Exchanges.{IsBegun, IsWhole, IsBroken}
 use Rattle.remote_transfer.specs.declared.answers.Attempt.{Attempt}
 use Rattle.remote_transfer.specs.declared.answers.Attempt.TheVariants.{Whole, Broke, Memory}
 
--- What the exchange is to the request and the host: whole with the outcome, broken by the cause, or begun where memory ran out after the dial.
+-- What the exchange is to the request and the host: whole with the outcome, broken by the cause, or begun where memory ran out
+-- after the dial.
 abbrev pub ExchangeIs : Request → Host → Attempt → Exchange → Type 0
 ExchangeIs q h (Whole outcome) x = IsWhole x q h outcome
 ExchangeIs q h (Broke cause) x = IsBroken x q h cause
@@ -29,13 +30,15 @@ is_failed (Broke Send) = true
 is_failed (Broke Recv) = true
 is_failed other = false
 
--- The link gave its end exactly where the answer says so, and a send took no byte exactly where the answer says so. Where the answer isn't that a send or a receive failed, none did.
+-- The link gave its end exactly where the answer says so, and a send took no byte exactly where the answer says so. Where the
+-- answer isn't that a send or a receive failed, none did.
 pub record EndsBy (answer : Attempt) (x : Exchange) : Type 0 where
   pub ended : x.ended ≡ is_truncated answer
   pub stopped : x.stopped ≡ is_stopped answer
   pub faults : is_failed answer ≡ false → x.faults ≡ 0
 
--- There was an exchange of which this holds. Where the list is told, it is the one new entry, and where it was dialed its peer may have given what it gave.
+-- There was an exchange of which this holds. Where the list is told, it is the one new entry, and where it was dialed its peer may
+-- have given what it gave.
 pub record Adds (may_give : List ℕ → List ℕ → Type 0) (old new : Told (List Exchange)) (holds : Exchange → Type 0) : Type 0 where
   pub entry : Exchange
   pub grew : Grew old new (entry ∷ [])

@@ -33,7 +33,8 @@ pub record KeeperStays (old new : KeeperView) : Type 0 where
   pub overruns : Still old.overruns new.overruns
   pub faults : old.faults ≤ new.faults
 
--- Where the object of a whole reply is, which has these bytes, after the keeper's count stood at before. That count rises only where the put was lost.
+-- Where the object of a whole reply is, which has these bytes, after the keeper's count stood at before. That count rises only
+-- where the put was lost.
 abbrev pub IsLanding : Landing → Outcome → List ℕ → List ℕ → ℕ → KeeperView → Type 0
 IsLanding Pending o path object before now = (o.status ≡ 0) × HasPending now path object × Still before now.faults
 IsLanding LostObject o path object before now = (o.status ≡ 0) × IsIdle now × Rose before now.faults
@@ -78,7 +79,8 @@ RisesByPuts may_give landed old new before now = Adds may_give old new (λ x. Ri
 
 -- The exchange is that of an attempt whose outcome has an object, and this object is where the answer says. The keeper's count rose by its
 -- put alone.
-pub record LandedAdds (may_give : List ℕ → List ℕ → Type 0) (q : Request) (h : Host) (landed : Landed) (path : List ℕ) (old new : Told (List Exchange)) (before now : KeeperView) : Type 0 where
+pub record LandedAdds (may_give : List ℕ → List ℕ → Type 0) (q : Request) (h : Host) (landed : Landed) (path : List ℕ)
+    (old new : Told (List Exchange)) (before now : KeeperView) : Type 0 where
   pub object : List ℕ
   pub adds : AttemptAdds may_give q h (attempt_of landed object) old new
   pub lands : Lands landed path object before.faults now
@@ -89,7 +91,8 @@ abbrev pub LandedCause : Landed → ℕ → ℕ → Type 0
 LandedCause (landeds.Broke Dial) before now = Rose before now
 LandedCause other before now = Still before now
 
--- Where the request wasn't sent whole, since the dial or a send failed or memory ran out before the dial had succeeded, the keeper wasn't asked and shows what it did.
+-- Where the request wasn't sent whole, since the dial or a send failed or memory ran out before the dial had succeeded, the keeper
+-- wasn't asked and shows what it did.
 abbrev pub IsUnasked : Landed → KeeperView → KeeperView → Type 0
 IsUnasked (landeds.Memory false) before now = now ≡ before
 IsUnasked (landeds.Broke Dial) before now = now ≡ before
@@ -142,7 +145,8 @@ LandsIf (Ok received) path object given before now = (received.0.object ≡ []) 
 LandsIf (Err stop) path object given before now = StopsBehind stop given before now
 
 -- A reply was received, and its object is where the result says. Where it isn't whole, a put may be pending.
-pub record ReceivedInto (result : Result (Outcome × Landing) Stop) (path : List ℕ) (old new : LinkView) (before now : KeeperView) : Type 0 where
+pub record ReceivedInto (result : Result (Outcome × Landing) Stop) (path : List ℕ) (old new : LinkView)
+    (before now : KeeperView) : Type 0 where
   pub object : List ℕ
   pub given : Given (ReplyIs (received_of result object) old new) old.given new.given
   pub lands : LandsIf result path object given.bytes before.faults now
@@ -152,16 +156,19 @@ abbrev pub LandsOr : Result (Outcome × Landing) Stop → List ℕ → List ℕ 
 LandsOr (Ok received) path object before now = (received.0.object ≡ []) × IsLanding received.1 received.0 path object before now
 LandsOr (Err stop) path object before now = IsIdle now
 
-pub record LandsInto (result : Result (Outcome × Landing) Stop) (path : List ℕ) (old new : LinkView) (before now : KeeperView) : Type 0 where
+pub record LandsInto (result : Result (Outcome × Landing) Stop) (path : List ℕ) (old new : LinkView)
+    (before now : KeeperView) : Type 0 where
   pub object : List ℕ
   pub given : Given (ReplyIs (received_of result object) old new) old.given new.given
   pub lands : LandsOr result path object before.faults now
   pub rises : RisesBehind (landed_of result) given.bytes before.faults now.faults
 
 -- what passed over a link is what an attempt says of it whose outcome has an object, and this object is where the answer says
-pub record PassedInto (result : Result (Outcome × Landing) Stop) (path text : List ℕ) (old new : LinkView) (before now : KeeperView) : Type 0 where
+pub record PassedInto (result : Result (Outcome × Landing) Stop) (path text : List ℕ) (old new : LinkView)
+    (before now : KeeperView) : Type 0 where
   pub object : List ℕ
-  pub passed : (q : Request) (h : Host) → IsFor q h text old → Passed old new (λ x. ExchangeIs q h (answer_of (received_of result object)) x × EndsBy (answer_of (received_of result object)) x)
+  pub passed : (q : Request) (h : Host) → IsFor q h text old
+      → Passed old new (λ x. ExchangeIs q h (answer_of (received_of result object)) x × EndsBy (answer_of (received_of result object)) x)
   pub lands : LandsOr result path object before.faults now
   pub unasked : IsUnasked (landed_of result) before now
   pub rises : Passed old new (λ x. RisesBehind (landed_of result) x.given before.faults now.faults)

@@ -17,8 +17,10 @@ use Rattle.remote_transfer.specs.declared.answers.Stop.TheVariants.{Broke, Memor
 abbrev pub ReplyIs : Result Outcome Stop → LinkView → LinkView → List ℕ → Type 0
 ReplyIs (Ok outcome) old new given = ((used : ℕ) × BeginsReply given used outcome) × (new.ended ≡ old.ended) × Still old.faults new.faults
 ReplyIs (Err (Broke Recv)) old new given = IsShortReply given × Rose old.faults new.faults × (new.ended ≡ old.ended)
-ReplyIs (Err (Broke (Truncated have))) old new given = IsShortReply given × (length given ≡ have) × (new.ended ≡ true) × Still old.faults new.faults
-ReplyIs (Err (Broke (BadReply at fault))) old new given = ReplyFaultStands given at fault × (new.ended ≡ old.ended) × Still old.faults new.faults
+ReplyIs (Err (Broke (Truncated have))) old new given = IsShortReply given × (length given ≡ have) × (new.ended ≡ true)
+    × Still old.faults new.faults
+ReplyIs (Err (Broke (BadReply at fault))) old new given = ReplyFaultStands given at fault × (new.ended ≡ old.ended)
+    × Still old.faults new.faults
 ReplyIs (Err (Broke other)) old new given = ⊥
 ReplyIs (Err Memory) old new given = (new.ended ≡ old.ended) × Still old.faults new.faults
 
@@ -36,7 +38,18 @@ pub record IsFor (q : Request) (h : Host) (text : List ℕ) (link : LinkView) : 
 
 -- the entry of a link over which this was sent and given
 abbrev pub entry_of : LinkView → List ℕ → List ℕ → Exchange
-entry_of link sent given = record { host = link.origin.host; port = link.origin.port; dialed = true; sent = sent; given = given; ended = link.ended; stopped = link.stopped; faults = link.faults }
+entry_of link sent given =
+    record {
+      host = link.origin.host;
+      port = link.origin.port;
+      dialed = true;
+      sent = sent;
+      given = given;
+      ended =
+          link.ended;
+      stopped = link.stopped;
+      faults = link.faults;
+    }
 
 -- What passed over a link, as an entry of which this holds. The link tells it, where it tells anything.
 pub record Passed (old new : LinkView) (holds : Exchange → Type 0) : Type 0 where

@@ -31,8 +31,10 @@ pub record PieceRead (old new : LinkView) (before after : Place) (count : ℕ) (
 
 -- What a piece brought, which stands in the room.
 abbrev pub PieceBrought : LinkView → LinkView → Place → Place → List ℕ → Brought → Type 0
-PieceBrought old new before after room (More count span) = IsSpan span (length room) × (count ≤ length room) × PieceRead old new before after count (spanned span room) None
-PieceBrought old new before after room (Whole span o) = IsSpan span (length room) × ((count : ℕ) × PieceRead old new before after count (spanned span room) (Some o))
+PieceBrought old new before after room (More count span) = IsSpan span (length room) × (count ≤ length room)
+    × PieceRead old new before after count (spanned span room) None
+PieceBrought old new before after room (Whole span o) =
+    IsSpan span (length room) × ((count : ℕ) × PieceRead old new before after count (spanned span room) (Some o))
 
 -- A reply was received, whose object is this where it is whole.
 abbrev pub Received : Result Outcome Stop → List ℕ → LinkView → LinkView → Type 0
@@ -42,7 +44,12 @@ Received (Err stop) object old new = Given (ReplyIs (Err stop) old new) old.give
 -- why no piece was read, after so many bytes
 abbrev pub PieceStops : ℕ → Place → LinkView → LinkView → Stop → Type 0
 PieceStops have before old new (Broke Recv) = Grew old.given new.given [] × Rose old.faults new.faults × (new.ended ≡ old.ended)
-PieceStops have before old new (Broke (Truncated bytes)) = Grew old.given new.given [] × (have ≡ bytes) × (new.ended ≡ true) × Still old.faults new.faults
-PieceStops have before old new (Broke (BadReply at fault)) = ((piece : List ℕ) × Grew old.given new.given piece × ((text object : List ℕ) → IsAt before text object → ReplyFaultStands (text ++ piece) at fault)) × (new.ended ≡ old.ended) × Still old.faults new.faults
+PieceStops have before old new (Broke (Truncated bytes)) = Grew old.given new.given [] × (have ≡ bytes) × (new.ended ≡ true)
+    × Still old.faults new.faults
+PieceStops have before old new (Broke (BadReply at fault)) =
+    ((piece : List ℕ) × Grew old.given new.given piece
+    × ((text object : List ℕ) → IsAt before text object → ReplyFaultStands (text ++ piece) at fault)) × (new.ended ≡ old.ended)
+    × Still old.faults new.faults
 PieceStops have before old new (Broke other) = ⊥
-PieceStops have before old new Memory = ((piece : List ℕ) × Grew old.given new.given piece) × (new.ended ≡ old.ended) × Still old.faults new.faults
+PieceStops have before old new Memory = ((piece : List ℕ) × Grew old.given new.given piece) × (new.ended ≡ old.ended)
+    × Still old.faults new.faults

@@ -28,7 +28,11 @@ grew_none a b c one two = record {
 
 pub only_then : (a b c : KeeperView) → OnlyFetched a b → OnlyFetched b c → OnlyFetched a c
 only_then a b c one two = record {
-  files = record { known = λ told. one.files.known (two.files.known told); became = λ told. two.files.became told ∙ one.files.became (two.files.known told) };
+  files = record {
+    known = λ told. one.files.known (two.files.known told);
+    became = λ told. two.files.became told
+        ∙ one.files.became (two.files.known told);
+  };
   puts = grew_none a.puts b.puts c.puts one.puts two.puts;
   idle = two.idle;
   faults = omega (arith, one.faults, two.faults);
@@ -39,15 +43,18 @@ rose_then : (a b c : ℕ) → a ≤ b → Rose b c → Rose a c
 rose_then a b c le rose = omega arith
 
 -- a cause in a later call, before which none had failed, is one in all of them
-pub cause_then : (a b c : KeeperView) (fault : LoadFault) → OnlyFetched a b → Still a.faults b.faults → LoadCause b c fault → LoadCause a c fault
+pub cause_then : (a b c : KeeperView) (fault : LoadFault) → OnlyFetched a b → Still a.faults b.faults → LoadCause b c fault
+    → LoadCause a c fault
 cause_then a b c Failed one calm cause = rose_then a.faults b.faults c.faults one.faults cause
-cause_then a b c (TooMuch bytes) one calm cause = record { rose = rose_then a.overruns b.overruns c.overruns one.overruns cause.rose; above = cause.above; long = cause.long }
+cause_then a b c (TooMuch bytes) one calm cause =
+    record { rose = rose_then a.overruns b.overruns c.overruns one.overruns cause.rose; above = cause.above; long = cause.long }
 cause_then a b c Memory one calm cause = cause ∙ calm
 
 -- what is known agrees with the files after a fetch, since they are the same
 pub agrees_on : (b c : KeeperView) (known : Files) (absent : List (List ℕ)) → OnlyFetched b c → IsTrue c.files.known
     → Agrees known absent false (unstaged b.files.value) → Agrees known absent false (unstaged c.files.value)
-agrees_on b c known absent only told agrees = subst (λ files. Agrees known absent false (unstaged files)) (sym (only.files.became told)) agrees
+agrees_on b c known absent only told agrees =
+    subst (λ files. Agrees known absent false (unstaged files)) (sym (only.files.became told)) agrees
 
 -- what agreed with the files agrees with them after a fetch
 pub agrees_then : (b c : KeeperView) (known more : Files) (absent names : List (List ℕ)) → OnlyFetched b c
@@ -55,4 +62,5 @@ pub agrees_then : (b c : KeeperView) (known more : Files) (absent names : List (
     → (IsTrue c.files.known → Agrees known absent false (unstaged c.files.value) → Agrees more names false (unstaged c.files.value))
     → IsTrue c.files.known → Agrees more names false (unstaged c.files.value)
 agrees_then b c known more absent names only before learned told =
-    learned told (subst (λ files. Agrees known absent false (unstaged files)) (sym (only.files.became told)) (before (only.files.known told)))
+    learned told (subst (λ files. Agrees known absent false (unstaged files)) (sym (only.files.became told))
+    (before (only.files.known told)))

@@ -1,5 +1,6 @@
 -- How the words of the compiler are gathered by kinds.
-use Rattle.std.proofs.Common.{◌≡◌, ℕ, ◌-◌, ◌≤◌, Bool, true, false, List, [], ◌∷◌, ◌++◌, length, get_or, take, drop, ap, sym, ◌∙◌, append_assoc, arith}
+use Rattle.std.proofs.Common.{◌≡◌, ℕ, ◌-◌, ◌≤◌, Bool, true, false, List, [], ◌∷◌, ◌++◌, length, get_or, take, drop, ap, sym, ◌∙◌}
+use Rattle.std.proofs.Common.{append_assoc, arith}
 use Rattle.std.specs.Prelude.{◌||◌}
 use Rattle.std.proofs.Math.Seq.{take-length}
 use Rattle.std.specs.List.{flat_map, list_any}
@@ -13,7 +14,8 @@ use Rattle.sample_compiler.specs.Meanings.{meanings, reading_of, last_meaning, i
 use Rattle.sample_compiler.specs.Tasks.{command_in, input_in, output_in, folder_in, define_in, is_lacking, gathered}
 
 -- a word that takes no operand
-pub whole_front : (word : List ℕ) (m : Meaning) (behind : List (List ℕ)) → reading_of word ≡ Whole m → meanings (word ∷ behind) ≡ m ∷ meanings behind
+pub whole_front : (word : List ℕ) (m : Meaning) (behind : List (List ℕ)) → reading_of word ≡ Whole m
+    → meanings (word ∷ behind) ≡ m ∷ meanings behind
 whole_front word m [] is = ap (λ r. last_meaning r ∷ []) is
 whole_front word m (next ∷ words) is = ap (λ r. in_front r next (meanings (next ∷ words)) (meanings words)) is
 
@@ -26,11 +28,13 @@ pub record Gathers (g : Gathered) (rest all : List Meaning) : Type 0 where
   pub defines : g.defines ++ flat_map define_in rest ≡ flat_map define_in all
   pub lacking : (g.lacking || list_any is_lacking rest) ≡ list_any is_lacking all
 
-one_more : {A : Type 0} (f : Meaning → List A) (old new : List A) (m : Meaning) (rest more all : List Meaning) → rest ≡ m ∷ more → old ++ flat_map f rest ≡ flat_map f all → new ≡ old ++ f m → new ++ flat_map f more ≡ flat_map f all
+one_more : {A : Type 0} (f : Meaning → List A) (old new : List A) (m : Meaning) (rest more all : List Meaning) → rest ≡ m ∷ more
+    → old ++ flat_map f rest ≡ flat_map f all → new ≡ old ++ f m → new ++ flat_map f more ≡ flat_map f all
 one_more f old new m rest more all is h grown =
     ap (λ x. x ++ flat_map f more) grown ∙ append_assoc old (f m) (flat_map f more) ∙ ap (λ r. old ++ flat_map f r) (sym is) ∙ h
 
-any_more : (p : Meaning → Bool) (old new : Bool) (m : Meaning) (rest more all : List Meaning) → rest ≡ m ∷ more → (old || list_any p rest) ≡ list_any p all → new ≡ (old || p m) → (new || list_any p more) ≡ list_any p all
+any_more : (p : Meaning → Bool) (old new : Bool) (m : Meaning) (rest more all : List Meaning) → rest ≡ m ∷ more
+    → (old || list_any p rest) ≡ list_any p all → new ≡ (old || p m) → (new || list_any p more) ≡ list_any p all
 any_more p true new m rest more all is h grown = ap (λ x. x || list_any p more) grown ∙ h
 any_more p false new m rest more all is h grown = ap (λ x. x || list_any p more) grown ∙ ap (λ r. list_any p r) (sym is) ∙ h
 
@@ -43,7 +47,8 @@ pub record Adds (old new : Gathered) (m : Meaning) : Type 0 where
   pub defines : new.defines ≡ old.defines ++ define_in m
   pub lacking : new.lacking ≡ (old.lacking || is_lacking m)
 
-pub gathers_more : (old new : Gathered) (m : Meaning) (rest more all : List Meaning) → rest ≡ m ∷ more → Gathers old rest all → Adds old new m → Gathers new more all
+pub gathers_more : (old new : Gathered) (m : Meaning) (rest more all : List Meaning) → rest ≡ m ∷ more → Gathers old rest all
+    → Adds old new m → Gathers new more all
 gathers_more old new m rest more all is g a = record {
   commands = one_more command_in old.commands new.commands m rest more all is g.commands a.commands;
   inputs = one_more input_in old.inputs new.inputs m rest more all is g.inputs a.inputs;

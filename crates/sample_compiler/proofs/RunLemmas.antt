@@ -16,12 +16,15 @@ use Rattle.sample_compiler.specs.Samples.{CompilesTo, LeftBy, LeavesAsked, task_
 
 -- each text is one source or has one fault
 pub record OneReading : Type 0 where
-  pub some : (text : List ℕ) → ((items : List Item) × SourceOf text items) ⊎ ((line : ℕ) × (message : List ℕ) × FaultStands text line message)
+  pub some : (text : List ℕ) → ((items : List Item) × SourceOf text items)
+      ⊎ ((line : ℕ) × (message : List ℕ) × FaultStands text line message)
   pub source : (text : List ℕ) (one other : List Item) → SourceOf text one → SourceOf text other → one ≡ other
   pub apart : (text : List ℕ) (items : List Item) (line : ℕ) (message : List ℕ) → SourceOf text items → FaultStands text line message → ⊥
-  pub fault : (text : List ℕ) (line there : ℕ) (message other : List ℕ) → FaultStands text line message → FaultStands text there other → (line ≡ there) × (message ≡ other)
+  pub fault : (text : List ℕ) (line there : ℕ) (message other : List ℕ) → FaultStands text line message
+      → FaultStands text there other → (line ≡ there) × (message ≡ other)
 
-some_compiled : (text : List ℕ) → ((items : List Item) × SourceOf text items) ⊎ ((line : ℕ) × (message : List ℕ) × FaultStands text line message) → (ran : Ran) × CompilesTo text ran
+some_compiled : (text : List ℕ) → ((items : List Item) × SourceOf text items)
+    ⊎ ((line : ℕ) × (message : List ℕ) × FaultStands text line message) → (ran : Ran) × CompilesTo text ran
 some_compiled text (inl (items, source)) = (made items, inl (items, source, refl))
 some_compiled text (inr (line, message, fault)) = (failed line message, inr (line, message, fault, refl))
 
@@ -38,25 +41,31 @@ same_failed : (line there : ℕ) (message other : List ℕ) → (line ≡ there)
 same_failed line there message other same = ap (λ l. failed l message) same.0 ∙ ap (λ m. failed there m) same.1
 
 one_compiled : OneReading → (text : List ℕ) (ran other : Ran) → CompilesTo text ran → CompilesTo text other → ran ≡ other
-one_compiled law text ran other (inl (items, source, is)) (inl (others, again, also)) = is ∙ ap made (law.source text items others source again) ∙ sym also
-one_compiled law text ran other (inl (items, source, is)) (inr (line, message, fault, also)) = absurd (law.apart text items line message source fault)
-one_compiled law text ran other (inr (line, message, fault, is)) (inl (items, source, also)) = absurd (law.apart text items line message source fault)
+one_compiled law text ran other (inl (items, source, is)) (inl (others, again, also)) =
+    is ∙ ap made (law.source text items others source again) ∙ sym also
+one_compiled law text ran other (inl (items, source, is)) (inr (line, message, fault, also)) =
+    absurd (law.apart text items line message source fault)
+one_compiled law text ran other (inr (line, message, fault, is)) (inl (items, source, also)) =
+    absurd (law.apart text items line message source fault)
 one_compiled law text ran other (inr (line, message, fault, is)) (inr (there, words, again, also)) =
     is ∙ same_failed line there message words (law.fault text line there message words fault again) ∙ sym also
 
-one_left : OneReading → (product : Product) (text : Result (List ℕ) (ℕ × ExpandFault)) (ran other : Ran) → LeftBy product text ran → LeftBy product text other → ran ≡ other
+one_left : OneReading → (product : Product) (text : Result (List ℕ) (ℕ × ExpandFault)) (ran other : Ran) → LeftBy product text ran
+    → LeftBy product text other → ran ≡ other
 one_left law product (Err fault) ran other is also = is ∙ sym also
 one_left law Text (Ok text) ran other is also = is ∙ sym also
 one_left law (Object output) (Ok text) ran other is also = one_compiled law text ran other is also
 
-one_asked : OneReading → (files : Files) (asked : Option Task) (ran other : Ran) → LeavesAsked files asked ran → LeavesAsked files asked other → ran ≡ other
+one_asked : OneReading → (files : Files) (asked : Option Task) (ran other : Ran) → LeavesAsked files asked ran
+    → LeavesAsked files asked other → ran ≡ other
 one_asked law files None ran other is also = is ∙ sym also
 one_asked law files (Some task) ran other is also = one_left law task.product (task_text files task) ran other is also
 
 pub some_run : OneReading → (files : Files) (asked : Option Task) → (ran : Ran) × LeavesAsked files asked ran
 some_run = some_asked
 
-pub one_run : OneReading → (files : Files) (asked : Option Task) (ran other : Ran) → LeavesAsked files asked ran → LeavesAsked files asked other → ran ≡ other
+pub one_run : OneReading → (files : Files) (asked : Option Task) (ran other : Ran) → LeavesAsked files asked ran
+    → LeavesAsked files asked other → ran ≡ other
 one_run = one_asked
 
 -- all files are known
@@ -72,7 +81,8 @@ left_fault files task line fault stop result stopped is said =
     subst (λ text. IfOk result (LeftBy task.product text)) (sym came) said
 
 -- a whole map stops no lookup
-pub none_unknown : {A : Type 0} (outcome : Result A (ℕ × ExpandFault)) (path : List ℕ) (stop : ExpandStop) → Stopped true outcome stop → stop ≡ Unknown path → ⊥
+pub none_unknown : {A : Type 0} (outcome : Result A (ℕ × ExpandFault)) (path : List ℕ) (stop : ExpandStop)
+    → Stopped true outcome stop → stop ≡ Unknown path → ⊥
 none_unknown outcome path stop stopped is =
     let no : true ≡ false = subst (λ s. Stopped true outcome s) is stopped in
     cc

@@ -8,7 +8,8 @@ use Rattle.sample_compiler.specs.Lookups.{Stopped}
 
 -- behind the text that was made before, it came to this outcome, unless it stopped for another reason
 abbrev pub Came : {T : Type 0} → Bool → ExpandResult → List ℕ → Expansion → Result T ExpandStop → Type 0
-Came whole outcome before now (Ok done) = (text : List ℕ) × (outcome ≡ Ok (record { defines = now.defines; text = text })) × (now.text ≡ before ++ text)
+Came whole outcome before now (Ok done) = (text : List ℕ) × (outcome ≡ Ok (record { defines = now.defines; text = text }))
+    × (now.text ≡ before ++ text)
 Came whole outcome before now (Err stop) = Stopped whole outcome stop
 
 -- it came to this text or fault, unless it stopped for another reason

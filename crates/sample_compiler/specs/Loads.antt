@@ -73,7 +73,8 @@ pub record FetchedFront (files : Files) (names : List (List ℕ)) (old new : Tol
 -- a file that was too long has one of these names
 abbrev pub LongNamed : KeeperView → List (List ℕ) → LoadFault → Type 0
 LongNamed now names Failed = Unit {0}
-LongNamed now names (TooMuch bytes) = IsTrue now.files.known → (path : List ℕ) × (is_listed names path ≡ true) × HasLength now.files.value path bytes
+LongNamed now names (TooMuch bytes) = IsTrue now.files.known → (path : List ℕ) × (is_listed names path ≡ true)
+    × HasLength now.files.value path bytes
 LongNamed now names Memory = Unit {0}
 
 -- one of these names is no file

@@ -1,5 +1,6 @@
 -- What the compiler leaves: the one run that a command's words ask for, over files.
-use Rattle.std.specs.Prelude.{ℕ, ◌≡◌, ◌++◌, ◌⊎◌, List, [], codes, Bool, true, false, if◌then◌else◌, Option, Some, None, Result, Ok, Err, nat_eq, ◌||◌}
+use Rattle.std.specs.Prelude.{ℕ, ◌≡◌, ◌++◌, ◌⊎◌, List, [], codes, Bool, true, false, if◌then◌else◌, Option, Some, None, Result, Ok, Err}
+use Rattle.std.specs.Prelude.{nat_eq, ◌||◌}
 use Rattle.std.specs.List.{ends_with}
 use Rattle.std.specs.Option.{option_map}
 use Rattle.std.specs.FinMap.{get}

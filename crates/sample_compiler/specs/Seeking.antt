@@ -1,5 +1,6 @@
 -- Which names are looked up, in order.
-use Rattle.std.specs.Prelude.{ℕ, zero, suc, ◌≡◌, ◌+◌, ◌==◌, ◌||◌, List, [], ◌∷◌, ◌++◌, codes, if◌then◌else◌, Bool, Option, Some, None, is_some, Result, Ok, Err}
+use Rattle.std.specs.Prelude.{ℕ, zero, suc, ◌≡◌, ◌+◌, ◌==◌, ◌||◌, List, [], ◌∷◌, ◌++◌, codes, if◌then◌else◌, Bool, Option, Some, None}
+use Rattle.std.specs.Prelude.{is_some, Result, Ok, Err}
 use Rattle.std.specs.FinMap.{get}
 use Rattle.farm_types.specs.Bytes.{hash}
 use Rattle.file_map.specs.FileMaps.{Files}
@@ -64,7 +65,8 @@ by_content seek (Some content) = seek (source_lines content)
 unfoldable pub by_include : Files → List (List ℕ) → ℕ → Seeks
 by_include files dirs zero defines name = []
 by_include files dirs (suc room) defines name =
-    sought files dirs name ++ by_content (by_lines (include files dirs room) (by_include files dirs room) 1 defines) (find_file files dirs name)
+    sought files dirs name ++ by_content (by_lines (include files dirs room) (by_include files dirs room) 1 defines)
+    (find_file files dirs name)
 
 -- ---- a task
 
@@ -111,4 +113,5 @@ Walked next (Err stop) = StoppedAt next stop
 -- the names that aren't listed before, each where it stands first
 abbrev pub firsts_after : List (List ℕ) → List (List ℕ) → List (List ℕ)
 firsts_after before [] = []
-firsts_after before (name ∷ names) = if is_listed before name then firsts_after before names else name ∷ firsts_after (before ++ name ∷ []) names
+firsts_after before (name ∷ names) =
+    if is_listed before name then firsts_after before names else name ∷ firsts_after (before ++ name ∷ []) names

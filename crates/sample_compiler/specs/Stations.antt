@@ -69,7 +69,8 @@ stream_of ran stream.Object = ran.object
 -- Why a run comes to nothing: what the compiler leaves has a stream of so many bytes, or memory is wanting. None fails.
 abbrev pub RunStops : Files → List Word → List ℕ → StationFault → Type 0
 RunStops files words input fault.Failed = ⊥
-RunStops files words input (fault.TooMuch stream bytes) = (ran : Ran) × StationRan files words input ran × (bytes ≡ length (stream_of ran stream))
+RunStops files words input (fault.TooMuch stream bytes) = (ran : Ran) × StationRan files words input ran
+    × (bytes ≡ length (stream_of ran stream))
 RunStops files words input fault.Memory = Unit {0}
 
 -- ---- the station

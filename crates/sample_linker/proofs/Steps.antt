@@ -74,7 +74,8 @@ settled_done table lists at seen placed defined item is h s =
 wait_kept : (table : NameTable) (lists new : List (Vec ℕ Global)) (placed : List Item) (k : ℕ) (item : Item)
     → ((other n : ℕ) → Awaits lists other n → Awaits new other n)
     → Waits table lists placed k item → Waits table new placed k item
-wait_kept table lists new placed k item f w = record { name = w.name; place = w.place; part = w.part; left = w.left; found = w.found; awaits = f w.place k w.awaits }
+wait_kept table lists new placed k item f w =
+    record { name = w.name; place = w.place; part = w.part; left = w.left; found = w.found; awaits = f w.place k w.awaits }
 
 -- it waits
 pub settled_wait : (table : NameTable) (lists new : List (Vec ℕ Global)) (at : ℕ) (seen : List ℕ) (placed defined : List Item)
@@ -211,7 +212,8 @@ pub look_places : (table old grown : NameTable) (lists new : List (Vec ℕ Globa
     → ((place : ℕ) → place_in table (name_of item) ≡ Some place → Wakes lists new seen more place)
     → PlacedSo old text placed defined → Settled table lists (at ∷ seen) placed defined → ((k : ℕ) → Has seen k → at < k)
     → (then : List Item) × PlacedSo grown image then defined × Settled table new more then defined
-look_places table old grown lists new text image at seen more placed defined item code here coded free known own listed line wakes so s above =
+look_places table old grown lists new text image at seen more placed defined item code here coded free known own listed line wakes
+    so s above =
     let next = next_is table lists at seen placed defined item here s above free
     (subst (λ c. list_all (is_known placed) c ≡ true) coded known) in
     let place = some_of (place_in table (name_of item)) own in (

@@ -86,9 +86,11 @@ pub record StoppedRun (words : List (List ℕ)) (old new : KeeperView) (stop : R
 
 -- The compiler ran, and what it left was printed; or the files failed; or memory was wanting before anything was put or printed.
 pub data Compiled (words : List (List ℕ)) (old new : KeeperView) (sinks sinks_now : SinksView) (answer : ℕ) : Type 0 where
-  ran_so : (ran : Ran) → DidRun words old new ran → Printing no_memory_text (printed_by ran) (exit_code_of ran.status) sinks sinks_now answer
+  ran_so : (ran : Ran) → DidRun words old new ran
+      → Printing no_memory_text (printed_by ran) (exit_code_of ran.status) sinks sinks_now answer
       → Compiled words old new sinks sinks_now answer
-  files_failed : StoppedRun words old new File → Printing no_memory_text (complaint file_fault_text ∷ []) fault_status sinks sinks_now answer
+  files_failed : StoppedRun words old new File
+      → Printing no_memory_text (complaint file_fault_text ∷ []) fault_status sinks sinks_now answer
       → Compiled words old new sinks sinks_now answer
   memory_wanted : StoppedRun words old new Memory → WantOf no_memory_text [] sinks sinks_now answer
       → Compiled words old new sinks sinks_now answer

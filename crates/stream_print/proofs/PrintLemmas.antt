@@ -153,7 +153,8 @@ module _ {T : Type 0} (result : Result T PrintStop) (piece : Piece) (bytes : Lis
               (Printed-out (subst (λ b. Grew old.written new.written (take p.0 b)) same p.2) refl);
           stopped = λ stop. subst (λ o. DidStopOn o (record { out = old; err = err }) (record { out = new; err = err })) (sym on)
               (s (ap (λ e. Err e) stop));
-          other = λ _. subst (λ o. OtherGoesOn o (record { out = old; err = err }) (record { out = new; err = err })) (sym on) (goes-same err);
+          other = λ _. subst (λ o. OtherGoesOn o (record { out = old; err = err }) (record { out = new; err = err })) (sym on)
+              (goes-same err);
           memory = λ is. record { out = m (ap (λ e. Err e) is); err = goes-same err };
         }
       ] part stop memory
@@ -176,7 +177,8 @@ module _ {T : Type 0} (result : Result T PrintStop) (piece : Piece) (bytes : Lis
               (Printed-err (subst (λ b. Grew old.written new.written (take p.0 b)) same p.2) refl);
           stopped = λ stop. subst (λ o. DidStopOn o (record { out = out; err = old }) (record { out = out; err = new })) (sym on)
               (s (ap (λ e. Err e) stop));
-          other = λ _. subst (λ o. OtherGoesOn o (record { out = out; err = old }) (record { out = out; err = new })) (sym on) (goes-same out);
+          other = λ _. subst (λ o. OtherGoesOn o (record { out = out; err = old }) (record { out = out; err = new })) (sym on)
+              (goes-same out);
           memory = λ is. record { out = goes-same out; err = m (ap (λ e. Err e) is) };
         }
       ] part stop memory

@@ -128,10 +128,16 @@ one-more jobs workers at lines left least c old mid new Whole fit one some goes 
   printed = Grew-join line.0 rest.printed refl;
   goes_on = goes-join line.1 rest.goes_on;
 }
-one-more jobs workers at lines left least c old mid new SinkFault fit one some goes line rest =
-    (cut-more jobs workers at lines left least c old mid new fit one (or-false-right (lines == 1) (are_all jobs c) goes) line.0 rest.0, stop-after old mid new line.1 rest.1)
-one-more jobs workers at lines left least c old mid new Memory fit one some goes line rest =
-    (cut-more jobs workers at lines left least c old mid new fit one (or-false-right (lines == 1) (are_all jobs c) goes) line.0 rest.0, goes-join line.1 rest.1)
+one-more jobs workers at lines left least c old mid new SinkFault fit one some goes line rest = (
+  cut-more jobs workers at lines left least c old mid new fit one (or-false-right (lines == 1) (are_all jobs c) goes) line.0
+      rest.0,
+  stop-after old mid new line.1 rest.1,
+)
+one-more jobs workers at lines left least c old mid new Memory fit one some goes line rest = (
+  cut-more jobs workers at lines left least c old mid new fit one (or-false-right (lines == 1) (are_all jobs c) goes) line.0
+      rest.0,
+  goes-join line.1 rest.1,
+)
 
 -- the last line was printed: no other is left, or it says that all jobs have ended
 pub last-here : (jobs workers at lines least : ℕ) (c : Count) (old new : SinkView) → Fits jobs workers least c → 0 < lines

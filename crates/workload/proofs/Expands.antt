@@ -41,9 +41,11 @@ pub unreplaced : (line : List ℕ) → replaced [] line ≡ line
 unreplaced [] = refl
 unreplaced (c ∷ cs) = by_test (is_name_byte c) (unreplaced cs)
   where
-    by_test : (test : Bool) → texts (word_pieces cs) ≡ cs → texts (if test then join c (word_pieces cs) else (c ∷ []) ∷ word_pieces cs) ≡ c ∷ cs
+    by_test : (test : Bool) → texts (word_pieces cs) ≡ cs
+        → texts (if test then join c (word_pieces cs) else (c ∷ []) ∷ word_pieces cs) ≡ c ∷ cs
     by_test true later = joined c (word_pieces cs) ∙ ap (λ t. c ∷ t) later
-    by_test false later = flat_map-cons (piece_text []) (c ∷ []) (word_pieces cs) ∙ ap (λ t. t ++ texts (word_pieces cs)) (piece_itself (c ∷ [])) ∙ ap (λ t. c ∷ t) later
+    by_test false later = flat_map-cons (piece_text []) (c ∷ []) (word_pieces cs)
+        ∙ ap (λ t. t ++ texts (word_pieces cs)) (piece_itself (c ∷ [])) ∙ ap (λ t. c ∷ t) later
 
 -- ---- a text of one line
 
@@ -54,7 +56,8 @@ one_line : (line : List ℕ) → All IsOnLine line → source_lines (line ++ cod
 one_line [] all = refl
 one_line (c ∷ cs) all =
     let later : source_lines (cs ++ codes ";\n") ≡ (cs ++ codes ";") ∷ [] = one_line cs (All-tail IsOnLine c cs all) in
-    ap (λ (t : Bool). if t then [] ∷ source_lines (cs ++ codes ";\n") else with_byte c (source_lines (cs ++ codes ";\n"))) (All-head IsOnLine c cs all)
+    ap (λ (t : Bool). if t then [] ∷ source_lines (cs ++ codes ";\n") else with_byte c (source_lines (cs ++ codes ";\n")))
+    (All-head IsOnLine c cs all)
     ∙ ap (with_byte c) later
 
 -- the line begins with a byte other than `#`
@@ -62,7 +65,8 @@ pub expands : (files : Files) (dirs : List (List ℕ)) (first : ℕ) (line : Lis
     → expanded files dirs [] (first ∷ line ++ codes ";\n") ≡ Ok (record { defines = []; text = first ∷ line ++ codes ";\n" })
 expands files dirs first line plain all =
     let bytes = first ∷ (line ++ codes ";") in
-    let text : replaced [] bytes ++ codes "\n" ≡ first ∷ line ++ codes ";\n" = ap (λ t. t ++ codes "\n") (unreplaced bytes) ∙ ap (λ t. first ∷ t) (append_assoc line (codes ";") (codes "\n")) in
+    let text : replaced [] bytes ++ codes "\n" ≡ first ∷ line ++ codes ";\n" = ap (λ t. t ++ codes "\n") (unreplaced bytes)
+    ∙ ap (λ t. first ∷ t) (append_assoc line (codes ";") (codes "\n")) in
     ap (λ ls. expand_lines (include files dirs 16) 1 [] ls) (one_line (first ∷ line) all)
     ∙ rw plain (ap (λ t. Ok (record { defines = []; text = t })) (append-nil (replaced [] bytes ++ codes "\n") ∙ text))
 
@@ -87,7 +91,8 @@ front_on_line job factor small few =
     let ja = All-append P a (decimal job) (All-from_recursion P a (refl, (refl, (refl, (refl, (refl, tt)))))) (number_on_line job small) in
     let jb = All-append P (a ++ decimal job) b ja (All-from_recursion P b (refl, (refl, (refl, tt)))) in
     let jf = All-append P ((a ++ decimal job) ++ b) (decimal factor) jb (number_on_line factor few) in
-    let jd = All-append P (((a ++ decimal job) ++ b) ++ decimal factor) d jf (All-from_recursion P d (refl, (refl, (refl, (refl, (refl, (refl, (refl, tt)))))))) in
+    let jd = All-append P (((a ++ decimal job) ++ b) ++ decimal factor) d jf
+    (All-from_recursion P d (refl, (refl, (refl, (refl, (refl, (refl, (refl, tt)))))))) in
     All-append P ((((a ++ decimal job) ++ b) ++ decimal factor) ++ d) (decimal job) jd (number_on_line job small)
 
 -- a source of the workload is left as it is

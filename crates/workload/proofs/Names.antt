@@ -1,5 +1,6 @@
 -- The names of the workload's files: `jK.c` and `jK.o`, with a number K in decimal.
-use Rattle.std.proofs.Common.{◌≡◌, ℕ, ◌-◌, ◌<◌, ◌≤◌, ◌^◌, Bool, true, false, cond, nat_eq, List, [], ◌∷◌, ◌++◌, length, drop, take, get_or, refl, sym, ap, ◌∙◌, append_assoc, length-append, take-append-drop, arith}
+use Rattle.std.proofs.Common.{◌≡◌, ℕ, ◌-◌, ◌<◌, ◌≤◌, ◌^◌, Bool, true, false, cond, nat_eq, List, [], ◌∷◌, ◌++◌, length, drop, take}
+use Rattle.std.proofs.Common.{get_or, refl, sym, ap, ◌∙◌, append_assoc, length-append, take-append-drop, arith}
 use Rattle.std.specs.Prelude.{codes, Some, All, nat_lt, ◌&&◌, ◌||◌}
 use Rattle.std.specs.List.{list_any, find, starts_with, ends_with}
 use Rattle.std.specs.Fmt.{decimal}
@@ -37,10 +38,12 @@ abbrev pub named : ℕ → List ℕ → List ℕ
 named job ending = (codes "j" ++ decimal job) ++ ending
 
 -- what holds of `j`, of digits and of an ending holds of such a name
-all_named : (P : ℕ → Type 0) (job : ℕ) (ending : List ℕ) → job < 2 ^ 64 → P 106 → ((b : ℕ) → IsDigit b → P b) → All P ending → All P (named job ending)
+all_named : (P : ℕ → Type 0) (job : ℕ) (ending : List ℕ) → job < 2 ^ 64 → P 106 → ((b : ℕ) → IsDigit b → P b) → All P ending
+    → All P (named job ending)
 all_named P job ending small first digit last =
     All-append P (codes "j" ++ decimal job) ending
-    (All-append P (codes "j") (decimal job) (All-from_recursion P (codes "j") (first, tt)) (All-weaker IsDigit P digit (decimal job) (digits job small))) last
+    (All-append P (codes "j") (decimal job) (All-from_recursion P (codes "j") (first, tt))
+    (All-weaker IsDigit P digit (decimal job) (digits job small))) last
 
 abbrev IsNoSlash : ℕ → Type 0
 IsNoSlash b = nat_eq 47 b ≡ false
@@ -51,12 +54,14 @@ digit_no_slash b is = other_byte b 47 (λ same. absurd (omega (arith, is.0, same
 -- such a name is no path
 last_whole : (job : ℕ) (ending : List ℕ) → job < 2 ^ 64 → All IsNoSlash ending → last_name (named job ending) ≡ named job ending
 last_whole job ending small plain =
-    let none : list_any (nat_eq 47) (named job ending) ≡ false = list_any_none (nat_eq 47) (named job ending) (all_named IsNoSlash job ending small refl digit_no_slash plain) in
+    let none : list_any (nat_eq 47) (named job ending) ≡ false =
+    list_any_none (nat_eq 47) (named job ending) (all_named IsNoSlash job ending small refl digit_no_slash plain) in
     ap (λ (t : Bool). cond t (last_name (decimal job ++ ending)) (named job ending)) none
 
 -- how it ends
 ends_itself : (job : ℕ) (ending : List ℕ) → ends_with nat_eq (named job ending) ending ≡ true
-ends_itself job ending = ap (λ rest. pointwise nat_eq ending rest) (end_rest (named job ending) ending (codes "j" ++ decimal job) refl) ∙ nat_list_eq_equiv.refl ending
+ends_itself job ending = ap (λ rest. pointwise nat_eq ending rest)
+    (end_rest (named job ending) ending (codes "j" ++ decimal job) refl) ∙ nat_list_eq_equiv.refl ending
 
 -- a text ends in one byte alone
 last_byte : (xs : List ℕ) (a : ℕ) → get_or (xs ++ a ∷ []) (length xs) 0 ≡ a
@@ -92,7 +97,9 @@ dot_c = All-from_recursion IsNoSlash (codes ".c") (refl, (refl, tt))
 
 c_ending : (job : ℕ) → has_ending (named job (codes ".c")) C ≡ true
 c_ending job =
-    let long : nat_lt 2 (length (named job (codes ".c"))) ≡ true = lt-ltb 2 (length (named job (codes ".c"))) (omega (arith, length-append (codes "j" ++ decimal job) (codes ".c"), length-append (codes "j") (decimal job))) in
+    let long : nat_lt 2 (length (named job (codes ".c"))) ≡ true =
+    lt-ltb 2 (length (named job (codes ".c")))
+    (omega (arith, length-append (codes "j" ++ decimal job) (codes ".c"), length-append (codes "j") (decimal job))) in
     ap (λ (t : Bool). t && ends_with nat_eq (named job (codes ".c")) (codes ".c")) long ∙ ends_itself job (codes ".c")
 
 source_role_is : (job : ℕ) → job < 2 ^ 64 → role_of (named job (codes ".c")) ≡ role.Source C
@@ -107,7 +114,8 @@ no_conftest job small = ap (λ name. starts_with nat_eq name (codes "conftest.")
 -- ---- `jK.o`
 
 pub unreserved : (job : ℕ) → is_reserved (named job (codes ".o")) ≡ false
-unreserved job = ap (λ name. is_reserved name) (sym (append_assoc (codes "j" ++ decimal job) (codes ".") (codes "o"))) ∙ other_end ((codes "j" ++ decimal job) ++ codes ".") 111 (codes ".farm") 126 (λ same. absurd (omega (arith, same)))
+unreserved job = ap (λ name. is_reserved name) (sym (append_assoc (codes "j" ++ decimal job) (codes ".") (codes "o")))
+    ∙ other_end ((codes "j" ++ decimal job) ++ codes ".") 111 (codes ".farm") 126 (λ same. absurd (omega (arith, same)))
 
 plain_output : (job : ℕ) → output_reasons (named job (codes ".o")) ≡ []
 plain_output job = ap (λ (t : Bool). when t why.ReservedName) (unreserved job)
@@ -121,5 +129,6 @@ unready job =
     let front = (codes "j" ++ decimal job) ++ codes "." in
     let name : named job (codes ".c") ≡ front ++ codes "c" = sym (append_assoc (codes "j" ++ decimal job) (codes ".") (codes "c")) in
     ap (λ n. is_preprocessed_name n) name
-    ∙ ap (λ (t : Bool). t || ends_with nat_eq (front ++ codes "c") (codes ".ii")) (other_end front 99 (codes ".") 105 (λ same. absurd (omega (arith, same))))
+    ∙ ap (λ (t : Bool). t || ends_with nat_eq (front ++ codes "c") (codes ".ii"))
+    (other_end front 99 (codes ".") 105 (λ same. absurd (omega (arith, same))))
     ∙ other_end front 99 (codes ".i") 105 (λ same. absurd (omega (arith, same)))

@@ -51,10 +51,12 @@ place_of_output s o is = rw (action_role, is.source, output_role) refl
 pub output : (s o : List ℕ) → ArePlain s o → output_of (plain s o) ≡ o
 output s o is =
     let words = plain s o in
-    ap (λ (place : Option ℕ). output_text words (plan_of words) (option_map (λ at. output_place (part_at words at) at) place)) (first_output s o is)
+    ap (λ (place : Option ℕ). output_text words (plan_of words) (option_map (λ at. output_place (part_at words at) at) place))
+    (first_output s o is)
     ∙ ap (λ (place : OutputPlace). drop place.from (word_at words place.at)) (place_of_output s o is)
 
-gathered : (s o : List ℕ) → ArePlain s o → gather (λ at. sent_word (part_at (plain s o) at) (word_at (plain s o) at)) (length (plain s o)) ≡ codes "scc" ∷ codes "-c" ∷ s ∷ []
+gathered : (s o : List ℕ) → ArePlain s o
+    → gather (λ at. sent_word (part_at (plain s o) at) (word_at (plain s o) at)) (length (plain s o)) ≡ codes "scc" ∷ codes "-c" ∷ s ∷ []
 gathered s o is = rw (action_role, is.source, output_role) refl
 
 pub sent : (s o : List ℕ) → ArePlain s o → stripped (plain s o) ≡ plain s o
@@ -62,5 +64,6 @@ sent s o is =
     ap (λ (front : List (List ℕ)). front ++ codes "-o" ∷ output_of (plain s o) ∷ []) (gathered s o is)
     ∙ ap (λ (name : List ℕ). codes "scc" ∷ codes "-c" ∷ s ∷ codes "-o" ∷ name ∷ []) (output s o is)
 
-pub placed : (s o : List ℕ) → ArePlain s o → placed_words (plain s o) ≡ Text (codes "scc") ∷ Text (codes "-c") ∷ Input I ∷ Text (codes "-o") ∷ Output ∷ []
+pub placed : (s o : List ℕ) → ArePlain s o → placed_words (plain s o) ≡ Text (codes "scc") ∷ Text (codes "-c") ∷ Input I
+    ∷ Text (codes "-o") ∷ Output ∷ []
 placed s o is = rw (action_role, is.source, output_role) refl

@@ -39,10 +39,12 @@ own_reading rest = refl
 abbrev pub task_for : Product → List ℕ → Task
 task_for product input = record { product = product; input = input; dirs = []; defines = [] }
 
-pub compile_task : (s o : List ℕ) → reading_of s ≡ Whole (meaning.Input s) → is_reserved o ≡ false → task_of (plain s o) ≡ Some (task_for (product.Object o) s)
+pub compile_task : (s o : List ℕ) → reading_of s ≡ Whole (meaning.Input s) → is_reserved o ≡ false
+    → task_of (plain s o) ≡ Some (task_for (product.Object o) s)
 unfolding task_of
 compile_task s o is plain_name = rw (compile_reading, is, output_reading, plain_name) refl
 
-pub expand_task : (s : List ℕ) → reading_of s ≡ Whole (meaning.Input s) → task_of (codes "scc" ∷ codes "-E" ∷ s ∷ []) ≡ Some (task_for product.Text s)
+pub expand_task : (s : List ℕ) → reading_of s ≡ Whole (meaning.Input s)
+    → task_of (codes "scc" ∷ codes "-E" ∷ s ∷ []) ≡ Some (task_for product.Text s)
 unfolding task_of
 expand_task s is = rw (expand_reading, is) refl

@@ -27,7 +27,8 @@ job_object job = (codes "j" ++ decimal job) ++ codes ".o"
 
 -- the source of a job with this factor: one item, the factor times 7 plus the job's number
 abbrev pub source_text : ℕ → ℕ → List ℕ
-source_text job factor = (((((codes "int j" ++ decimal job) ++ codes " = ") ++ decimal factor) ++ codes " * 7 + ") ++ decimal job) ++ codes ";\n"
+source_text job factor = (((((codes "int j" ++ decimal job) ++ codes " = ") ++ decimal factor) ++ codes " * 7 + ") ++ decimal job)
+    ++ codes ";\n"
 
 -- the words of a job
 abbrev pub job_words : ℕ → List (List ℕ)

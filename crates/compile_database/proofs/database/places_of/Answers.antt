@@ -6,7 +6,9 @@ use Rattle.compile_database.proofs.EntryLemmas.{nil_from_test, not_nil_from_test
 use Rattle.compile_database.proofs.database.places_of.Goals as goal
 
 pub returns-then-is_empty-clause-fault : goal.returns-then-is_empty-clause-fault
-returns-then-is_empty-clause-fault c = none_taken c.in_ok-folder.folder.now c.in_ok-folder.ensures.folder (sym c.in_ok-places.ensures ∙ nil_from_test c.in_ok-places.places (sym c.if-is_empty.ensures))
+returns-then-is_empty-clause-fault c =
+    none_taken c.in_ok-folder.folder.now c.in_ok-folder.ensures.folder
+    (sym c.in_ok-places.ensures ∙ nil_from_test c.in_ok-places.places (sym c.if-is_empty.ensures))
 
 pub returns-in-Some-clause-fault : goal.returns-in-Some-clause-fault
 returns-in-Some-clause-fault c =

@@ -7,11 +7,15 @@ use Rattle.daemon_program.proofs.books.move_out.Goals as goal
 pub moving-preserved : goal.moving-preserved
 moving-preserved g c =
     let before = c.moving.invariant in
-    let moved : c.push-in-Some.new.self.items ≡ c.moving.doors.items ++ plain_kit c.in-Some.kit ∷ [] = grind (arith, common_steps, c.station.view_is, c.in-Ok-push.ensures.items) in
-    let told : c.push.new.self.items ≡ c.moving.stats.items ++ stats_of (book_of c.in-Some.kit) ∷ [] = grind (arith, common_steps, c.station.view_is, c.in-Ok.ensures.items, c.stats.ensures) in
+    let moved : c.push-in-Some.new.self.items ≡ c.moving.doors.items ++ plain_kit c.in-Some.kit ∷ [] =
+    grind (arith, common_steps, c.station.view_is, c.in-Ok-push.ensures.items) in
+    let told : c.push.new.self.items ≡ c.moving.stats.items ++ stats_of (book_of c.in-Some.kit) ∷ [] =
+    grind (arith, common_steps, c.station.view_is, c.in-Ok.ensures.items, c.stats.ensures) in
     record {
-      kits = one_back plain_kit c.moving.doors.items c.push-in-Some.new.self.items _ c.moving.cached.items c.pop.new.self.items c.in-Some.kit moved c.in-Some.ensures.items before.kits;
-      stats = one_back (λ kit. stats_of (book_of kit)) c.moving.stats.items c.push.new.self.items _ c.moving.cached.items c.pop.new.self.items c.in-Some.kit told c.in-Some.ensures.items before.stats;
+      kits = one_back plain_kit c.moving.doors.items c.push-in-Some.new.self.items _ c.moving.cached.items c.pop.new.self.items
+          c.in-Some.kit moved c.in-Some.ensures.items before.kits;
+      stats = one_back (λ kit. stats_of (book_of kit)) c.moving.stats.items c.push.new.self.items _ c.moving.cached.items
+          c.pop.new.self.items c.in-Some.kit told c.in-Some.ensures.items before.stats;
       room = grind (arith, common_steps);
       space = grind (arith, common_steps);
     }

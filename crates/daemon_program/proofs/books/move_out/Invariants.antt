@@ -5,7 +5,8 @@ use Rattle.daemon_program.proofs.books.move_out.Given as goal
 abbrev pub invariant-moving : goal.invariant-moving
 invariant-moving g l = record {
   kits : l.doors.items ++ reverse (map plain_kit l.cached.items) ≡ l.fn.doors.items ++ reverse (map plain_kit l.fn.cached.items);
-  stats : l.stats.items ++ reverse (map (λ kit. stats_of (book_of kit)) l.cached.items) ≡ reverse (map (λ kit. stats_of (book_of kit)) l.fn.cached.items);
+  stats : l.stats.items ++ reverse (map (λ kit. stats_of (book_of kit)) l.cached.items)
+      ≡ reverse (map (λ kit. stats_of (book_of kit)) l.fn.cached.items);
   room : vec_len l.doors + vec_len l.cached ≤ vec_capacity l.doors;
   space : vec_len l.stats + vec_len l.cached ≤ vec_capacity l.stats;
 }

@@ -8,7 +8,15 @@ use Rattle.daemon_service.proofs.reading.read_request.Goals as goal
 pub receiving-init : goal.receiving-init
 receiving-init g c = record {
   room = c.requires;
-  reading = record { text = []; is_at = c.new-reader.ensures.at; short = empty_is_short; len = refl; grew = Grew-refl _; open_still = refl };
+  reading = record {
+    text = [];
+    is_at = c.new-reader.ensures.at;
+    short = empty_is_short;
+    len = refl;
+    grew =
+        Grew-refl _;
+    open_still = refl;
+  };
   sent = Grew-refl _;
   stopped = refl;
   follows = g.met.L.Link.follows_itself _;
@@ -18,12 +26,17 @@ receiving-init g c = record {
 pub overflow_add-have : goal.overflow_add-have
 overflow_add-have g c =
     let before = c.receiving.invariant.reading in
-    omega (arith, have_small before c.in_ok-count.count c.receive_piece.new.room c.in_ok-count.ensures.within (c.in-More.ensures.says before.text before.is_at))
+    omega (
+      arith,
+      have_small before c.in_ok-count.count c.receive_piece.new.room c.in_ok-count.ensures.within
+          (c.in-More.ensures.says before.text before.is_at),
+    )
 
 pub receiving-smaller : goal.receiving-smaller
 receiving-smaller g c =
     let before = c.receiving.invariant.reading in
-    let small = have_small before c.in_ok-count.count c.receive_piece.new.room c.in_ok-count.ensures.within (c.in-More.ensures.says before.text before.is_at) in
+    let small = have_small before c.in_ok-count.count c.receive_piece.new.room c.in_ok-count.ensures.within
+    (c.in-More.ensures.says before.text before.is_at) in
     omega (arith, small, c.in_ok-count.ensures.some)
 
 pub receiving-preserved : goal.receiving-preserved
@@ -33,7 +46,8 @@ receiving-preserved g c =
     let after = c.in_ok-count.ensures in
     record {
       room = grind (arith, common_steps);
-      reading = read_on reading c.in_ok-count.count c.receive_piece.new.room after.within after.given after.open (c.in-More.ensures.says reading.text reading.is_at) (c.in-More.ensures.leaves reading.text reading.is_at);
+      reading = read_on reading c.in_ok-count.count c.receive_piece.new.room after.within after.given after.open
+          (c.in-More.ensures.says reading.text reading.is_at) (c.in-More.ensures.leaves reading.text reading.is_at);
       sent = Grew-still before.sent after.sent;
       stopped = grind (arith, after.stopped);
       follows = g.met.L.Link.follows_on _ _ _ before.follows after.follows;
@@ -44,7 +58,8 @@ pub returns-in-Whole-clause-given : goal.returns-in-Whole-clause-given
 returns-in-Whole-clause-given g c =
     let reading = c.receiving.invariant.reading in
     let after = c.in_ok-count.ensures in
-    read_whole reading c.in_ok-count.count c.receive_piece.new.room (g.L.Link.shows c.receive_piece.new.link) after.given after.open _ _ (c.in-Whole.ensures.says reading.text reading.is_at)
+    read_whole reading c.in_ok-count.count c.receive_piece.new.room (g.L.Link.shows c.receive_piece.new.link) after.given after.open
+    _ _ (c.in-Whole.ensures.says reading.text reading.is_at)
 
 pub returns-in-Whole-clause-follows : goal.returns-in-Whole-clause-follows
 returns-in-Whole-clause-follows g c = g.met.L.Link.follows_on _ _ _ c.receiving.invariant.follows c.in_ok-count.ensures.follows

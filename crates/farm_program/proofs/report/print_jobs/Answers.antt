@@ -6,7 +6,8 @@ use Rattle.farm_program.proofs.report.print_jobs.Goals as goal
 pub returns-in_err-print_job-clause-front : goal.returns-in_err-print_job-clause-front
 returns-in_err-print_job-clause-front g c =
     let fault = err_from_is_err_and c.from_residual.result c.from_residual.ensures.1 in
-    rw (fault.1, fault.2) (job_cut c.args.hosts.now.list c.args.reports.now c.loop-report.report-index c.report-item.result c.loop-report-test.true
+    rw (fault.1, fault.2) (job_cut c.args.hosts.now.list c.args.reports.now c.loop-report.report-index c.report-item.result
+    c.loop-report-test.true
     c.report-item.is
     c.loop-report.invariant.printed c.loop-report.invariant.goes c.in_err-print_job.ensures.front)
 

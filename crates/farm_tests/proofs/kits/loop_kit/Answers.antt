@@ -6,5 +6,6 @@ use Rattle.farm_tests.proofs.kits.loop_kit.Goals as goal
 pub returns-clause-loops : goal.returns-clause-loops
 returns-clause-loops c = record {
   names = subst (λ held. AreOwnNames held.table.rows) (sym c.new.ensures.held) c.in_ok-compiler_table.ensures.names;
-  same = ap (λ held. station_files held.station) c.new.ensures.held ∙ c.new-there.ensures.files ∙ c.in_ok-make.ensures.files ∙ sym (c.new-here.ensures.files ∙ c.in_ok-make-2.ensures.files);
+  same = ap (λ held. station_files held.station) c.new.ensures.held ∙ c.new-there.ensures.files ∙ c.in_ok-make.ensures.files
+      ∙ sym (c.new-here.ensures.files ∙ c.in_ok-make-2.ensures.files);
 }

@@ -19,9 +19,11 @@ Idle kit = IsIdle (keeper_shows (keeper_state kit.keeper))
 pub returns-clause-loops : goal.returns-clause-loops
 returns-clause-loops c =
     subst (All Loops) (sym c.in_ok-push.ensures.items)
-    (All-push Loops c.new-kits.result.items c.in_ok-loop_kit.field-0 (All-same Loops c.new-kits.result.items [] (grind (arith, common_steps)) (All-nil Loops)) c.in_ok-loop_kit.ensures.loops)
+    (All-push Loops c.new-kits.result.items c.in_ok-loop_kit.field-0
+    (All-same Loops c.new-kits.result.items [] (grind (arith, common_steps)) (All-nil Loops)) c.in_ok-loop_kit.ensures.loops)
 
 pub returns-clause-idle : goal.returns-clause-idle
 returns-clause-idle c =
     subst (All Idle) (sym c.in_ok-push.ensures.items)
-    (All-push Idle c.new-kits.result.items c.in_ok-loop_kit.field-0 (All-same Idle c.new-kits.result.items [] (grind (arith, common_steps)) (All-nil Idle)) c.in_ok-loop_kit.ensures.idle)
+    (All-push Idle c.new-kits.result.items c.in_ok-loop_kit.field-0
+    (All-same Idle c.new-kits.result.items [] (grind (arith, common_steps)) (All-nil Idle)) c.in_ok-loop_kit.ensures.idle)

@@ -17,5 +17,6 @@ Idle kit = IsIdle (keeper_shows (keeper_state kit.keeper))
 pub making-preserved : goal.making-preserved
 making-preserved c = record {
   few = grind (arith, common_steps, c.in_ok-push.ensures.items, c.making-test.true, c.len.ensures, c.making.invariant.few);
-  idle = subst (All Idle) (sym c.in_ok-push.ensures.items) (All-push Idle c.making.kits.items c.in_ok-loop_kit.field-0 c.making.invariant.idle c.in_ok-loop_kit.ensures);
+  idle = subst (All Idle) (sym c.in_ok-push.ensures.items)
+      (All-push Idle c.making.kits.items c.in_ok-loop_kit.field-0 c.making.invariant.idle c.in_ok-loop_kit.ensures);
 }

@@ -11,7 +11,8 @@ returns-then-taken-eq0-clause-err g c = filling-stops _ _ _ _ _ c.adding.rest.no
 
 pub adding-preserved : goal.adding-preserved
 adding-preserved g c =
-    filling-more _ _ _ _ _ c.adding.rest.now _ c.in_ok-taken.taken c.adding.invariant c.in_ok-taken.ensures.files (grind (arith, common_steps)) c.append.ensures.overruns (c.in_ok-taken.ensures.cause.taken (omega (arith, c.if-taken-eq0.false)))
+    filling-more _ _ _ _ _ c.adding.rest.now _ c.in_ok-taken.taken c.adding.invariant c.in_ok-taken.ensures.files
+    (grind (arith, common_steps)) c.append.ensures.overruns (c.in_ok-taken.ensures.cause.taken (omega (arith, c.if-taken-eq0.false)))
 
 pub adding-init : goal.adding-init
 adding-init g c = filling-begins (g.F.Files.shows c.args.files.now) c.args.name.now c.args.piece.now c.requires.there

@@ -13,7 +13,8 @@ returns c =
       there = ap (λ held. station_files held.station) c.new.ensures.held ∙ there;
       table = ap (λ held. held.table.rows) c.new.ensures.held ∙ c.in_ok-compiler_table.ensures.rows;
       clock = c.new-4.ensures ∙ ap (λ (moments : List ℕ). record { moments = moments; given = 0 }) c.new-3.ensures;
-      honest = subst (λ files. IsHonest (DialerGives (λ s. StationRan (station_files s)) c.new.result) (StationRan files)) there c.new.ensures.honest;
+      honest = subst (λ files. IsHonest (DialerGives (λ s. StationRan (station_files s)) c.new.result) (StationRan files)) there
+          c.new.ensures.honest;
       station = c.new-here.ensures ∙ c.in_ok-make-2.ensures.files;
       none_put = c.new-2.ensures.none;
       idle = ap pending_of c.new-2.ensures.idle;

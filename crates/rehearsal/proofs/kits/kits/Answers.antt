@@ -12,5 +12,6 @@ making-preserved c =
     let Fresh : RehearsalKit → Type 0 = λ kit. IsFresh (files_of c.args.n) kit in
     record {
       few = grind (arith, common_steps, c.in_ok-push.ensures.items, c.making-test.true, c.len.ensures, c.making.invariant.few);
-      fresh = subst (All Fresh) (sym c.in_ok-push.ensures.items) (All-push Fresh c.making.kits.items c.in_ok-kit.field-0 c.making.invariant.fresh c.in_ok-kit.ensures);
+      fresh = subst (All Fresh) (sym c.in_ok-push.ensures.items)
+          (All-push Fresh c.making.kits.items c.in_ok-kit.field-0 c.making.invariant.fresh c.in_ok-kit.ensures);
     }

@@ -10,13 +10,19 @@ build-requires-clause-jobs g c κs within = subst AreDoable (sym c.in_ok-jobs.en
 pub count_reports-count-requires : goal.count_reports-count-requires
 count_reports-count-requires g c =
     let all : length c.as_slice-2.result.now ≡ c.args.n =
-    ap length c.as_slice-2.ensures ∙ c.in_ok-built.ensures.ran.are_read.one ∙ c.in_ok-built.ensures.jobs ∙ ap length c.in_ok-jobs.ensures.jobs ∙ job_number c.args.n in
+    ap length c.as_slice-2.ensures ∙ c.in_ok-built.ensures.ran.are_read.one ∙ c.in_ok-built.ensures.jobs
+    ∙ ap length c.in_ok-jobs.ensures.jobs ∙ job_number c.args.n in
     omega (arith, all, c.requires.most)
 
 pub returns : goal.returns
 returns g c =
     let number : c.min-workers.result ≡ rehearsal_workers c.args.n = let min = c.min-workers.ensures in omega (arith, min) in
-    rehearsed (record { sent = c.runs_of_jobs.ensures.sent; preprocessed = c.runs_of_jobs.ensures.preprocessed; compiled = c.runs_of_jobs.ensures.compiled }) c.put_law.ensures
+    rehearsed (record {
+      sent = c.runs_of_jobs.ensures.sent;
+      preprocessed = c.runs_of_jobs.ensures.preprocessed;
+      compiled =
+          c.runs_of_jobs.ensures.compiled;
+    }) c.put_law.ensures
     c.args.n c.requires.some c.requires.most c.in_ok-built.built c.in_ok-jobs.field-0.jobs c.in_ok-config.config c.min-workers.result
     c.in_ok-kits.kits.items c.build.new.kits.items c.as_slice.result.now c.as_slice-2.result.now c.count_reports-count.result
     c.in_ok-jobs.ensures.jobs c.in_ok-config.ensures number c.in_ok-kits.ensures.count c.in_ok-kits.ensures.fresh

@@ -14,8 +14,10 @@ returns-clause-passed g c =
     let received = c.receive_into.ensures in
     record {
       object = received.lands.object;
-      passed = λ q h is_for. replied q h c.args.text.now _ _ is_for c.requires.new (g.met.L.Link.origin_stays _ _ (g.met.L.Link.follows_on _ _ _ sent.follows received.follows))
-          _ sent.all received.sent sent.given sent.running received.stopped sent.ended sent.still (received_of c.receive_into.result received.lands.object) received.lands.given;
+      passed = λ q h is_for. replied q h c.args.text.now _ _ is_for c.requires.new
+          (g.met.L.Link.origin_stays _ _ (g.met.L.Link.follows_on _ _ _ sent.follows received.follows))
+          _ sent.all received.sent sent.given sent.running received.stopped sent.ended sent.still
+          (received_of c.receive_into.result received.lands.object) received.lands.given;
       lands = received.lands.lands;
       unasked = maybe-asked c.receive_into.result received.lands.object _ _ received.lands.given.bytes _ _ received.lands.given.is;
       rises = record {
@@ -32,9 +34,11 @@ returns-in_err-send_all-clause-passed g c =
     let p = err_from_is_err_and c.from_residual.result c.from_residual.ensures.1 in
     let s = c.in_err-send_all.ensures in
     let fault = c.in_err-send_all.field-0.0 in
-    let into : PassedInto (Err (stop_of fault)) c.args.path.now c.args.text.now (g.L.Link.shows c.args.link.now) (g.L.Link.shows c.send_all.new.link) (g.K.Keeper.shows c.args.keeper.now) (g.K.Keeper.shows c.args.keeper.now) = record {
+    let into : PassedInto (Err (stop_of fault)) c.args.path.now c.args.text.now (g.L.Link.shows c.args.link.now)
+    (g.L.Link.shows c.send_all.new.link) (g.K.Keeper.shows c.args.keeper.now) (g.K.Keeper.shows c.args.keeper.now) = record {
       object = [];
-      passed = λ q h is_for. not_sent q h c.args.text.now (g.L.Link.shows c.args.link.now) (g.L.Link.shows c.send_all.new.link) is_for c.requires.new (g.met.L.Link.origin_stays _ _ s.follows) fault s.part s.stops s.given s.ended;
+      passed = λ q h is_for. not_sent q h c.args.text.now (g.L.Link.shows c.args.link.now) (g.L.Link.shows c.send_all.new.link)
+          is_for c.requires.new (g.met.L.Link.origin_stays _ _ s.follows) fault s.part s.stops s.given s.ended;
       lands = c.requires.idle;
       unasked = never-asked fault (g.K.Keeper.shows c.args.keeper.now);
       rises = record {

@@ -2,7 +2,8 @@ use Rattle.remote_transfer.proofs.IntoFiles.{rises-then}
 use Rattle.remote_transfer.proofs.landing.receive_into.Goals as goal
 
 pub returns-in-Ok-clause-lands : goal.returns-in-Ok-clause-lands
-returns-in-Ok-clause-lands g c = let r = c.in-Ok.ensures.received in record { object = r.object; given = r.given; lands = r.lands; rises = tt }
+returns-in-Ok-clause-lands g c = let r = c.in-Ok.ensures.received in
+    record { object = r.object; given = r.given; lands = r.lands; rises = tt }
 
 pub returns-in-Err-clause-lands : goal.returns-in-Err-clause-lands
 returns-in-Err-clause-lands g c =

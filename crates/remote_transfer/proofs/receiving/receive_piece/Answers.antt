@@ -16,7 +16,8 @@ returns-in-More-clause-read g c =
         grew = c.in-Ok.ensures.given;
         ended = grind (arith, common_steps, c.in-Ok.ensures.ended, c.in-Ok.count-test);
         still = c.in-Ok.ensures.cause.done;
-        read = comes-more c.args.reader.now c.feed.new.self c.in-Ok.count c.in-More.used c.recv.new.room c.in-More.object f.uses f.says f.joined
+        read = comes-more c.args.reader.now c.feed.new.self c.in-Ok.count c.in-More.used c.recv.new.room c.in-More.object f.uses
+            f.says f.joined
             f.leaves;
       },
     )
@@ -34,7 +35,8 @@ returns-in-Whole-clause-read g c =
           grew = c.in-Ok.ensures.given;
           ended = grind (arith, common_steps, c.in-Ok.ensures.ended, c.in-Ok.count-test);
           still = c.in-Ok.ensures.cause.done;
-          read = comes-whole c.args.reader.now c.feed.new.self c.in-Ok.count c.in-Whole.used c.recv.new.room c.in-Whole.object c.in-Whole.outcome f.uses f.says;
+          read = comes-whole c.args.reader.now c.feed.new.self c.in-Ok.count c.in-Whole.used c.recv.new.room c.in-Whole.object
+              c.in-Whole.outcome f.uses f.says;
         },
       ),
     )

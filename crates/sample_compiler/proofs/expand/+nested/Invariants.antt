@@ -21,10 +21,15 @@ decreases-expand l = 4 * l.room + 3
 
 abbrev pub invariant-expand-reading : goal.invariant-expand-reading
 invariant-expand-reading l = record {
-  behind : (files : Files) → Agrees l.sources.files.now l.sources.absent.now l.sources.whole files → Behind (expanding.include files l.sources.dirs.now l.room) l.text l.fn.made.text l.fn.made.defines l.line l.rest l.made;
+  behind : (files : Files) → Agrees l.sources.files.now l.sources.absent.now l.sources.whole files
+      → Behind (expanding.include files l.sources.dirs.now l.room) l.text l.fn.made.text l.fn.made.defines l.line l.rest l.made;
   looked : (files : Files) → Agrees l.sources.files.now l.sources.absent.now l.sources.whole files → l.sources.whole ≡ false
-      → first_unknown l.sources.files.now l.sources.absent.now (by_lines (expanding.include files l.sources.dirs.now l.room) (by_include files l.sources.dirs.now l.room) 1 l.fn.made.defines (source_lines l.text))
-      ≡ first_unknown l.sources.files.now l.sources.absent.now (by_lines (expanding.include files l.sources.dirs.now l.room) (by_include files l.sources.dirs.now l.room) l.line l.made.defines (source_lines l.rest));
+      → first_unknown l.sources.files.now l.sources.absent.now
+      (by_lines (expanding.include files l.sources.dirs.now l.room) (by_include files l.sources.dirs.now l.room) 1
+      l.fn.made.defines (source_lines l.text))
+      ≡ first_unknown l.sources.files.now l.sources.absent.now
+      (by_lines (expanding.include files l.sources.dirs.now l.room) (by_include files l.sources.dirs.now l.room) l.line
+      l.made.defines (source_lines l.rest));
   fits : l.line + length l.rest ≤ 1 + length l.text;
 }
 

@@ -12,14 +12,16 @@ pub returns-then-is_reserved-clause-known : goal.returns-then-is_reserved-clause
 returns-then-is_reserved-clause-known g c told a =
     let files = (g.K.Keeper.shows c.args.keeper.now).files.value in
     let reserved : is_reserved c.args.path ≡ true = cc in
-    absent_agrees c.args.known.now.files (unstaged files) c.args.known.now.absent c.try_push.new.self c.args.path c.in_ok-try_push.ensures.ok (get_reserved files c.args.path reserved) a
+    absent_agrees c.args.known.now.files (unstaged files) c.args.known.now.absent c.try_push.new.self c.args.path
+    c.in_ok-try_push.ensures.ok (get_reserved files c.args.path reserved) a
 
 pub returns-in_ok-try_put-in-Ok-clause-known : goal.returns-in_ok-try_put-in-Ok-clause-known
 returns-in_ok-try_put-in-Ok-clause-known g c told a =
     let files = (g.K.Keeper.shows c.fetch.new.self).files.value in
     let plain : is_reserved c.args.path ≡ false = cc in
     let there : get files c.args.path ≡ Some c.in-Ok.content = c.in-Ok.ensures.whole.whole told in
-    there_agrees c.args.known.now.files c.try_put.new.self (unstaged files) c.args.known.now.absent c.args.path c.in-Ok.content c.in_ok-try_put-in-Ok.ensures.ok (get_plain files c.args.path plain ∙ there) a
+    there_agrees c.args.known.now.files c.try_put.new.self (unstaged files) c.args.known.now.absent c.args.path c.in-Ok.content
+    c.in_ok-try_put-in-Ok.ensures.ok (get_plain files c.args.path plain ∙ there) a
 
 pub returns-in_ok-try_push-in-Err-Absent-clause-known : goal.returns-in_ok-try_push-in-Err-Absent-clause-known
 returns-in_ok-try_push-in-Err-Absent-clause-known g c told a =
@@ -27,13 +29,15 @@ returns-in_ok-try_push-in-Err-Absent-clause-known g c told a =
     let plain : is_reserved c.args.path ≡ false = cc in
     let cause = rw c.in-Err-Absent.field-0-is at c.in-Err-Absent.ensures.cause in
     let gone : get files c.args.path ≡ None = cause.absent told in
-    absent_agrees c.args.known.now.files (unstaged files) c.args.known.now.absent c.try_push-in-Err-Absent.new.self c.args.path c.in_ok-try_push-in-Err-Absent.ensures.ok (get_plain files c.args.path plain ∙ gone) a
+    absent_agrees c.args.known.now.files (unstaged files) c.args.known.now.absent c.try_push-in-Err-Absent.new.self c.args.path
+    c.in_ok-try_push-in-Err-Absent.ensures.ok (get_plain files c.args.path plain ∙ gone) a
 
 pub returns-then-is_reserved-clause-fetched : goal.returns-then-is_reserved-clause-fetched
 returns-then-is_reserved-clause-fetched g c told =
     let view = g.K.Keeper.shows c.args.keeper.now in
     let reserved : is_reserved c.args.path ≡ true = cc in
-    entry_absent (unstaged view.files.value) c.args.path view.fetches view.fetches (get_reserved view.files.value c.args.path reserved) (grew_nothing view.fetches)
+    entry_absent (unstaged view.files.value) c.args.path view.fetches view.fetches
+    (get_reserved view.files.value c.args.path reserved) (grew_nothing view.fetches)
 
 pub returns-in_err-try_put-in-Ok-clause-tried : goal.returns-in_err-try_put-in-Ok-clause-tried
 returns-in_err-try_put-in-Ok-clause-tried g c =
@@ -44,10 +48,13 @@ returns-in_err-try_put-in-Ok-clause-tried g c =
     let plain : is_reserved c.args.path ≡ false = cc in
     let there : get after.files.value c.args.path ≡ Some c.in-Ok.content = c.in-Ok.ensures.whole.whole told in
     front_one (unstaged after.files.value) c.args.path before.fetches after.fetches
-    (entry_there (unstaged after.files.value) c.args.path c.in-Ok.content before.fetches after.fetches (get_plain after.files.value c.args.path plain ∙ there) (rw c.in-Ok.is at c.fetch.ensures.fetches)))
+    (entry_there (unstaged after.files.value) c.args.path c.in-Ok.content before.fetches after.fetches
+    (get_plain after.files.value c.args.path plain ∙ there) (rw c.in-Ok.is at c.fetch.ensures.fetches)))
 
 pub returns-in_ok-try_put-in-Ok-clause-knows : goal.returns-in_ok-try_put-in-Ok-clause-knows
-returns-in_ok-try_put-in-Ok-clause-knows g c name = learned_there c.args.known.now.files c.try_put.new.self c.args.known.now.absent c.args.path c.in-Ok.content name c.in_ok-try_put-in-Ok.ensures.ok
+returns-in_ok-try_put-in-Ok-clause-knows g c name =
+    learned_there c.args.known.now.files c.try_put.new.self c.args.known.now.absent c.args.path c.in-Ok.content name
+    c.in_ok-try_put-in-Ok.ensures.ok
 
 pub returns-in_ok-try_put-in-Ok-clause-fetched : goal.returns-in_ok-try_put-in-Ok-clause-fetched
 returns-in_ok-try_put-in-Ok-clause-fetched g c told =
@@ -55,7 +62,8 @@ returns-in_ok-try_put-in-Ok-clause-fetched g c told =
     let after = g.K.Keeper.shows c.fetch.new.self in
     let plain : is_reserved c.args.path ≡ false = cc in
     let there : get after.files.value c.args.path ≡ Some c.in-Ok.content = c.in-Ok.ensures.whole.whole told in
-    entry_there (unstaged after.files.value) c.args.path c.in-Ok.content before.fetches after.fetches (get_plain after.files.value c.args.path plain ∙ there) (rw c.in-Ok.is at c.fetch.ensures.fetches)
+    entry_there (unstaged after.files.value) c.args.path c.in-Ok.content before.fetches after.fetches
+    (get_plain after.files.value c.args.path plain ∙ there) (rw c.in-Ok.is at c.fetch.ensures.fetches)
 
 pub returns-in_ok-try_push-in-Err-Absent-clause-fetched : goal.returns-in_ok-try_push-in-Err-Absent-clause-fetched
 returns-in_ok-try_push-in-Err-Absent-clause-fetched g c told =
@@ -64,10 +72,13 @@ returns-in_ok-try_push-in-Err-Absent-clause-fetched g c told =
     let plain : is_reserved c.args.path ≡ false = cc in
     let cause = rw c.in-Err-Absent.field-0-is at c.in-Err-Absent.ensures.cause in
     let gone : get after.files.value c.args.path ≡ None = cause.absent told in
-    entry_absent (unstaged after.files.value) c.args.path before.fetches after.fetches (get_plain after.files.value c.args.path plain ∙ gone) (rw c.in-Err-Absent.is at c.fetch.ensures.fetches)
+    entry_absent (unstaged after.files.value) c.args.path before.fetches after.fetches
+    (get_plain after.files.value c.args.path plain ∙ gone) (rw c.in-Err-Absent.is at c.fetch.ensures.fetches)
 
 pub returns-in_ok-try_put-in-Ok-clause-short : goal.returns-in_ok-try_put-in-Ok-clause-short
-returns-in_ok-try_put-in-Ok-clause-short g c short = one_short c.args.known.now.files c.try_put.new.self c.args.path c.in-Ok.content c.in_ok-try_put-in-Ok.ensures.ok c.in-Ok.ensures.whole.within short
+returns-in_ok-try_put-in-Ok-clause-short g c short =
+    one_short c.args.known.now.files c.try_put.new.self c.args.path c.in-Ok.content c.in_ok-try_put-in-Ok.ensures.ok
+    c.in-Ok.ensures.whole.within short
 
 pub returns-in_ok-try_push-in-Err-Absent-clause-missed : goal.returns-in_ok-try_push-in-Err-Absent-clause-missed
 returns-in_ok-try_push-in-Err-Absent-clause-missed g c =

@@ -9,22 +9,28 @@ use Rattle.sample_compiler.proofs.loading.load.Goals as goal
 pub returns-in-Some-clause-named : goal.returns-in-Some-clause-named
 returns-in-Some-clause-named g c =
     let after = g.K.Keeper.shows c.load_task.new.keeper in
-    let asked : task_of c.args.words.now ≡ Some c.in-Some.task = ap task_of (sym c.as_slice.ensures) ∙ sym c.in_ok-task.ensures.task ∙ c.in-Some.is in
-    subst (λ o. IfErr c.load_task.result (LongNamed after (asked_names (unstaged after.files.value) o))) (sym asked) c.load_task.ensures.named
+    let asked : task_of c.args.words.now ≡ Some c.in-Some.task = ap task_of (sym c.as_slice.ensures) ∙ sym c.in_ok-task.ensures.task
+    ∙ c.in-Some.is in
+    subst (λ o. IfErr c.load_task.result (LongNamed after (asked_names (unstaged after.files.value) o))) (sym asked)
+    c.load_task.ensures.named
 
 pub returns-in-Some-clause-missed : goal.returns-in-Some-clause-missed
 returns-in-Some-clause-missed g c =
     let before = g.K.Keeper.shows c.args.keeper.now in
     let after = g.K.Keeper.shows c.load_task.new.keeper in
-    let asked : task_of c.args.words.now ≡ Some c.in-Some.task = ap task_of (sym c.as_slice.ensures) ∙ sym c.in_ok-task.ensures.task ∙ c.in-Some.is in
-    subst (λ o. OnOk c.load_task.result (OverrunsStand before after (asked_names (unstaged after.files.value) o))) (sym asked) c.load_task.ensures.missed
+    let asked : task_of c.args.words.now ≡ Some c.in-Some.task = ap task_of (sym c.as_slice.ensures) ∙ sym c.in_ok-task.ensures.task
+    ∙ c.in-Some.is in
+    subst (λ o. OnOk c.load_task.result (OverrunsStand before after (asked_names (unstaged after.files.value) o))) (sym asked)
+    c.load_task.ensures.missed
 
 pub returns-in-Some-clause-hides : goal.returns-in-Some-clause-hides
 returns-in-Some-clause-hides g c =
     let before = g.K.Keeper.shows c.args.keeper.now in
     let after = g.K.Keeper.shows c.load_task.new.keeper in
-    let asked : task_of c.args.words.now ≡ Some c.in-Some.task = ap task_of (sym c.as_slice.ensures) ∙ sym c.in_ok-task.ensures.task ∙ c.in-Some.is in
-    subst (λ o. IfErr c.load_task.result (HidesNone before after (asked_names (unstaged after.files.value) o))) (sym asked) c.load_task.ensures.hides
+    let asked : task_of c.args.words.now ≡ Some c.in-Some.task = ap task_of (sym c.as_slice.ensures) ∙ sym c.in_ok-task.ensures.task
+    ∙ c.in-Some.is in
+    subst (λ o. IfErr c.load_task.result (HidesNone before after (asked_names (unstaged after.files.value) o))) (sym asked)
+    c.load_task.ensures.hides
 
 pub returns-in-None-clause-short : goal.returns-in-None-clause-short
 returns-in-None-clause-short g c = none_short c.new.result c.new.ensures

@@ -10,9 +10,13 @@ abbrev pub invariant-loop-turn : goal.invariant-loop-turn
 invariant-loop-turn g l = record {
   only : OnlyFetched (g.K.Keeper.shows l.fn.keeper) (g.K.Keeper.shows l.keeper);
   calm : Still (g.K.Keeper.shows l.fn.keeper).faults (g.K.Keeper.shows l.keeper).faults;
-  agrees : IsTrue (g.K.Keeper.shows l.keeper).files.known → Agrees l.known.files l.known.absent false (unstaged (g.K.Keeper.shows l.keeper).files.value);
+  agrees : IsTrue (g.K.Keeper.shows l.keeper).files.known
+      → Agrees l.known.files l.known.absent false (unstaged (g.K.Keeper.shows l.keeper).files.value);
   short : AreShort l.known.files;
-  stands : OverrunsStand (g.K.Keeper.shows l.fn.keeper) (g.K.Keeper.shows l.keeper) (task_names (unstaged (g.K.Keeper.shows l.keeper).files.value) l.task);
+  stands : OverrunsStand (g.K.Keeper.shows l.fn.keeper) (g.K.Keeper.shows l.keeper)
+      (task_names (unstaged (g.K.Keeper.shows l.keeper).files.value) l.task);
   loading : IsTrue (g.K.Keeper.shows l.keeper).files.known
-      → Loading (unstaged (g.K.Keeper.shows l.keeper).files.value) l.known.files l.known.absent (task_names (unstaged (g.K.Keeper.shows l.keeper).files.value) l.task) (g.K.Keeper.shows l.fn.keeper).fetches (g.K.Keeper.shows l.keeper).fetches;
+      → Loading (unstaged (g.K.Keeper.shows l.keeper).files.value) l.known.files l.known.absent
+      (task_names (unstaged (g.K.Keeper.shows l.keeper).files.value) l.task) (g.K.Keeper.shows l.fn.keeper).fetches
+      (g.K.Keeper.shows l.keeper).fetches;
 }

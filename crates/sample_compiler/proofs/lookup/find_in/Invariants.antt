@@ -10,7 +10,8 @@ invariant-seeking l = record {
   found : (files : Files) → Agrees l.sources.files.now l.sources.absent.now l.sources.whole files
       → find_in files l.sources.dirs.now l.name ≡ find_in files l.rest l.name;
   looked : (files : Files) → Agrees l.sources.files.now l.sources.absent.now l.sources.whole files → l.sources.whole ≡ false
-      → first_unknown l.sources.files.now l.sources.absent.now (sought_in files l.sources.dirs.now l.name) ≡ first_unknown l.sources.files.now l.sources.absent.now (sought_in files l.rest l.name);
+      → first_unknown l.sources.files.now l.sources.absent.now (sought_in files l.sources.dirs.now l.name)
+      ≡ first_unknown l.sources.files.now l.sources.absent.now (sought_in files l.rest l.name);
 }
 
 abbrev pub decreases-seeking : goal.decreases-seeking

@@ -9,8 +9,10 @@ returns-in_err-ran-clause-same c = same_stations c.args.files.now c.put_input.ne
 
 pub returns-clause-ran : goal.returns-clause-ran
 returns-clause-ran c =
-    let asked : c.in_ok-asked.asked ≡ asked_by c.args.words.now = c.in_ok-asked.ensures.task ∙ ap task_of (c.as_slice.ensures ∙ c.in_ok-texts.ensures) in
-    left_run c.args.files.now c.put_input.new.files c.args.words.now c.args.input.now c.in_ok-asked.asked c.in_ok-ran.ran c.as_left.result c.in_ok-put_input.ensures.held asked c.in_ok-ran.ensures c.as_left.ensures
+    let asked : c.in_ok-asked.asked ≡ asked_by c.args.words.now = c.in_ok-asked.ensures.task
+    ∙ ap task_of (c.as_slice.ensures ∙ c.in_ok-texts.ensures) in
+    left_run c.args.files.now c.put_input.new.files c.args.words.now c.args.input.now c.in_ok-asked.asked c.in_ok-ran.ran
+    c.as_left.result c.in_ok-put_input.ensures.held asked c.in_ok-ran.ensures c.as_left.ensures
 
 pub returns-clause-same : goal.returns-clause-same
 returns-clause-same c = same_stations c.args.files.now c.put_input.new.files c.args.input.now c.in_ok-put_input.ensures.held

@@ -10,7 +10,8 @@ use Rattle.sample_linker.proofs.Rounds.{WalksTo, walk_none, walk_more, walk_few,
 use Rattle.sample_linker.proofs.circle.find_round.Goals as goal
 
 pub walking-init : goal.walking-init
-walking-init c = walk_none c.args.table.now c.args.placed.now c.new-met.result c.args.defined.now c.new-path.result c.args.start.now c.new-path.ensures c.new-met.ensures c.requires.left
+walking-init c = walk_none c.args.table.now c.args.placed.now c.new-met.result c.args.defined.now c.new-path.result c.args.start.now
+    c.new-path.ensures c.new-met.ensures c.requires.left
 
 pub walking-preserved : goal.walking-preserved
 walking-preserved c =
@@ -18,11 +19,15 @@ walking-preserved c =
     let path : List (List ℕ) = c.walking.path in
     let walks = c.walking.invariant in
     let fresh : list_any (bytes_eq at) path ≡ false =
-    sym (any_place (bytes_eq at) 0 path) ∙ ap is_some (sym (walks.met_so at)) ∙ ap is_some (sym c.find.ensures) ∙ c.is_none.ensures ∙ ap not c.walking-test.true in
-    let grown : c.try_push.new.self ≡ path ++ at ∷ [] = c.in_ok-try_push.ensures.ok ∙ ap (λ name. path ++ name ∷ []) c.in_ok-from_slice.ensures in
+    sym (any_place (bytes_eq at) 0 path) ∙ ap is_some (sym (walks.met_so at)) ∙ ap is_some (sym c.find.ensures) ∙ c.is_none.ensures
+    ∙ ap not c.walking-test.true in
+    let grown : c.try_push.new.self ≡ path ++ at ∷ [] = c.in_ok-try_push.ensures.ok
+    ∙ ap (λ name. path ++ name ∷ []) c.in_ok-from_slice.ensures in
     subst (λ p. WalksTo c.args.table.now c.args.placed.now c.try_add.new.self c.args.defined.now p c.next_left-at.result.now) (sym grown)
-    (walk_more c.args.table.now c.args.placed.now c.walking.met c.try_add.new.self c.args.defined.now path at c.next_left-at.result.now c.requires.indexes walks fresh
-    (indexes_more c.walking.met c.try_add.new.self path at c.len.result walks.met_so fresh c.len.ensures c.in_ok-try_add.ensures) c.next_left-at.ensures.uses c.next_left-at.ensures.left)
+    (walk_more c.args.table.now c.args.placed.now c.walking.met c.try_add.new.self c.args.defined.now path at
+    c.next_left-at.result.now c.requires.indexes walks fresh
+    (indexes_more c.walking.met c.try_add.new.self path at c.len.result walks.met_so fresh c.len.ensures c.in_ok-try_add.ensures)
+    c.next_left-at.ensures.uses c.next_left-at.ensures.left)
 
 pub walking-smaller : goal.walking-smaller
 walking-smaller c =
@@ -30,10 +35,14 @@ walking-smaller c =
     let path : List (List ℕ) = c.walking.path in
     let walks = c.walking.invariant in
     let fresh : list_any (bytes_eq at) path ≡ false =
-    sym (any_place (bytes_eq at) 0 path) ∙ ap is_some (sym (walks.met_so at)) ∙ ap is_some (sym c.find.ensures) ∙ c.is_none.ensures ∙ ap not c.walking-test.true in
-    let grown : c.try_push.new.self ≡ path ++ at ∷ [] = c.in_ok-try_push.ensures.ok ∙ ap (λ name. path ++ name ∷ []) c.in_ok-from_slice.ensures in
-    let next = walk_more c.args.table.now c.args.placed.now c.walking.met c.try_add.new.self c.args.defined.now path at c.next_left-at.result.now c.requires.indexes walks fresh
-    (indexes_more c.walking.met c.try_add.new.self path at c.len.result walks.met_so fresh c.len.ensures c.in_ok-try_add.ensures) c.next_left-at.ensures.uses c.next_left-at.ensures.left in
+    sym (any_place (bytes_eq at) 0 path) ∙ ap is_some (sym (walks.met_so at)) ∙ ap is_some (sym c.find.ensures) ∙ c.is_none.ensures
+    ∙ ap not c.walking-test.true in
+    let grown : c.try_push.new.self ≡ path ++ at ∷ [] = c.in_ok-try_push.ensures.ok
+    ∙ ap (λ name. path ++ name ∷ []) c.in_ok-from_slice.ensures in
+    let next = walk_more c.args.table.now c.args.placed.now c.walking.met c.try_add.new.self c.args.defined.now path at
+    c.next_left-at.result.now c.requires.indexes walks fresh
+    (indexes_more c.walking.met c.try_add.new.self path at c.len.result walks.met_so fresh c.len.ensures c.in_ok-try_add.ensures)
+    c.next_left-at.ensures.uses c.next_left-at.ensures.left in
     let few : length (path ++ at ∷ []) ≤ length c.args.defined.now =
     walk_few c.args.table.now c.args.placed.now c.try_add.new.self c.args.defined.now (path ++ at ∷ []) c.next_left-at.result.now next in
     let more : length (path ++ at ∷ []) ≡ length path + 1 = length-append path (at ∷ []) in
@@ -44,6 +53,8 @@ walking-smaller c =
 pub returns : goal.returns
 returns c =
     let at : List ℕ = c.walking.at.now in
-    walk_round c.args.table.now c.args.placed.now c.walking.met c.args.defined.now c.walking.path at c.unwrap_or-from.result c.walking.invariant
-    (some_at (place_in c.walking.met at) c.unwrap_or-from.result (ap is_some (sym c.find.ensures) ∙ c.is_none.ensures ∙ ap not c.walking-test.false)
+    walk_round c.args.table.now c.args.placed.now c.walking.met c.args.defined.now c.walking.path at c.unwrap_or-from.result
+    c.walking.invariant
+    (some_at (place_in c.walking.met at) c.unwrap_or-from.result (ap is_some (sym c.find.ensures) ∙ c.is_none.ensures
+    ∙ ap not c.walking-test.false)
     (c.unwrap_or-from.ensures ∙ ap (λ o. unwrap_or o 0) c.find-2.ensures))

@@ -7,7 +7,8 @@ use Rattle.sample_linker.proofs.linking.link.Goals as goal
 
 pub returns-in-Ok-clause-sources : goal.returns-in-Ok-clause-sources
 returns-in-Ok-clause-sources c texts files sources is =
-    links_sources texts files (linked.Image c.in-Ok.image) sources (subst (λ objects. LinkTo objects (linked.Image c.in-Ok.image)) (c.as_slice.ensures ∙ is) c.in-Ok.ensures.ok)
+    links_sources texts files (linked.Image c.in-Ok.image) sources
+    (subst (λ objects. LinkTo objects (linked.Image c.in-Ok.image)) (c.as_slice.ensures ∙ is) c.in-Ok.ensures.ok)
 
 pub returns-in-Err-Fault-clause-sources : goal.returns-in-Err-Fault-clause-sources
 returns-in-Err-Fault-clause-sources c texts files sources is =

@@ -9,6 +9,7 @@ loop-turn-preserved c = record {
   steps = λ placed so settled.
       let before = c.loop-turn.invariant.steps placed so settled in
       c.in_ok-look_at-in-Some.ensures.steps before.0 before.1
-      (subst (λ keys. Settled c.args.table.now c.loop-turn.progress.waiters.items keys before.0 c.args.defined.now) c.in-Some.ensures.removal before.2)
+      (subst (λ keys. Settled c.args.table.now c.loop-turn.progress.waiters.items keys before.0 c.args.defined.now)
+      c.in-Some.ensures.removal before.2)
       (all_above c.in-Some.at c.pop_first.new.self.keys c.in-Some.ensures.all_above);
 }

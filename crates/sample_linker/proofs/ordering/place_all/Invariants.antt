@@ -8,5 +8,6 @@ invariant-loop-turn l = record {
   len : length l.progress.waiters.items ≡ length l.fn.progress.waiters.items;
   steps : (placed : List Item) → PlacedSo l.fn.progress.placed l.fn.progress.text placed l.defined
       → Settled l.table l.fn.progress.waiters.items l.fn.progress.seen.keys placed l.defined
-      → (more : List Item) × PlacedSo l.progress.placed l.progress.text more l.defined × Settled l.table l.progress.waiters.items l.progress.seen.keys more l.defined;
+      → (more : List Item) × PlacedSo l.progress.placed l.progress.text more l.defined
+      × Settled l.table l.progress.waiters.items l.progress.seen.keys more l.defined;
 }

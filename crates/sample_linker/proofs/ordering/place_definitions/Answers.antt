@@ -16,18 +16,23 @@ pub circle_from-requires-clause-left : goal.circle_from-requires-clause-left
 circle_from-requires-clause-left c =
     let start = c.in_ok-progress.ensures in
     let done = c.in_ok-place_all.ensures []
-    (placed_none c.in_ok-progress.progress.placed c.in_ok-progress.progress.text c.args.defined.now (λ name. ap is_some (start.placed name)) start.text)
+    (placed_none c.in_ok-progress.progress.placed c.in_ok-progress.progress.text c.args.defined.now
+    (λ name. ap is_some (start.placed name)) start.text)
     (λ at item here. inr (inl (start.seen at here.0))) in
     let progress = c.place_all.new.progress in
-    let halted : Halted c.args.table.now progress.placed progress.text progress.waiters.items c.args.defined.now = record { before = done.0; so = done.1; settled = done.2 } in
-    left_at c.args.table.now progress.placed progress.text progress.waiters.items c.args.defined.now c.in-Some.name.now c.requires.indexes halted c.in-Some.ensures.left c.in-Some.ensures.defined
+    let halted : Halted c.args.table.now progress.placed progress.text progress.waiters.items c.args.defined.now =
+    record { before = done.0; so = done.1; settled = done.2 } in
+    left_at c.args.table.now progress.placed progress.text progress.waiters.items c.args.defined.now c.in-Some.name.now
+    c.requires.indexes halted c.in-Some.ensures.left c.in-Some.ensures.defined
 
 pub returns-in-None-clause-ok : goal.returns-in-None-clause-ok
 returns-in-None-clause-ok c =
     let start = c.in_ok-progress.ensures in
     let done = c.in_ok-place_all.ensures []
-    (placed_none c.in_ok-progress.progress.placed c.in_ok-progress.progress.text c.args.defined.now (λ name. ap is_some (start.placed name)) start.text)
+    (placed_none c.in_ok-progress.progress.placed c.in_ok-progress.progress.text c.args.defined.now
+    (λ name. ap is_some (start.placed name)) start.text)
     (λ at item here. inr (inl (start.seen at here.0))) in
     let progress = c.place_all.new.progress in
-    let halted : Halted c.args.table.now progress.placed progress.text progress.waiters.items c.args.defined.now = record { before = done.0; so = done.1; settled = done.2 } in
+    let halted : Halted c.args.table.now progress.placed progress.text progress.waiters.items c.args.defined.now =
+    record { before = done.0; so = done.1; settled = done.2 } in
     order_at c.args.table.now progress.placed progress.text progress.waiters.items c.args.defined.now halted c.in-None.ensures.none

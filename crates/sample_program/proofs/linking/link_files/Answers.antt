@@ -16,10 +16,12 @@ returns-in-Ok-clause-ran g c =
     let old = g.K.Keeper.shows c.args.keeper.now in
     let new = g.K.Keeper.shows c.put_linked.new.keeper in
     subst (λ image. IfOk c.put_linked.result (DidLink files image old new)) (c.in_ok-name.ensures ∙ c.as_bytes.ensures.value)
-    (put_came files c.in-Ok.objects c.in_ok-name.name c.link.result old (g.K.Keeper.shows c.fetch_files.new.keeper) new c.put_linked.result c.fetch_files.ensures.only c.in-Ok.ensures.took
+    (put_came files c.in-Ok.objects c.in_ok-name.name c.link.result old (g.K.Keeper.shows c.fetch_files.new.keeper) new
+    c.put_linked.result c.fetch_files.ensures.only c.in-Ok.ensures.took
     c.link.ensures.linked c.put_linked.ensures.ran)
 
 pub returns-clause-ran : goal.returns-clause-ran
 returns-clause-ran g c =
-    missed_came (map (string_bytes {Z = Global}) c.args.files.now) (string_bytes c.args.image.now) (g.K.Keeper.shows c.args.keeper.now) (g.K.Keeper.shows c.fetch_files.new.keeper) c.in-Err.stop
+    missed_came (map (string_bytes {Z = Global}) c.args.files.now) (string_bytes c.args.image.now)
+    (g.K.Keeper.shows c.args.keeper.now) (g.K.Keeper.shows c.fetch_files.new.keeper) c.in-Err.stop
     c.missed_ran.result c.fetch_files.ensures.only c.in-Err.ensures.missed c.missed_ran.ensures.ran

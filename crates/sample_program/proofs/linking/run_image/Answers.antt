@@ -16,12 +16,15 @@ pub returns-in-Ok-clause-ran : goal.returns-in-Ok-clause-ran
 returns-in-Ok-clause-ran g c =
     let old = g.K.Keeper.shows c.args.keeper.now in
     let mid = g.K.Keeper.shows c.fetch_file.new.keeper in
-    did_run_image (string_bytes c.args.image.now) c.in-Ok.content c.run.result old mid c.in_ok-value_ran-in-Ok.field-0 c.fetch_file.ensures.only
-    (subst (λ image. Took image files_max old mid c.in-Ok.content) (c.in_ok-name.ensures ∙ c.as_bytes.ensures.value) c.in-Ok.ensures.took) c.run.ensures c.in_ok-value_ran-in-Ok.ensures
+    did_run_image (string_bytes c.args.image.now) c.in-Ok.content c.run.result old mid c.in_ok-value_ran-in-Ok.field-0
+    c.fetch_file.ensures.only
+    (subst (λ image. Took image files_max old mid c.in-Ok.content) (c.in_ok-name.ensures ∙ c.as_bytes.ensures.value)
+    c.in-Ok.ensures.took) c.run.ensures c.in_ok-value_ran-in-Ok.ensures
 
 pub returns-clause-ran : goal.returns-clause-ran
 returns-clause-ran g c =
     let old = g.K.Keeper.shows c.args.keeper.now in
     let mid = g.K.Keeper.shows c.fetch_file.new.keeper in
     image_came (string_bytes c.args.image.now) old mid c.in-Err.stop c.missed_ran.result c.fetch_file.ensures.only
-    (subst (λ image. Missed image files_max old mid c.in-Err.stop) (c.in_ok-name.ensures ∙ c.as_bytes.ensures.value) c.in-Err.ensures.missed) c.missed_ran.ensures.ran
+    (subst (λ image. Missed image files_max old mid c.in-Err.stop) (c.in_ok-name.ensures ∙ c.as_bytes.ensures.value)
+    c.in-Err.ensures.missed) c.missed_ran.ensures.ran

@@ -10,4 +10,5 @@ returns g c =
     let before = sinks_view g.O.Sink.shows g.E.Sink.shows c.args.out.now c.args.err.now in
     let after = sinks_view g.O.Sink.shows g.E.Sink.shows c.finish.new.out c.finish.new.err in
     subst (λ pieces. Printing no_memory_text pieces (exit_code_of c.args.ran.status) before after c.finish.result) c.as_slice.ensures
-    (subst (λ status. Printing no_memory_text c.as_slice.result.now status before after c.finish.result) c.exit_code.ensures c.finish.ensures)
+    (subst (λ status. Printing no_memory_text c.as_slice.result.now status before after c.finish.result) c.exit_code.ensures
+    c.finish.ensures)

@@ -8,4 +8,5 @@ pub returns-in-Ok : goal.returns-in-Ok
 returns-in-Ok g c =
     let before = sinks_view g.O.Sink.shows g.E.Sink.shows c.args.out.now c.args.err.now in
     let after = sinks_view g.O.Sink.shows g.E.Sink.shows c.finish.new.out c.finish.new.err in
-    inl (subst (λ pieces. Printing no_memory_text pieces 0 before after c.finish.result) (c.as_slice.ensures ∙ ap (λ bytes. output bytes ∷ []) c.in-Ok.ensures) c.finish.ensures)
+    inl (subst (λ pieces. Printing no_memory_text pieces 0 before after c.finish.result)
+    (c.as_slice.ensures ∙ ap (λ bytes. output bytes ∷ []) c.in-Ok.ensures) c.finish.ensures)

@@ -9,4 +9,5 @@ use Rattle.slot_tests.proofs.cell_calls.draw.Goals as goal
 pub returns-clause-none : goal.returns-clause-none
 returns-clause-none g c =
     let p = c.args.pass.now in
-    outstanding-more (mine_of p) (mine_of c.draw.new.pass) (entry (number_of p) Draw (Drawn c.draw.result)) c.draw.ensures.call.mine ∙ c.requires.none
+    outstanding-more (mine_of p) (mine_of c.draw.new.pass) (entry (number_of p) Draw (Drawn c.draw.result)) c.draw.ensures.call.mine
+    ∙ c.requires.none

@@ -10,10 +10,14 @@ use Rattle.slot_tests.proofs.cell_calls.give.Goals as goal
 
 pub give-requires-clause-out : goal.give-requires-clause-out
 give-requires-clause-out g c =
-    let p = c.args.pass.now in has-single (number_of p) c.args._caller (job_of c.args.grant) (Some (host_of c.args.grant)) (outstanding (mine_of p)) c.requires.pass.number c.requires.one
+    let p = c.args.pass.now in
+    has-single (number_of p) c.args._caller (job_of c.args.grant) (Some (host_of c.args.grant)) (outstanding (mine_of p))
+    c.requires.pass.number c.requires.one
 
 pub returns-clause-none : goal.returns-clause-none
 returns-clause-none g c =
     let p = c.args.pass.now in
-    outstanding-more (mine_of p) (mine_of c.give.new.pass) (entry (number_of p) (Give (host_of c.args.grant) (job_of c.args.grant)) Given) c.give.ensures.call.mine
-    ∙ without-single (number_of p) c.args._caller (job_of c.args.grant) (Some (host_of c.args.grant)) (outstanding (mine_of p)) c.requires.pass.number c.requires.one
+    outstanding-more (mine_of p) (mine_of c.give.new.pass)
+    (entry (number_of p) (Give (host_of c.args.grant) (job_of c.args.grant)) Given) c.give.ensures.call.mine
+    ∙ without-single (number_of p) c.args._caller (job_of c.args.grant) (Some (host_of c.args.grant)) (outstanding (mine_of p))
+    c.requires.pass.number c.requires.one

@@ -15,8 +15,10 @@ loop-before-preserved c =
     let path = c.in_ok-job_source.field-0 in
     let text = c.in_ok-source_text.field-0 in
     let files : Files = from_entries (map (job_file n) (range_with_len 1 k)) in
-    let state : c.next_factor-factor.new.self.state ≡ generator_after n (k + 1) = c.next_factor-factor.ensures.state ∙ ap next_state c.loop-before.invariant.state ∙ sym (state_step n k) in
-    let factor : c.next_factor-factor.result ≡ factor_of (generator_after n (k + 1)) = c.next_factor-factor.ensures.factor ∙ ap factor_of state in
+    let state : c.next_factor-factor.new.self.state ≡ generator_after n (k + 1) = c.next_factor-factor.ensures.state
+    ∙ ap next_state c.loop-before.invariant.state ∙ sym (state_step n k) in
+    let factor : c.next_factor-factor.result ≡ factor_of (generator_after n (k + 1)) = c.next_factor-factor.ensures.factor
+    ∙ ap factor_of state in
     record {
       jobs = c.in_ok-try_push.ensures.ok ∙ ap (λ (list : List (List (List ℕ))). list ++ words ∷ []) c.loop-before.invariant.jobs
           ∙ ap (λ (w : List (List ℕ)). map job_words (range_with_len 1 k) ++ w ∷ []) c.in_ok-job_words.ensures

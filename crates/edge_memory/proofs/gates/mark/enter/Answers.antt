@@ -7,5 +7,14 @@ use Rattle.edge_memory.proofs.MarkSteps.{enters-turn}
 use Rattle.edge_memory.proofs.gates.mark.enter.Goals as goal
 
 pub compare_exchange_as-requires : goal.compare_exchange_as-requires
-compare_exchange_as-requires g c =
-    (search rules, (search rules, (c.requires.cell, enters-turn (λ x. sameb the_type x Clear) refl refl c.args.pass.now.id (cell_view c.args.pass.now) c.requires.outside)))
+compare_exchange_as-requires g c = (
+  search rules,
+  (
+    search rules,
+    (
+      c.requires.cell,
+      enters-turn (λ x. sameb the_type x Clear) refl refl c.args.pass.now.id (cell_view c.args.pass.now)
+          c.requires.outside,
+    ),
+  ),
+)

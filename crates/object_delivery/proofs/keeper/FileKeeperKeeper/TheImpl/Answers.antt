@@ -1,12 +1,15 @@
 use Rattle.std.proofs.Common.{rules, ap, arith}
-use Rattle.object_delivery.proofs.Delivering.{begin-pending, begin-idle, begin-files, add-pending, add-idle, add-files, commit-idle, abandon-files, put-files}
+use Rattle.object_delivery.proofs.Delivering.{begin-pending, begin-idle, begin-files, add-pending, add-idle, add-files, commit-idle}
+use Rattle.object_delivery.proofs.Delivering.{abandon-files, put-files}
 use Rattle.object_delivery.proofs.keeper.FileKeeperKeeper.TheImpl.Goals as goal
 
 pub begin-tells : goal.begin-tells
 begin-tells g c = record {
-  begun = begin-pending (g.F.Files.shows c.args.self.now.files) (g.F.Files.shows c.new.self.now.files) c.args.path.now c.args.self.now.pending c.new.self.now.pending c.result c.ensures.pending c.ensures.ok;
+  begun = begin-pending (g.F.Files.shows c.args.self.now.files) (g.F.Files.shows c.new.self.now.files) c.args.path.now
+      c.args.self.now.pending c.new.self.now.pending c.result c.ensures.pending c.ensures.ok;
   idle = begin-idle (g.F.Files.shows c.new.self.now.files) c.args.path.now c.new.self.now.pending c.result c.ensures.pending;
-  files = begin-files (g.F.Files.shows c.args.self.now.files) (g.F.Files.shows c.new.self.now.files) c.args.path.now c.args.self.now.pending c.new.self.now.pending c.result c.ensures.ok c.ensures.err;
+  files = begin-files (g.F.Files.shows c.args.self.now.files) (g.F.Files.shows c.new.self.now.files) c.args.path.now
+      c.args.self.now.pending c.new.self.now.pending c.result c.ensures.ok c.ensures.err;
   puts = search rules;
   fetches = search rules;
   overruns = omega (arith, c.ensures.overruns);
@@ -15,9 +18,11 @@ begin-tells g c = record {
 
 pub add-tells : goal.add-tells
 add-tells g c = record {
-  added = add-pending (g.F.Files.shows c.args.self.now.files) (g.F.Files.shows c.new.self.now.files) c.args.self.now.pending c.new.self.now.pending c.args.piece.now c.result c.ensures.pending c.ensures.ok;
+  added = add-pending (g.F.Files.shows c.args.self.now.files) (g.F.Files.shows c.new.self.now.files) c.args.self.now.pending
+      c.new.self.now.pending c.args.piece.now c.result c.ensures.pending c.ensures.ok;
   idle = add-idle (g.F.Files.shows c.new.self.now.files) c.args.self.now.pending c.new.self.now.pending c.result c.ensures.pending;
-  files = add-files (g.F.Files.shows c.args.self.now.files) (g.F.Files.shows c.new.self.now.files) c.args.self.now.pending c.new.self.now.pending c.args.piece.now c.result c.requires.pending c.ensures.ok c.ensures.err;
+  files = add-files (g.F.Files.shows c.args.self.now.files) (g.F.Files.shows c.new.self.now.files) c.args.self.now.pending
+      c.new.self.now.pending c.args.piece.now c.result c.requires.pending c.ensures.ok c.ensures.err;
   puts = search rules;
   fetches = search rules;
   overruns = omega (arith, c.ensures.overruns);
@@ -27,7 +32,8 @@ add-tells g c = record {
 pub abandon-tells : goal.abandon-tells
 abandon-tells g c = record {
   idle = commit-idle (g.F.Files.shows c.new.self.now.files) c.new.self.now.pending c.ensures.pending;
-  files = abandon-files (g.F.Files.shows c.args.self.now.files) (g.F.Files.shows c.new.self.now.files) c.args.self.now.pending c.new.self.now.pending c.ensures.dropped (λ none. ap (λ k. g.F.Files.shows k.files) (c.ensures.idle none));
+  files = abandon-files (g.F.Files.shows c.args.self.now.files) (g.F.Files.shows c.new.self.now.files) c.args.self.now.pending
+      c.new.self.now.pending c.ensures.dropped (λ none. ap (λ k. g.F.Files.shows k.files) (c.ensures.idle none));
   puts = search rules;
   fetches = search rules;
   faults = c.ensures.faults;
@@ -37,7 +43,8 @@ abandon-tells g c = record {
 
 pub put-tells : goal.put-tells
 put-tells g c = record {
-  files = put-files (g.F.Files.shows c.args.self.now.files) (g.F.Files.shows c.new.self.now.files) c.args.self.now.pending c.new.self.now.pending c.args.path.now c.args.bytes.now c.result c.requires.name c.ensures.ok c.ensures.err;
+  files = put-files (g.F.Files.shows c.args.self.now.files) (g.F.Files.shows c.new.self.now.files) c.args.self.now.pending
+      c.new.self.now.pending c.args.path.now c.args.bytes.now c.result c.requires.name c.ensures.ok c.ensures.err;
   puts = search rules;
   idle = commit-idle (g.F.Files.shows c.new.self.now.files) c.new.self.now.pending c.ensures.pending;
   fetches = search rules;

@@ -17,4 +17,5 @@ once fails made = by_test (nat_lt made greatest)
     by_test false = omega arith
 
 pub returns-then-fails_next-clause-once : goal.returns-then-fails_next-clause-once
-returns-then-fails_next-clause-once c = rw (c.fails_next.ensures.fails, c.fails_next.ensures.made) (once c.args.self.now.calls.fails c.args.self.now.calls.made)
+returns-then-fails_next-clause-once c =
+    rw (c.fails_next.ensures.fails, c.fails_next.ensures.made) (once c.args.self.now.calls.fails c.args.self.now.calls.made)
