@@ -56,29 +56,29 @@ why_of number =
     else None)))))))))))))))))))))
 
 -- the number of a reason
-abbrev pub number_of : Why → ℕ
-number_of why.NoAction = reason.no_action
-number_of why.BothActions = reason.both_actions
-number_of why.Preprocess = reason.preprocess
-number_of why.Depend = reason.depend
-number_of why.NoInput = reason.no_input
-number_of why.ManyInputs = reason.many_inputs
-number_of why.Native = reason.native
-number_of why.Profile = reason.profile
-number_of why.Repo = reason.repo
-number_of why.Specs = reason.specs
-number_of why.Language = reason.language
-number_of why.SaveTemps = reason.save_temps
-number_of why.Dump = reason.dump
-number_of why.AsmListing = reason.asm_listing
-number_of why.ResponseFile = reason.response_file
-number_of why.Conftest = reason.conftest
-number_of why.StandardStream = reason.standard_stream
-number_of why.MissingOperand = reason.missing_operand
-number_of why.ManyOutputs = reason.many_outputs
-number_of why.OtherWord = reason.other_word
-number_of why.SideFile = reason.side_file
-number_of why.ReservedName = reason.reserved_name
+abbrev pub reason_number : Why → ℕ
+reason_number why.NoAction = reason.no_action
+reason_number why.BothActions = reason.both_actions
+reason_number why.Preprocess = reason.preprocess
+reason_number why.Depend = reason.depend
+reason_number why.NoInput = reason.no_input
+reason_number why.ManyInputs = reason.many_inputs
+reason_number why.Native = reason.native
+reason_number why.Profile = reason.profile
+reason_number why.Repo = reason.repo
+reason_number why.Specs = reason.specs
+reason_number why.Language = reason.language
+reason_number why.SaveTemps = reason.save_temps
+reason_number why.Dump = reason.dump
+reason_number why.AsmListing = reason.asm_listing
+reason_number why.ResponseFile = reason.response_file
+reason_number why.Conftest = reason.conftest
+reason_number why.StandardStream = reason.standard_stream
+reason_number why.MissingOperand = reason.missing_operand
+reason_number why.ManyOutputs = reason.many_outputs
+reason_number why.OtherWord = reason.other_word
+reason_number why.SideFile = reason.side_file
+reason_number why.ReservedName = reason.reserved_name
 
 -- the words that are sources, output options, and options that ask for each action
 abbrev pub source_of : Part → Option Ending

@@ -1,7 +1,7 @@
 //! Why a command stays on this machine.
 
 ghost use Rattle.std.specs.Prelude.{◌≡◌};
-ghost use Rattle.arg_scan.specs.Forces.{number_of, why_of};
+ghost use Rattle.arg_scan.specs.Forces.{reason_number, why_of};
 
 use option_table::reasons;
 
@@ -88,7 +88,7 @@ impl Why {
 
     /// The number of this reason, as `scan` prints it.
     pub fn number(self) -> u8
-        ensures number { result ≡ number_of self }
+        ensures number { result ≡ reason_number self }
         ensures back { why_of result ≡ Some self }
     {
         match self {

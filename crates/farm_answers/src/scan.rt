@@ -6,7 +6,7 @@ ghost use Rattle.arg_scan.specs.Roles.{word_at};
 ghost use Rattle.stream_print.specs.Prints.{sinks_view};
 ghost use Rattle.stream_print.specs.Printing.{Printing};
 ghost use Rattle.farm_answers.specs.Texts.{no_memory_text, output};
-ghost use Rattle.arg_scan.specs.Forces.{number_of};
+ghost use Rattle.arg_scan.specs.Forces.{reason_number};
 ghost use Rattle.farm_answers.specs.Lines.{action_text, class_line};
 
 use crate::refuse::want_memory;
@@ -38,7 +38,7 @@ fn action_text(action: Action) -> &'static [u8]
 
 // `local W at P`
 fn local_line(alloc: Global, why: Why, at: u64) -> Result<Bytes, AllocError>
-    ensures { IfOk result (λ line. line ≡ codes "local " ++ decimal (number_of why) ++ codes " at " ++ decimal at ++ codes "\n") }
+    ensures { IfOk result (λ line. line ≡ codes "local " ++ decimal (reason_number why) ++ codes " at " ++ decimal at ++ codes "\n") }
 {
     let why = why.number();
     let line = format!(in alloc; "local {why} at {at}\n")?;
