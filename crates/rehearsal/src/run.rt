@@ -16,7 +16,7 @@ use std::thread::Threads;
 use workload::{make, runs_of_jobs};
 
 /// The most workers of a rehearsal.
-const WORKERS_MAX: u32 = 4;
+const REHEARSAL_WORKERS: u32 = 4;
 
 /// What a rehearsal left: what was built, and the two numbers, which there are where no job wanted memory.
 #[derive(Drop)]
@@ -42,7 +42,7 @@ pub fn rehearse<R: Threads + Wait + Sync>(
     runs_of_jobs();
     let jobs = make(alloc, n)?.jobs;
     let config = rehearsal_config(alloc)?;
-    let workers = n.min(WORKERS_MAX);
+    let workers = n.min(REHEARSAL_WORKERS);
     let mut kits = kits(alloc, n, workers as usize)?;
     let built = build(rt, alloc, &jobs, &config, &mut kits, workers)?;
     let count = count_reports(kits.as_slice(), built.reports.as_slice());

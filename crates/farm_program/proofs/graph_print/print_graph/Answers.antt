@@ -5,12 +5,12 @@ use Rattle.farm_program.proofs.graph_print.print_graph.Goals as goal
 
 pub returns-in_err-print_outcomes-clause-front : goal.returns-in_err-print_outcomes-clause-front
 returns-in_err-print_outcomes-clause-front g c =
-    let fault = err_from_is_err_and c.from_residual-in_err-print_outcomes.result c.from_residual-in_err-print_outcomes.ensures.1 in
+    let fault = err_from_is_err_and c.from_residual.result c.from_residual.ensures.1 in
     rw (fault.1, fault.2) (outcomes_cut c.args.hosts.now.list (outcomes_in c.args.built.now c.args.states.now) _ _
     c.in_err-print_outcomes.ensures.front)
 
-pub returns-in_ok-print_graph_total-clause-all : goal.returns-in_ok-print_graph_total-clause-all
-returns-in_ok-print_graph_total-clause-all g c =
+pub returns-clause-all : goal.returns-clause-all
+returns-clause-all g c =
     graph_total_printed c.args.hosts.now.list (outcomes_in c.args.built.now c.args.states.now) _ _ c.in_ok-print_outcomes.ensures.all
     c.in_ok-print_graph_total.ensures.all
 
