@@ -6,6 +6,7 @@ ghost use Rattle.edge_traits.specs.Keepers.{IsIdle};
 ghost use Rattle.slot_table.specs.History.{outstanding};
 ghost use Rattle.slot_table.specs.Grants.{cost};
 ghost use Rattle.farm_machine.specs.Jobs.{AreLimitsOf};
+ghost use Rattle.job_run.specs.Events.{events_max};
 
 use crate::same::same;
 use crate::slots::slots_of;
@@ -243,13 +244,13 @@ fn job_at<R: Wait, D: Dialer, S: Station, K: Keeper, C: Clock, G: Grants>(
     requires some { 1 ≤ config.now.tries }
     requires tries { config.now.tries ≤ hosts_max }
     requires ready { G.ready grants.old }
-    requires spare { 64 * cost G.alone ≤ G.spare grants.old }
+    requires spare { events_max * cost G.alone ≤ G.spare grants.old }
     requires none { outstanding (G.mine grants.old) ≡ [] }
     requires pending { IsIdle (K.shows kit.old.keeper) }
     ensures ready { G.ready grants.new }
     ensures follows { G.follows grants.old grants.new }
     ensures none { outstanding (G.mine grants.new) ≡ [] }
-    ensures spare { G.spare grants.old ≤ G.spare grants.new + 64 * cost G.alone }
+    ensures spare { G.spare grants.old ≤ G.spare grants.new + events_max * cost G.alone }
     ensures pending { IsIdle (K.shows kit.new.keeper) }
 {
     let mut places = NOWHERE;
