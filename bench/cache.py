@@ -1,6 +1,7 @@
-"""Requests for bench/cache: `hit PORT FILE`, a source of 8 MiB that is in the cache; `fill PORT COUNT PROCESS NAME SIZES`, sources that
-are all others, of so many KiB each, or of LEAST-MOST KiB by chance."""
+"""Requests for bench/cache: `hit PORT FILE`, a source of 8 MiB that is in the cache; `fill PORT COUNT PROCESS BOUND SIZES FILE`, sources that
+are all others, of so many KiB each, or of LEAST-MOST KiB by chance; and `compare COUNT FILE` of what `fill` left there."""
 import random
+import statistics
 import subprocess
 import sys
 import time
@@ -30,17 +31,46 @@ def hit(port, path):
     print(f"a hit on a source of 8 MiB, with its transfer: {cached:.1f} ms; sha256sum of it, with its start: {summed:.1f} ms; ratio {cached / summed:.2f}")
 
 
-def fill(port, count, process, name, sizes):
+def fill(port, count, process, bound, sizes, path):
+    """Sends sources that are all others, and adds to a file what is resident behind each tenth one of their second half: the median and the largest, of all and
+    of what isn't of files."""
     least, most = (int(size) * 1024 for size in (sizes.split("-") * 2)[:2])
     choice = random.Random(7)
+    seen, own = [], []
     for number in range(count):
         body = b"int a;\n" * (choice.randint(least, most) // 7)
         assert exchange(port, compile_request(b"probe", b"// %d\n" % number + body)).startswith(b"DONE00000001STAT00000000")
-    own = resident(process, "RssAnon")
-    print(f"{name}: {resident(process)} KiB resident behind {count} sources of {sizes} KiB, of which {own} KiB aren't of files")
+        if number >= count // 2 and number % 10 == 0:
+            seen.append(resident(process))
+            own.append(resident(process, "RssAnon"))
+    with open(path, "a", encoding="ascii") as file:
+        print(sizes, bound, int(statistics.median(seen)), max(seen), int(statistics.median(own)), max(own), file=file)
 
 
-if sys.argv[1] == "hit":
-    hit(int(sys.argv[2]), sys.argv[3])
-else:
-    fill(int(sys.argv[2]), int(sys.argv[3]), int(sys.argv[4]), *sys.argv[5:])
+def compare(count, path):
+    """What each bound takes beside a farmd without a cache."""
+    print(f"resident beside a farmd without a cache, in KiB, behind {count // 2} to {count} sources: the median and the largest; and so without pages of files")
+    without = {}
+    with open(path, encoding="ascii") as file:
+        for line in file:
+            sizes, bound, *numbers = line.split()
+            numbers = [int(number) for number in numbers]
+            if bound == "0":
+                without[sizes] = numbers
+                continue
+            more = [number - other for number, other in zip(numbers, without[sizes])]
+            limit = int(bound) * 1024 * 11 // 10
+            print(f"  sources of {sizes:>5} KiB, --cache {bound:>2}, limit {limit:>6}: {more[0]:>6} {more[1]:>6}   {more[2]:>6} {more[3]:>6}")
+
+
+def main():
+    what, *words = sys.argv[1:]
+    if what == "hit":
+        hit(int(words[0]), words[1])
+    elif what == "fill":
+        fill(int(words[0]), int(words[1]), int(words[2]), *words[3:])
+    else:
+        compare(int(words[0]), words[1])
+
+
+main()
