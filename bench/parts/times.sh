@@ -33,9 +33,14 @@ file_by_farm() { "$FARM" cc gcc -c "$1.c" -o "$1.o"; }
 # list_by_farm LIST HOSTS WORKERS: builds a job list
 list_by_farm() { "$FARM" build --hosts "$2" --workers "$3" --no-fallback <"$1" >/dev/null; }
 
-# record: from here on, what is printed goes into a file of the folder FIGURES too, where it names one, but for the lines of single rounds
+# record WORD..: where FIGURES names a folder, the script is begun anew with its words, and what it prints goes into a file there too, but for the lines of single rounds
 record() {
-  [ -z "${FIGURES:-}" ] && return
-  exec > >(tee >(grep -v '^round ' >"$TOP/$FIGURES/$(basename "$0").txt"))
-  echo "$(nproc) processors, $(date +%F)"
+  local file status
+  if [ -z "${FIGURES:-}" ] || [ -n "${RECORDED:-}" ]; then return; fi
+  file=$TOP/$FIGURES/$(basename "$0")
+  { echo "$(nproc) processors, $(date +%F)"; RECORDED=yes "$TOP/bench/$(basename "$0")" "$@"; } | tee "$file.all"
+  status=${PIPESTATUS[0]}
+  grep -v '^round ' "$file.all" >"$file.txt"
+  rm "$file.all"
+  exit "$status"
 }
