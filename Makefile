@@ -87,17 +87,18 @@ dist:
 
 # What farm and distcc add to gcc -E and gcc -c, per job, by itself and within a job list; whole builds at 2, 4 and 8 jobs at once; the
 # transfer of an object of 32 MiB; the resident size of farm and farmd; and how long a worker takes between two children.
+bench: export FIGURES = docs/figures
 bench:
 	bench/run
-	FIGURES=docs/figures bench/builds 100 7
+	bench/builds 100 7
 	bench/make
-	FIGURES=docs/figures bench/servers 64 7
-	bench/plot
+	bench/servers 64 7
 	bench/scale
 	bench/transfer
 	bench/memory
 	bench/gaps
 	bench/start
+	bench/plot
 
 # How many times as long writing and reading 32 MiB takes as a plain copy of as many bytes.
 bench-wire:
