@@ -102,8 +102,8 @@ bench:
 
 # How many times as long writing and reading 32 MiB takes as a plain copy of as many bytes.
 bench-wire:
-	cd crates/text_bench && rt run -- wire
+	cd crates/text_bench && rt run -- wire | tee ../../docs/figures/wire.txt
 
 # How many times as long reading a job list of 16 MiB takes as a plain copy of it.
 bench-jobs:
-	cd crates/text_bench && rt run -- jobs
+	cd crates/text_bench && rt run -- jobs | tee ../../docs/figures/jobs.txt
