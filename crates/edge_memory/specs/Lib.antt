@@ -10,9 +10,3 @@ pub mod Stations
 pub mod Dialers
 pub mod Doors
 pub mod Nevers
-pub mod GateReply
-pub mod GateRule
-pub mod GateUsers
-pub mod MarkRule
-pub mod MarkUsers
-pub mod Gates

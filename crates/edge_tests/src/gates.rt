@@ -1,4 +1,4 @@
-use edge_memory::{GateDialer, GateStation};
+use edge_gates::{GateDialer, GateStation};
 use edge_traits::{Bounds, Dialer, EdgeFault, Link, Station, StationFault};
 use farm_types::{Bytes, HostName};
 use std::alloc::Global;

@@ -6,9 +6,8 @@ ghost use Rattle.edge_memory.specs.Keepers.{keeper_state, keeper_shows};
 
 use crate::devices::{Seen, asked_for, told};
 use crate::kits::{empty_keeper, standing_clock};
-use edge_memory::{
-    GateDialer, GateStation, LinkScripts, MemClock, MemDialer, MemKeeper, MemStation, RanList,
-};
+use edge_gates::{GateDialer, GateStation};
+use edge_memory::{LinkScripts, MemClock, MemDialer, MemKeeper, MemStation, RanList};
 use edge_traits::{CallNumbers, Dialer, Kit, Station};
 use farm_types::Bytes;
 use std::alloc::{AllocError, Global};

@@ -3,12 +3,13 @@
 ghost use Rattle.std.specs.Prelude.{◌≡◌, ◌≤◌, [], false, length, All, IfOk, IfErr, OnOk};
 ghost use Rattle.edge_traits.specs.Keepers.{IsIdle};
 ghost use Rattle.edge_traits.specs.Told.{told, untold};
-ghost use Rattle.edge_memory.specs.Gates.{gate_station_view, leaves_nothing};
+ghost use Rattle.edge_gates.specs.Gates.{gate_station_view, leaves_nothing};
 ghost use Rattle.edge_memory.specs.Keepers.{keeper_state, keeper_shows};
 
 use crate::devices::{Page, asked_for, call};
 use crate::kits::empty_keeper;
-use edge_memory::{GateStation, LinkScripts, MemDialer, MemKeeper};
+use edge_gates::GateStation;
+use edge_memory::{LinkScripts, MemDialer, MemKeeper};
 use edge_traits::{Bounds, CallNumbers, Clock, EdgeFault, Kit, Sink, Station, StationFault};
 use farm_types::{Bytes, Ran, Word};
 use std::alloc::{AllocError, Global};

@@ -1,0 +1,2 @@
+mod GateSteps
+mod MarkSteps

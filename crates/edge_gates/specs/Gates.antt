@@ -1,0 +1,132 @@
+-- What devices that two threads use side by side show.
+use Rattle.std.specs.Prelude.{◌≡◌, ℕ, ◌-◌, false, List, [], length, take, min, ⊤}
+use Rattle.farm_types.specs.declared.placed.Word.{Word}
+use Rattle.farm_types.specs.declared.ran.Ran.{Ran}
+use Rattle.farm_types.specs.Rans.{nothing_ran}
+use Rattle.edge_traits.specs.Told.{told, untold}
+use Rattle.edge_traits.specs.Links.{LinkView}
+use Rattle.edge_traits.specs.Dialers.{DialerView}
+use Rattle.edge_traits.specs.Stations.{StationView}
+use Rattle.edge_gates.specs.GateReply.{gate_reply}
+use Rattle.atomic_table.specs.Seated.{TableId}
+use Rattle.edge_gates.specs.declared.asked.Asked.{Asked}
+use Rattle.edge_gates.specs.declared.asked.Place.{Place}
+use Rattle.edge_gates.specs.declared.asked.GateView.{GateView}
+use Rattle.edge_gates.specs.GateUsers.{name_of, view_of}
+use Rattle.edge_gates.specs.declared.dialer.GateLink.{GateLink}
+use Rattle.edge_gates.specs.declared.dialer.GateDialer.{GateDialer}
+use Rattle.edge_gates.specs.declared.station.GateStation.{GateStation}
+use Rattle.edge_gates.specs.declared.station.Part.{Part}
+use Rattle.edge_gates.specs.declared.station.Part.TheVariants.{Waits, IsAwaited, Alone as IsAlone}
+use Rattle.edge_gates.specs.declared.marked.MarkView.{MarkView}
+use Rattle.edge_gates.specs.GateRule.{newcomer}
+use Rattle.edge_gates.specs.MarkRule.{outsider}
+use Rattle.edge_gates.specs.MarkUsers.{name_of as mark_name, view_of as mark_view}
+
+-- the name of a link's gate
+abbrev pub gate_of : {R : Type 0} → GateLink R → TableId
+gate_of link = name_of link.gate
+
+-- what a link knows as a user of its gate
+abbrev pub user_of : {R : Type 0} → GateLink R → GateView
+user_of link = view_of link.gate
+
+-- which of the gate's links it is, by their first receives
+abbrev pub place_of : {R : Type 0} → GateLink R → Place
+place_of link = (user_of link).place
+
+-- how many of the gate's links had asked for their replies, when it last looked
+abbrev pub seen_of : {R : Type 0} → GateLink R → Asked
+seen_of link = (user_of link).seen
+
+-- how often it has looked
+abbrev pub looks_of : {R : Type 0} → GateLink R → ℕ
+looks_of link = (user_of link).looks
+
+-- the name of a dialer's gate
+abbrev pub dialer_gate : {R : Type 0} → GateDialer R → TableId
+dialer_gate dialer = name_of dialer.gate
+
+-- how many bytes of its reply a link gave
+abbrev pub given_of : {R : Type 0} → GateLink R → ℕ
+given_of link = link.at
+
+-- how many bytes the next receive into so much room gives, where it isn't held
+abbrev pub next_given : {R : Type 0} → GateLink R → ℕ → ℕ
+next_given link room = min room (length gate_reply - given_of link)
+
+-- what a link tells: what it gave, but not what was sent
+abbrev pub gate_link_view : {R : Type 0} → GateLink R → LinkView
+gate_link_view link = record {
+  origin = record { host = link.host; port = link.port };
+  sent = untold [];
+  given = told (take link.at gate_reply);
+  ended = link.ended;
+  stopped = false;
+  faults = link.faults;
+}
+
+-- what its dialer tells, which never fails
+abbrev pub gate_dialer_view : DialerView
+gate_dialer_view = record { exchanges = untold []; faults = 0 }
+
+-- its peers may give anything
+abbrev pub any_exchange : List ℕ → List ℕ → Type 0
+any_exchange sent given = ⊤
+
+-- what a station tells
+abbrev pub gate_station_view : {R : Type 0} → GateStation R → StationView
+gate_station_view station = record { runs = untold []; faults = station.faults; overruns = 0 }
+
+-- What a station's run does: it waits for a run of the other one, the other one waits for it, or it has to be alone
+pub data Role : Type 0 where
+  Waiting : Role
+  Awaited : Role
+  Alone : Role
+
+module _ {R : Type 0} where
+  abbrev pub role_of : Part R → Role
+  role_of (Waits gate) = Waiting
+  role_of (IsAwaited gate) = Awaited
+  role_of (IsAlone mark) = Alone
+
+  -- the name of what is shared
+  abbrev pub shared_by : Part R → TableId
+  shared_by (Waits gate) = name_of gate
+  shared_by (IsAwaited gate) = name_of gate
+  shared_by (IsAlone mark) = mark_name mark
+
+  -- what is known of a gate
+  abbrev pub asked_by : Part R → GateView
+  asked_by (Waits gate) = view_of gate
+  asked_by (IsAwaited gate) = view_of gate
+  asked_by (IsAlone mark) = newcomer
+
+  -- what is known of a mark
+  abbrev pub tried_by : Part R → MarkView
+  tried_by (Waits gate) = outsider
+  tried_by (IsAwaited gate) = outsider
+  tried_by (IsAlone mark) = mark_view mark
+
+  abbrev pub part_of : GateStation R → Role
+  part_of station = role_of station.part
+
+  -- the name of the gate or mark that two stations share
+  abbrev pub shared_of : GateStation R → TableId
+  shared_of station = shared_by station.part
+
+  -- what a station knows of its gate; one that has a mark knows nothing
+  abbrev pub asked_of : GateStation R → GateView
+  asked_of station = asked_by station.part
+
+  -- what a station knows of its mark; one that has a gate knows nothing
+  abbrev pub tried_of : GateStation R → MarkView
+  tried_of station = tried_by station.part
+
+-- one whose run was never called
+abbrev pub unused_station : StationView
+unused_station = record { runs = untold []; faults = 0; overruns = 0 }
+
+-- a run leaves status 0 and nothing else
+abbrev pub leaves_nothing : List Word → List ℕ → Ran → Type 0
+leaves_nothing words input ran = ran ≡ nothing_ran

@@ -1,6 +1,0 @@
-use Rattle.std.proofs.Common.{rules}
-use Rattle.edge_memory.proofs.GateSteps.{admits}
-use Rattle.edge_memory.proofs.gates.gate.Gate.share.Goals as goal
-
-pub pass-pass-requires : goal.pass-pass-requires
-pass-pass-requires g c = (search rules, (search rules, admits))
