@@ -1,3 +1,8 @@
+mod Plain
+mod Names
+mod Expands
+mod Tasks
+mod Runs
 mod Compiled
 mod Putting
 mod Looping

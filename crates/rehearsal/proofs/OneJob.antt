@@ -24,7 +24,7 @@ use Rattle.course_laws.specs.Answers.{HasOutcome, IsAnswered}
 use Rattle.sample_compiler.specs.Samples.{SampleOf, printed}
 use Rattle.sample_compiler.specs.Stations.{StationRan}
 use Rattle.workload.specs.Loads.{job_words, files_of}
-use Rattle.workload.specs.Laws.{text_of_job, SentLaw, PreprocessedLaw, CompiledLaw}
+use Rattle.rehearsal.specs.WorkloadRuns.{text_of_job, SentLaw, PreprocessedLaw, CompiledLaw}
 use Rattle.rehearsal.specs.Counts.{last_put, len_at}
 use Rattle.rehearsal.specs.Puts.{put_len}
 use Rattle.rehearsal.specs.Rehearsals.{ended_well, object_len}

@@ -1,3 +1,4 @@
+pub mod WorkloadRuns
 pub mod Puts
 pub mod Devices
 pub mod Counts

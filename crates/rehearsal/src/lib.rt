@@ -8,6 +8,7 @@ mod laws;
 mod numbers;
 mod run;
 mod station;
+mod workload_runs;
 
 pub use keeper::StillKeeper;
 pub use kits::{RehearsalKit, compiler_table};
@@ -15,6 +16,7 @@ pub use laws::{loops_answer_as_the_compiler, loops_are_fully_honest};
 pub use numbers::Count;
 pub use run::{Rehearsed, rehearse};
 pub use station::StillStation;
+pub use workload_runs::runs_of_jobs;
 
 #[cfg(test)]
 mod tests;

@@ -13,7 +13,7 @@ use job_driver::{Built, build};
 use std::alloc::{AllocError, Global};
 use std::sync::Wait;
 use std::thread::Threads;
-use workload::{make, runs_of_jobs};
+use workload::make;
 
 /// The most workers of a rehearsal.
 const REHEARSAL_WORKERS: u32 = 4;

@@ -1,6 +1,1 @@
 mod Filing
-mod Plain
-mod Names
-mod Expands
-mod Tasks
-mod Runs

@@ -1,4 +1,4 @@
-//! The generated workload: for a number, that many jobs, each with a source of its own; and the laws of what their runs leave.
+//! The generated workload: for a number, that many jobs, each with a source of its own.
 #![tactic(auto)]
 
 mod generator;
@@ -6,5 +6,5 @@ mod laws;
 mod load;
 mod texts;
 
-pub use laws::{one_file_for_each_job, runs_of_jobs};
+pub use laws::one_file_for_each_job;
 pub use load::{Load, make};

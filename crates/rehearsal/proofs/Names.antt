@@ -21,7 +21,7 @@ use Rattle.arg_scan.specs.Names.{last_name, is_conftest, is_reserved, has_ending
 use Rattle.arg_scan.specs.Roles.{role_of, source_role}
 use Rattle.arg_scan.specs.Forces.{when, output_reasons}
 use Rattle.sample_compiler.specs.Samples.{is_preprocessed_name}
-use Rattle.workload.proofs.Plain.{ArePlain}
+use Rattle.rehearsal.proofs.Plain.{ArePlain}
 
 abbrev pub IsDigit : ℕ → Type 0
 IsDigit b = (48 ≤ b) × (b ≤ 57)

@@ -13,7 +13,7 @@ use Rattle.sample_lang.specs.Bytes.{begins_name, is_name_byte}
 use Rattle.sample_compiler.specs.Words.{begins, join, word_pieces, piece_text, replaced}
 use Rattle.sample_compiler.specs.Expanding.{include, expand_lines, expanded}
 use Rattle.workload.specs.Loads.{source_text}
-use Rattle.workload.proofs.Names.{IsDigit, digits, other_byte}
+use Rattle.rehearsal.proofs.Names.{IsDigit, digits, other_byte}
 
 -- ---- with no defined names nothing is replaced
 

@@ -1,5 +1,5 @@
-use Rattle.workload.proofs.Runs.{sent_out, preprocessed, compiled}
-use Rattle.workload.proofs.laws.runs_of_jobs.Goals as goal
+use Rattle.rehearsal.proofs.Runs.{sent_out, preprocessed, compiled}
+use Rattle.rehearsal.proofs.workload_runs.runs_of_jobs.Goals as goal
 
 pub returns-clause-sent : goal.returns-clause-sent
 returns-clause-sent c = sent_out

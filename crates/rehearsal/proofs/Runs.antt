@@ -20,11 +20,11 @@ use Rattle.sample_compiler.specs.Samples.{CompilesTo, LeftBy, LeavesAsked, Sampl
 use Rattle.sample_compiler.specs.Samples.{printed, is_ready}
 use Rattle.sample_compiler.specs.Stations.{own_input, own_output, with_input, asked_by, as_left, without_object, StationRan}
 use Rattle.workload.specs.Loads.{job_source, job_object, factor_of, generator_after, job_words, files_of}
-use Rattle.workload.specs.Laws.{text_of_job, IsSent}
-use Rattle.workload.proofs.Plain.{plain, remote, raw_source, sent, placed, preprocessing}
-use Rattle.workload.proofs.Names.{are_plain, unreserved, unready}
-use Rattle.workload.proofs.Expands.{source_expands}
-use Rattle.workload.proofs.Tasks.{name_reading, own_reading, task_for, compile_task, expand_task}
+use Rattle.rehearsal.specs.WorkloadRuns.{text_of_job, IsSent}
+use Rattle.rehearsal.proofs.Plain.{plain, remote, raw_source, sent, placed, preprocessing}
+use Rattle.rehearsal.proofs.Names.{are_plain, unreserved, unready}
+use Rattle.rehearsal.proofs.Expands.{source_expands}
+use Rattle.rehearsal.proofs.Tasks.{name_reading, own_reading, task_for, compile_task, expand_task}
 
 -- each job has its own source among the files
 abbrev pub OneFileLaw : Type 0

@@ -13,7 +13,7 @@ use Rattle.sample_compiler.specs.declared.task.Product.TheVariants as product
 use Rattle.sample_compiler.specs.declared.task.Task.{Task}
 use Rattle.sample_compiler.specs.Meanings.{reading_of}
 use Rattle.sample_compiler.specs.Tasks.{task_of}
-use Rattle.workload.proofs.Plain.{plain}
+use Rattle.rehearsal.proofs.Plain.{plain}
 
 compile_reading : reading_of (codes "-c") ≡ Whole (meaning.Command (Build Compile))
 unfolding reading_of scc_rows
