@@ -6,6 +6,7 @@ use Rattle.edge_traits.specs.Stations.{StationView}
 use Rattle.edge_traits.specs.Told.{Grew}
 use Rattle.daemon_service.specs.declared.compilers.Compiler.{Compiler}
 use Rattle.daemon_service.specs.declared.served.Served.TheVariants as served
+use Rattle.daemon_service.specs.Replies.{unknown_compiler_status, not_one_source_status}
 use Rattle.daemon_worker.specs.declared.log.DoorKit.{DoorKit}
 use Rattle.daemon_worker.specs.declared.log.Entry.{Entry}
 use Rattle.daemon_worker.specs.declared.log.Met.{Met}
@@ -14,7 +15,7 @@ use Rattle.object_cache.specs.declared.book.Stats.{Stats}
 
 -- the status isn't that of a request which isn't compiled
 abbrev pub is_compile_status : ℕ → Bool
-is_compile_status status = not ((status == 28160) || (status == 28416))
+is_compile_status status = not ((status == unknown_compiler_status) || (status == not_one_source_status))
 
 -- the answer to a connection has the status of a compile
 abbrev pub is_compiled : Met → Bool

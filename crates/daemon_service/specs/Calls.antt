@@ -15,11 +15,11 @@ use Rattle.daemon_service.specs.declared.compilers.Compiler.{Compiler}
 use Rattle.daemon_service.specs.declared.served.Served.{Served}
 use Rattle.daemon_service.specs.declared.served.Served.TheVariants.{Answered}
 use Rattle.daemon_service.specs.declared.served.Served.TheVariants as served
-use Rattle.daemon_service.specs.Replies.{program_of, first_word, with_program, sent_outcome}
+use Rattle.daemon_service.specs.Replies.{program_of, first_word, with_program, sent_outcome, unknown_compiler_status, not_one_source_status}
 
 -- a status of a request that isn't compiled
 abbrev pub IsRefused : ℕ → Type 0
-IsRefused status = (status ≡ 28160) ⊎ (status ≡ 28416)
+IsRefused status = (status ≡ unknown_compiler_status) ⊎ (status ≡ not_one_source_status)
 
 -- the answer isn't that of a compile
 abbrev pub IsUncompiled : Served → Type 0

@@ -36,7 +36,7 @@ fn first_word(words: &Words) -> &[u8]
 
 // The front of a name.
 fn front_of(name: &[u8]) -> &[u8]
-    ensures { result.now ≡ take 64 name.now }
+    ensures { result.now ≡ take replies.shown_name_max name.now }
 {
     if NAME_MAX < name.len() {
         &name[..NAME_MAX]

@@ -86,6 +86,10 @@ include files dirs zero line defines name = Err (line, TooDeep)
 include files dirs (suc room) line defines name =
     from_file (expand_lines (include files dirs room) 1) line defines name (find_file files dirs name)
 
--- a whole text, at most 16 files deep
+-- the most included files that are open at once
+abbrev pub includes_max : ℕ
+includes_max = 16
+
+-- a whole text
 abbrev pub expanded : Files → List (List ℕ) → List Define → List ℕ → ExpandResult
-expanded files dirs defines text = expand_lines (include files dirs 16) 1 defines (source_lines text)
+expanded files dirs defines text = expand_lines (include files dirs includes_max) 1 defines (source_lines text)

@@ -9,7 +9,7 @@ use Rattle.sample_compiler.specs.declared.stops.ExpandStop.{ExpandStop}
 use Rattle.sample_compiler.specs.declared.stops.ExpandStop.TheVariants.{Fault, Unknown, Memory}
 use Rattle.sample_compiler.specs.declared.task.Task.{Task}
 use Rattle.sample_compiler.specs.Directives.{include_of}
-use Rattle.sample_compiler.specs.Expanding.{ExpandResult, Includes, expand_line, include, find_file}
+use Rattle.sample_compiler.specs.Expanding.{ExpandResult, Includes, expand_line, include, includes_max, find_file}
 use Rattle.sample_compiler.specs.Lines.{source_lines}
 use Rattle.sample_compiler.specs.Lookups.{is_listed}
 use Rattle.sample_compiler.specs.Samples.{is_ready}
@@ -70,9 +70,9 @@ by_include files dirs (suc room) defines name =
 
 -- ---- a task
 
--- what a text of these words has looked up, at most 16 files deep
+-- what a text of these words has looked up
 abbrev pub by_text : Files → Task → List ℕ → List (List ℕ)
-by_text files task content = by_lines (include files task.dirs 16) (by_include files task.dirs 16) 1 task.defines (source_lines content)
+by_text files task content = by_lines (include files task.dirs includes_max) (by_include files task.dirs includes_max) 1 task.defines (source_lines content)
 
 -- what the input has looked up, where it is there
 abbrev pub by_input : Files → Task → Option (List ℕ) → List (List ℕ)

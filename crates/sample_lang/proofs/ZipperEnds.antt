@@ -10,7 +10,7 @@ use Rattle.sample_lang.specs.declared.stage.Definition.{Definition}
 use Rattle.sample_lang.specs.declared.stage.Stage.{Stage}
 use Rattle.sample_lang.specs.declared.stage.Stage.TheVariants.{Between, BehindExtern, NeedName, NeedEnd, DefName, DefEquals, Operand}
 use Rattle.sample_lang.specs.declared.stage.Stage.TheVariants.{Operator}
-use Rattle.sample_lang.specs.Grammar.{Expr, Alone, Term, Single, Literal, Group, ItemForm, Needs, Defines}
+use Rattle.sample_lang.specs.Grammar.{Expr, Alone, Term, Single, Literal, Group, ItemForm, Needs, Defines, depth_max}
 use Rattle.sample_lang.specs.Grammar.{expr_tokens, term_tokens, factor_tokens, item_tokens, forms_tokens, expr_depth, term_depth}
 use Rattle.sample_lang.specs.Grammar.{IsShallow}
 use Rattle.sample_lang.specs.Sources.{BeginForms}
@@ -29,7 +29,7 @@ CanEnd part = (rest : List Token) × (i : ItemForm) × (part ++ rest ≡ item_to
 -- an expr that has its last term
 end_expr : (terms : Terms) (term : Term) (outer : List Front) (room : ℕ) → Fits room outer → terms_depth terms ≤ room
     → term_depth term ≤ room → (rest : List Token) × (e : Expr)
-    × ((outer_tokens outer ++ (terms_tokens terms ++ term_tokens term)) ++ rest ≡ expr_tokens e ++ Semicolon ∷ []) × (expr_depth e ≤ 64)
+    × ((outer_tokens outer ++ (terms_tokens terms ++ term_tokens term)) ++ rest ≡ expr_tokens e ++ Semicolon ∷ []) × (expr_depth e ≤ depth_max)
 end_expr terms term [] room fits low_terms low_term =
     let low = whole_expr_depth terms term room low_terms low_term in
     (Semicolon ∷ [], whole_expr terms term, ap (λ ts. ts ++ Semicolon ∷ []) (sym (whole_expr_tokens terms term)), omega arith)
