@@ -1,7 +1,6 @@
 //! The public call of the program.
-ghost use Rattle.std.specs.Prelude.{◌≡◌, ◌≤◌, ◌⊎◌, IsTrue, false, ℕ, List, [], map, string_bytes, length, All};
+ghost use Rattle.std.specs.Prelude.{◌≡◌, ◌⊎◌, IsTrue, false, ℕ, List, [], map, string_bytes};
 ghost use Rattle.farm_types.specs.Exits.{bad_words_status, memory_status};
-ghost use Rattle.farm_types.specs.Limits.{workers_max};
 ghost use Rattle.farm_types.specs.declared.jobs.JobConfig.{JobConfig};
 ghost use Rattle.edge_traits.specs.Keepers.{IsIdle};
 ghost use Rattle.stream_print.specs.Printing.{complaint};
@@ -129,9 +128,7 @@ pub fn farm<
 where
     D::Link: Send,
     requires input { (R.shows input.old).ended ≡ false }
-    requires some { 1 ≤ length kits.old.items }
-    requires most { length kits.old.items ≤ workers_max }
-    requires idle { All (λ kit. IsIdle (K.shows kit.keeper)) kits.old.items }
+    requires kits { AreReady 1 (λ kit. IsIdle (K.shows kit.keeper)) kits.old.items }
     requires out { (O.shows out.old).stopped ≡ false }
     requires err { (E.shows err.old).stopped ≡ false }
 

@@ -66,7 +66,7 @@ pub record HasWorkedOff {D S K C : Type 0} (d : Devices (Kit D S K C)) (run : Ru
   pub before : List (Worker D S K C)
   pub done : AreDone d jobs config before run
 
--- All jobs were done by so many workers, over slots of the configuration's hosts.
+-- All jobs were done by so many workers, over slots of the configuration's hosts for so many jobs.
 pub record HasBuilt {K : Type 0} (d : Devices K) (jobs : List (List (List ℕ))) (config : JobConfig) (workers : ℕ) (built : Built)
     (old new : List K) : Type 0 where
   pub ran : JobsRan d built.last.limits (job_at jobs config) config.period workers built.reports (seen_of built.pass) built.last.state old

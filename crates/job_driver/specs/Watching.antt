@@ -25,8 +25,13 @@ use Rattle.job_driver.specs.declared.marker.Marker.{Marker}
 use Rattle.job_driver.specs.declared.beside.Marked.{Marked}
 use Rattle.job_driver.specs.declared.watch.Beside.{Beside}
 use Rattle.job_driver.specs.declared.watch.Watch.{Watch}
+use Rattle.farm_types.specs.declared.jobs.JobConfig.{JobConfig}
+use Rattle.farm_cell.specs.Passes.{seen_of}
 use Rattle.farm_machine.specs.Devices.{Devices}
+use Rattle.farm_machine.specs.Usable.{job_at}
+use Rattle.job_driver.specs.declared.driver.Built.{Built}
 use Rattle.job_driver.specs.Driven.{JobsRan}
+use Rattle.job_driver.specs.Workers.{AreSlotsFor}
 
 abbrev pub worker_of : {D S K C : Type 0} → Marked D S K C → Worker D S K C
 worker_of marked = marked.worker
@@ -98,6 +103,13 @@ pub record WatchedRan {K : Type 0} (d : Devices K) (l : Limits 16) (jobs : ℕ �
   pub ran : JobsRan d l jobs period workers reports history last (front old) (front new)
   pub same : length new ≡ length old
   pub lent : (other : K) → Lent d (slice_index_or old (length old - 1) other) (slice_index_or new (length old - 1) other)
+
+-- All jobs were done so by so many workers, over slots of the configuration's hosts for so many jobs.
+pub record HasBuiltWatched {K : Type 0} (d : Devices K) (jobs : List (List (List ℕ))) (config : JobConfig) (workers : ℕ) (built : Built)
+    (old new : List K) : Type 0 where
+  pub ran : WatchedRan d built.last.limits (job_at jobs config) config.period workers built.reports (seen_of built.pass)
+      built.last.state old new
+  pub slots : AreSlotsFor jobs config built.last.limits
 
 -- the lines while workers work were cut; or all were printed, and the last one follows, whole or cut
 abbrev pub WatchPrinted : ℕ → ℕ → ℕ → Bool → SinkView → SinkView → LineEnd → Type 0

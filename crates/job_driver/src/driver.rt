@@ -1,12 +1,8 @@
 //! All jobs of a list.
-ghost use Rattle.std.specs.Prelude.{◌≡◌, ◌≤◌, All, IfOk, OnErr, length};
-ghost use Rattle.farm_types.specs.Limits.{workers_max};
-ghost use Rattle.edge_traits.specs.Keepers.{IsIdle};
-ghost use Rattle.farm_machine.specs.Jobs.{AreLimitsOf};
-ghost use Rattle.farm_cell.specs.Passes.{seen_of};
+ghost use Rattle.std.specs.Prelude.{◌≡◌, IfOk, OnErr};
 ghost use Rattle.farm_machine.specs.Devices.{devices};
-ghost use Rattle.job_driver.specs.Driven.{JobsRan};
-ghost use Rattle.farm_machine.specs.Usable.{job_at, AreDoable, IsUsable};
+ghost use Rattle.farm_machine.specs.Usable.{AreDoable, IsUsable};
+ghost use Rattle.job_driver.specs.Runs.{HasBuilt, HasKits};
 
 use crate::run::{JobPlan, close_run, open_run};
 use crate::workers::work_all;
@@ -51,15 +47,9 @@ where
     D::Link: Send,
     requires jobs { AreDoable jobs.now }
     requires config { IsUsable config.now }
-    requires some { 1 ≤ workers }
-    requires kits { workers ≤ length kits.old.items }
-    requires most { length kits.old.items ≤ workers_max }
-    requires idle { All (λ kit. IsIdle (K.shows kit.keeper)) kits.old.items }
-    ensures ran { IfOk result (λ built. JobsRan (devices D.shows S.shows K.shows C.shows D.may_give S.ran)
-        built.last.limits (job_at jobs.now config.now) config.now.period workers
-        built.reports (seen_of built.pass) built.last.state kits.old.items kits.new.items) }
-    ensures limits { IfOk result (λ built. AreLimitsOf built.last.limits config.now.hosts) }
-    ensures jobs { IfOk result (λ built. built.last.limits.jobs ≡ length jobs.now) }
+    requires kits { HasKits (devices D.shows S.shows K.shows C.shows D.may_give S.ran) workers kits.old.items }
+    ensures built { IfOk result (λ built. HasBuilt (devices D.shows S.shows K.shows C.shows D.may_give S.ran)
+        jobs.now config.now workers built kits.old.items kits.new.items) }
     ensures undone { OnErr result (kits.new.items ≡ kits.old.items) }
 {
     let plan = JobPlan { jobs, config };

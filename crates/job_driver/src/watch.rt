@@ -37,6 +37,29 @@ pub struct Beside<D, S, K, C> {
     pub watch: Watch<C>,
 }
 
+impl<D, S, K, C> Beside<D, S, K, C> {
+    /// The marks, the watchers and the clock, once no worker is beside them.
+    pub fn into_parts(self) -> (Vec<Marker>, Vec<Watcher>, C)
+        requires { self.pairs.items ≡ [] }
+        ensures markers { result.0 ≡ self.markers }
+        ensures watchers { result.1 ≡ self.watch.watchers }
+        ensures clock { result.2 ≡ self.watch.clock }
+    {
+        let Beside {
+            markers,
+            pairs,
+            watch,
+        } = self;
+        let Watch {
+            watchers,
+            clock,
+            lines: _,
+        } = watch;
+        pairs.destroy_empty();
+        (markers, watchers, clock)
+    }
+}
+
 impl<C: Clock> Watch<C> {
     /// Prints the lines of so many jobs.
     fn print<E: Sink>(&mut self, jobs: u32, err: &mut E) -> LineEnd

@@ -1,14 +1,11 @@
 //! All jobs of a list, while somebody watches.
-ghost use Rattle.std.specs.Prelude.{◌≡◌, ◌+◌, ◌^◌, ◌<◌, ◌≤◌, [], All, IfOk, OnErr, true, length, map, vec_capacity};
-ghost use Rattle.farm_types.specs.Limits.{workers_max, lines_max};
-ghost use Rattle.edge_traits.specs.Keepers.{IsIdle};
-ghost use Rattle.farm_machine.specs.Jobs.{AreLimitsOf};
-ghost use Rattle.farm_cell.specs.Passes.{seen_of};
+ghost use Rattle.std.specs.Prelude.{◌≡◌, ◌+◌, ◌^◌, ◌<◌, ◌≤◌, [], IfOk, OnErr, true, length, map, vec_capacity};
+ghost use Rattle.farm_types.specs.Limits.{lines_max};
 ghost use Rattle.farm_monitor.specs.Boards.{board_watched};
 ghost use Rattle.farm_machine.specs.Devices.{devices};
 ghost use Rattle.job_driver.specs.Runs.{HasBuilt, HasKits};
-ghost use Rattle.farm_machine.specs.Usable.{job_at, AreDoable, IsUsable};
-ghost use Rattle.job_driver.specs.Watching.{board_marked, AreBack, IsFor, HasWatched, AfterLines, WatchedRan, WatchPrinted};
+ghost use Rattle.farm_machine.specs.Usable.{AreDoable, IsUsable};
+ghost use Rattle.job_driver.specs.Watching.{board_marked, AreBack, IsFor, HasBuiltWatched, HasWatched, AfterLines, WatchPrinted};
 
 use crate::beside::Marked;
 use crate::boards::{end_boards, make_boards, tell_all};
@@ -140,15 +137,10 @@ where
     requires jobs { AreDoable jobs.now }
     requires config { IsUsable config.now }
     requires some { 1 ≤ workers }
-    requires kits { workers < length kits.old.items }
-    requires most { length kits.old.items ≤ workers_max }
+    requires kits { HasKits (devices D.shows S.shows K.shows C.shows D.may_give S.ran) (workers + 1) kits.old.items }
     requires lines { lines ≤ lines_max }
-    requires idle { All (λ kit. IsIdle (K.shows kit.keeper)) kits.old.items }
-    ensures ran { IfOk result (λ watched. WatchedRan (devices D.shows S.shows K.shows C.shows D.may_give S.ran)
-        watched.built.last.limits (job_at jobs.now config.now) config.now.period workers
-        watched.built.reports (seen_of watched.built.pass) watched.built.last.state kits.old.items kits.new.items) }
-    ensures limits { IfOk result (λ watched. AreLimitsOf watched.built.last.limits config.now.hosts) }
-    ensures jobs { IfOk result (λ watched. watched.built.last.limits.jobs ≡ length jobs.now) }
+    ensures built { IfOk result (λ watched. HasBuiltWatched (devices D.shows S.shows K.shows C.shows D.may_give S.ran)
+        jobs.now config.now workers watched.built kits.old.items kits.new.items) }
     ensures undone { OnErr result ((kits.new.items ≡ kits.old.items) × (err.new ≡ err.old)) }
     ensures printed { IfOk result (λ watched. WatchPrinted (length jobs.now) workers lines watched.told
         (E.shows err.old) (E.shows err.new) watched.printed) }
@@ -174,17 +166,7 @@ where
     };
     let plan = JobPlan { jobs, config };
     let done = build_beside(rt, alloc, plan, kits, workers, &mut beside, err);
-    let Beside {
-        mut markers,
-        pairs,
-        watch,
-    } = beside;
-    let Watch {
-        mut watchers,
-        clock,
-        lines: _,
-    } = watch;
-    pairs.destroy_empty();
+    let (mut markers, mut watchers, clock) = beside.into_parts();
     let Ok(()) = kits.push(Kit {
         dialer,
         station,

@@ -1,7 +1,7 @@
 use Rattle.std.proofs.Common.{rules, refl, ◌∙◌}
 use denote.Enum.Bare.{sameb}
 use Rattle.crossbeam_utils.specs.Seq.{cell_view}
-use Rattle.edge_gates.specs.contracts.gates.asked.Asked.{the_type}
+use Rattle.edge_gates.specs.contracts.asked.Asked.{the_type}
 use Rattle.edge_gates.specs.declared.asked.Asked.TheVariants.{Nobody}
 use Rattle.edge_gates.proofs.GateSteps.{asks-first-turn, asks-later-turn, SawSomebody, saw-somebody}
 use Rattle.edge_gates.proofs.gate.ask_now.Goals as goal

@@ -1,7 +1,7 @@
 use Rattle.std.proofs.Common.{rules, refl}
 use denote.Enum.Bare.{sameb}
 use Rattle.crossbeam_utils.specs.Seq.{cell_view}
-use Rattle.edge_gates.specs.contracts.gates.marked.Marked.{the_type}
+use Rattle.edge_gates.specs.contracts.marked.Marked.{the_type}
 use Rattle.edge_gates.specs.declared.marked.Marked.TheVariants.{Clear}
 use Rattle.edge_gates.proofs.MarkSteps.{enters-turn}
 use Rattle.edge_gates.proofs.mark.enter.Goals as goal

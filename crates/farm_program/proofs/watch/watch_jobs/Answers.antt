@@ -12,9 +12,9 @@ returns-clause-done g c =
     workers_as number (record {
       one = c.in_ok-watched.watched.built;
       only = grind (arith, common_steps);
-      of_hosts = c.in_ok-watched.ensures.limits;
-      of_jobs = c.in_ok-watched.ensures.jobs;
-      ran = c.in_ok-watched.ensures.ran;
+      of_hosts = c.in_ok-watched.ensures.built.slots.hosts;
+      of_jobs = c.in_ok-watched.ensures.built.slots.number;
+      ran = c.in_ok-watched.ensures.built.ran;
     })
 
 pub returns-clause-printed : goal.returns-clause-printed

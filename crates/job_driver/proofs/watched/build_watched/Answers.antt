@@ -20,8 +20,8 @@ unreachable-requires-in_default-push g c =
     let full = c.in_default-push.ensures.full in
     omega (arith, was, popped, back, one, room, len, kept, full)
 
-pub returns-clause-ran : goal.returns-clause-ran
-returns-clause-ran g c =
+pub returns-clause-built : goal.returns-clause-built
+returns-clause-built g c =
     let d = devices g.D.Dialer.shows g.S.Station.shows g.K.Keeper.shows g.C.Clock.shows g.D.Dialer.may_give g.S.Station.ran in
     let built = c.in_ok-built.built in
     let lender = c.in-Some.lender in
@@ -31,18 +31,21 @@ returns-clause-ran g c =
       keeper = lender.keeper;
       clock = c.build_beside-done.new.beside.watch.clock;
     } in
-    watched-ran d built.last.limits (job_at c.args.jobs.now c.args.config.now) c.args.config.now.period c.args.workers built.reports
-    (seen_of built.pass) built.last.state c.pop.new.self.items c.build_beside-done.new.kits.items lender back
-    c.args.kits.now.items c.push.new.self.items c.in_ok-built.ensures.built.ran
-    (record {
-      dialer = refl;
-      station = refl;
-      keeper = refl;
-      clock = c.in_ok-built.ensures.watched.paused;
-      peers = same_peers _;
-      programs = same_programs _;
-    })
-    c.in-Some.ensures.items c.in-Ok.ensures.items
+    record {
+      ran = watched-ran d built.last.limits (job_at c.args.jobs.now c.args.config.now) c.args.config.now.period c.args.workers built.reports
+          (seen_of built.pass) built.last.state c.pop.new.self.items c.build_beside-done.new.kits.items lender back
+          c.args.kits.now.items c.push.new.self.items c.in_ok-built.ensures.built.ran
+          (record {
+            dialer = refl;
+            station = refl;
+            keeper = refl;
+            clock = c.in_ok-built.ensures.watched.paused;
+            peers = same_peers _;
+            programs = same_programs _;
+          })
+          c.in-Some.ensures.items c.in-Ok.ensures.items;
+      slots = c.in_ok-built.ensures.built.slots;
+    }
 
 pub returns-clause-printed : goal.returns-clause-printed
 returns-clause-printed g c =

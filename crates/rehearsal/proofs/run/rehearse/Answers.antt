@@ -10,7 +10,7 @@ build-requires-clause-jobs g c κs within = subst AreDoable (sym c.in_ok-jobs.en
 pub count_reports-count-requires : goal.count_reports-count-requires
 count_reports-count-requires g c =
     let all : length c.as_slice-2.result.now ≡ c.args.n =
-    ap length c.as_slice-2.ensures ∙ c.in_ok-built.ensures.ran.are_read.one ∙ c.in_ok-built.ensures.jobs
+    ap length c.as_slice-2.ensures ∙ c.in_ok-built.ensures.built.ran.are_read.one ∙ c.in_ok-built.ensures.built.slots.number
     ∙ ap length c.in_ok-jobs.ensures.jobs ∙ job_number c.args.n in
     omega (arith, all, c.requires.most)
 
@@ -26,5 +26,5 @@ returns g c =
     c.args.n c.requires.some c.requires.most c.in_ok-built.built c.in_ok-jobs.field-0.jobs c.in_ok-config.config c.min-workers.result
     c.in_ok-kits.kits.items c.build.new.kits.items c.as_slice.result.now c.as_slice-2.result.now c.count_reports-count.result
     c.in_ok-jobs.ensures.jobs c.in_ok-config.ensures number c.in_ok-kits.ensures.count c.in_ok-kits.ensures.fresh
-    c.in_ok-built.ensures.limits c.in_ok-built.ensures.jobs c.in_ok-built.ensures.ran
+    c.in_ok-built.ensures.built.slots.hosts c.in_ok-built.ensures.built.slots.number c.in_ok-built.ensures.built.ran
     c.as_slice.ensures.value c.as_slice-2.ensures c.count_reports-count.ensures
