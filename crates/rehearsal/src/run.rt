@@ -8,6 +8,7 @@ use crate::Count;
 use crate::config::rehearsal_config;
 use crate::kits::kits;
 use crate::numbers::count_reports;
+use crate::workload_runs::runs_of_jobs;
 use course_laws::put_law;
 use job_driver::{Built, build};
 use std::alloc::{AllocError, Global};

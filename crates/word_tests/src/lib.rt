@@ -1,4 +1,5 @@
-//! Tests of what is read of words and lists: options, the class of a command, job lists, host lists, the command line of `farm`, and access rules.
+//! Tests of what is read of words and lists: options, the class of a command, the words for a dependency file, job lists, host lists,
+//! the command line of `farm`, and access rules.
 #![tactic(auto)]
 
 #[cfg(test)]
@@ -7,6 +8,8 @@ mod access;
 mod classes;
 #[cfg(test)]
 mod command_lines;
+#[cfg(test)]
+mod dependencies;
 #[cfg(test)]
 mod host_lists;
 #[cfg(test)]

@@ -4,13 +4,13 @@ use Rattle.std.proofs.lemmas.Grind.{common_steps}
 use Rattle.std.proofs.lemmas.Result.{err_from_is_err_and}
 use Rattle.object_delivery.proofs.Delivering.{Written, written-none, written-more, put-ok, put-dropped, put-err}
 use Rattle.object_delivery.proofs.keeper.FileKeeperKeeper.put.Goals.{then-not-is_empty+in_ok-add, else-not-is_empty}
+use Rattle.object_delivery.proofs.keeper.FileKeeperKeeper.put.Given
 use Rattle.object_delivery.proofs.keeper.FileKeeperKeeper.put.Goals as goal
 
-pub returns-clause-ok : goal.returns-clause-ok
-returns-clause-ok g c =
-    let b = c.in_ok-begin.ensures in
-    let mid : Written (g.F.Files.shows c.args.self.now.files) (g.F.Files.shows c.if-not-is_empty.self.files)
-    c.if-not-is_empty.self.pending c.args.path.now c.args.bytes.now = elim c.if-not-is_empty.branch [
+written : (g : Given.Over) (c : goal.After-commit g) → Written (g.F.Files.shows c.args.self.now.files)
+    (g.F.Files.shows c.if-not-is_empty.self.files) c.if-not-is_empty.self.pending c.args.path.now c.args.bytes.now
+written g c =
+    let b = c.in_ok-begin.ensures in elim c.if-not-is_empty.branch [
       | then-not-is_empty+in_ok-add w ↦
           let a = w.in_ok-add.ensures in
           subst (λ self. Written (g.F.Files.shows c.args.self.now.files) (g.F.Files.shows self.files) self.pending c.args.path.now
@@ -26,32 +26,18 @@ returns-clause-ok g c =
           (written-none (g.F.Files.shows c.args.self.now.files) (g.F.Files.shows c.begin.new.self.files) c.begin.new.self.pending
           c.args.path.now c.args.bytes.now (nil_from_length c.args.bytes.now (grind (arith, common_steps))) b.ok b.cause.later
           b.pending)
-    ] in
+    ]
+
+pub returns-clause-ok : goal.returns-clause-ok
+returns-clause-ok g c =
+    let mid = written g c in
     put-ok (g.F.Files.shows c.args.self.now.files) (g.F.Files.shows c.if-not-is_empty.self.files)
     (g.F.Files.shows c.commit.new.self.files) c.if-not-is_empty.self.pending c.args.path.now c.args.bytes.now c.commit.result
     mid (c.commit.ensures.ok c.args.path.now mid.waits)
 
 pub returns-clause-err : goal.returns-clause-err
 returns-clause-err g c =
-    let b = c.in_ok-begin.ensures in
-    let mid : Written (g.F.Files.shows c.args.self.now.files) (g.F.Files.shows c.if-not-is_empty.self.files)
-    c.if-not-is_empty.self.pending c.args.path.now c.args.bytes.now = elim c.if-not-is_empty.branch [
-      | then-not-is_empty+in_ok-add w ↦
-          let a = w.in_ok-add.ensures in
-          subst (λ self. Written (g.F.Files.shows c.args.self.now.files) (g.F.Files.shows self.files) self.pending c.args.path.now
-          c.args.bytes.now) (sym w.self-is)
-          (written-more (g.F.Files.shows c.args.self.now.files) (g.F.Files.shows c.begin.new.self.files)
-          (g.F.Files.shows w.add.new.self.files) c.begin.new.self.pending w.add.new.self.pending c.args.path.now
-          c.args.bytes.now (written-none (g.F.Files.shows c.args.self.now.files) (g.F.Files.shows c.begin.new.self.files)
-          c.begin.new.self.pending c.args.path.now [] refl b.ok b.cause.later b.pending) (a.ok c.args.path.now b.pending)
-          a.cause.later a.pending)
-      | else-not-is_empty w ↦
-          subst (λ self. Written (g.F.Files.shows c.args.self.now.files) (g.F.Files.shows self.files) self.pending c.args.path.now
-          c.args.bytes.now) (sym w.self-is)
-          (written-none (g.F.Files.shows c.args.self.now.files) (g.F.Files.shows c.begin.new.self.files) c.begin.new.self.pending
-          c.args.path.now c.args.bytes.now (nil_from_length c.args.bytes.now (grind (arith, common_steps))) b.ok b.cause.later
-          b.pending)
-    ] in
+    let mid = written g c in
     put-err (g.F.Files.shows c.args.self.now.files) (g.F.Files.shows c.if-not-is_empty.self.files)
     (g.F.Files.shows c.commit.new.self.files) c.if-not-is_empty.self.pending c.args.path.now c.args.bytes.now c.commit.result
     mid (c.commit.ensures.err c.args.path.now mid.waits)
