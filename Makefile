@@ -85,8 +85,7 @@ uninstall:
 dist:
 	contrib/dist
 
-# What farm and distcc add to gcc -E and gcc -c, per job, by itself and within a job list; whole builds at 2, 4 and 8 jobs at once; the
-# transfer of an object of 32 MiB; the resident size of farm and farmd; and how long a worker takes between two children.
+# The measures of docs/benchmarks.md but that of the cache, in hours. What they find goes into docs/figures and the end of that page.
 bench: export FIGURES = docs/figures
 bench:
 	bench/run
@@ -102,8 +101,8 @@ bench:
 
 # How many times as long writing and reading 32 MiB takes as a plain copy of as many bytes.
 bench-wire:
-	cd crates/text_bench && rt run -- wire | tee ../../docs/figures/wire.txt
+	bench/parts/kept wire
 
 # How many times as long reading a job list of 16 MiB takes as a plain copy of it.
 bench-jobs:
-	cd crates/text_bench && rt run -- jobs | tee ../../docs/figures/jobs.txt
+	bench/parts/kept jobs

@@ -1,5 +1,4 @@
-//! The numbers of the reasons for which a command stays on this machine, in the order in which they are
-//! judged, as docs/command-words.md lists them.
+//! The numbers of the reasons for which a command stays on this machine, as docs/command-words.md lists them.
 
 /// Neither `-c` nor `-S` is asked for.
 pub const NO_ACTION: u8 = 1;
