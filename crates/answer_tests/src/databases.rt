@@ -4,7 +4,6 @@ use crate::inputs::source_of;
 use compile_database::{DatabaseError, DatabaseFault, Selection, farm_jobs, job_list_of};
 use edge_memory::{MemSink, Moves};
 use edge_traits::CallNumbers;
-use farm_types::Bytes;
 use job_list::JobFault;
 use std::alloc::{AllocError, Global};
 use std::test::Fail;

@@ -166,8 +166,7 @@ final_by : (compile assemble : Bool) (g : ℕ → Option Ending) (first : Option
     (verdict.Remote (record {
       action = if assemble then Assemble else Compile;
       input = unwrap_or first 0;
-      ending =
-          unwrap_or (g (unwrap_or first 0)) C;
+      ending = unwrap_or (g (unwrap_or first 0)) C;
       output = output;
     }))
 final_by compile assemble g (Some k) output len = refl

@@ -1,7 +1,4 @@
 // The most bytes that the runs of a job may give.
-ghost use Rattle.std.specs.Prelude.{◌≡◌};
-ghost use Rattle.child_runner.specs.Runs;
-
 use edge_traits::Bounds;
 use farm_types::limits::{CHILD_ERR_MAX, IN_PLACE_OUT_MAX, OBJECT_MAX, PREPROCESSED_MAX};
 

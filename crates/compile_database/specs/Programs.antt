@@ -61,9 +61,8 @@ pub data Listed (choice : Choice) (text : List ℕ) (sinks sinks_now : SinksView
       → Refused (refusal_text fault) bad_text_status sinks sinks_now answer → Listed choice text sinks sinks_now answer
   unlisted : Wanted sinks sinks_now answer → Listed choice text sinks sinks_now answer
 
--- The input was read to its end, and its text was listed; or it was too long, or couldn't be read; or memory was wanting while it
--- was read, and
--- then its count stands still: no fault of the input is told so.
+-- The input was read to its end, and its text was listed; or it was too long, or couldn't be read; or memory was wanting while it was
+-- read, and then its count stands still: no fault of the input is told so.
 pub data Reads (choice : Choice) (old new : SourceView) (sinks sinks_now : SinksView) (answer : ℕ) : Type 0 where
   whole_input : (text : List ℕ) → AllRead old new text → length text < too_long → Listed choice text sinks sinks_now answer
       → Reads choice old new sinks sinks_now answer

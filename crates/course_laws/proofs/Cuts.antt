@@ -112,8 +112,7 @@ goes-locally j source note =
       rest = Met GivesLocal ∷ [];
       end = Failed Station;
       whole = λ k. cc;
-      from =
-          (LentHere source note, refl, (Over (Failed Station), inl refl, refl));
+      from = (LentHere source note, refl, (Over (Failed Station), inl refl, refl));
     }
 
 fin-or_here : (j : Job) (source note : List ℕ) (why : End) → why ≢ Failed Memory → Fins j (or_here j source note why)
@@ -136,16 +135,14 @@ goes-send j source note tried =
             rest = f.acts;
             end = f.end;
             whole = f.whole;
-            from =
-                (or_here j source note (Failed (no_host tried)), (fits, refl), f.from);
+            from = (or_here j source note (Failed (no_host tried)), (fits, refl), f.from);
           }
       | inr not ↦ record {
         next = Met TakesLocal;
         rest = Met GivesLocal ∷ [];
         end = Failed Station;
         whole = λ k. cc;
-        from =
-            (LentHere source note, (not, refl), (Over (Failed Station), inl refl, refl));
+        from = (LentHere source note, (not, refl), (Over (Failed Station), inl refl, refl));
       }
     ]
 
@@ -166,8 +163,7 @@ dial j host = record {
   dialed = false;
   sent = [];
   given = [];
-  ended =
-      false;
+  ended = false;
   stopped = false;
   faults = 0;
 }
@@ -200,8 +196,7 @@ goes-lent j host source note tried = go (is_local_host j host) refl
       rest = [];
       end = Failed Station;
       whole = λ k. cc;
-      from =
-          (Over (Failed Station), (refl, inl (e, refl)), refl);
+      from = (Over (Failed Station), (refl, inl (e, refl)), refl);
     }
     go false e = elim (cases_eq j.config.period 0) [
       | inl zero_ ↦ record {
@@ -247,8 +242,7 @@ goes-start j = go (may_be_sent j) refl (is_source_ready j) refl
       rest = Met GivesLocal ∷ [];
       end = Failed Station;
       whole = λ k. cc;
-      from =
-          (LentInPlace, (e, refl), (Over (Failed Station), inl refl, refl));
+      from = (LentInPlace, (e, refl), (Over (Failed Station), inl refl, refl));
     }
     go true e true f = let g = goes-send j [] [] [] in
         record {
@@ -256,16 +250,14 @@ goes-start j = go (may_be_sent j) refl (is_source_ready j) refl
           rest = g.next ∷ g.rest;
           end = g.end;
           whole = g.whole;
-          from =
-              (Send [] [] [], (e, f, refl, refl), g.from);
+          from = (Send [] [] [], (e, f, refl, refl), g.from);
         }
     go true e false f = record {
       next = Did (ran bad);
       rest = [];
       end = Done 1 [] [] [] Cpp;
       whole = λ k. cc;
-      from =
-          (Over (Done 1 [] [] [] Cpp), (e, f, (refl, refl), refl), refl);
+      from = (Over (Done 1 [] [] [] Cpp), (e, f, (refl, refl), refl), refl);
     }
 
 -- where a job stops for want of memory
@@ -298,8 +290,7 @@ prepend j at c a acts next (inl p) =
       place = p.place;
       reach = (c, next, p.reach);
       goes = p.goes;
-      is =
-          ap (λ (more : List Act). a ∷ more) p.is;
+      is = ap (λ (more : List Act). a ∷ more) p.is;
     }
 prepend j at c a acts next (inr p) =
     inr record {
@@ -309,8 +300,7 @@ prepend j at c a acts next (inr p) =
       note = p.note;
       tried = p.tried;
       x = p.x;
-      reach =
-          (c, next, p.reach);
+      reach = (c, next, p.reach);
       remote = p.remote;
       begun = p.begun;
       is = ap (λ (more : List Act). a ∷ more) p.is;

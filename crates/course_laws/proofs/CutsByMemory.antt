@@ -61,8 +61,7 @@ stops j (Met GivesLocal ∷ acts) LentInPlace fine (c, next, from) =
             rest = [];
             end = Failed Station;
             whole = λ k. cc;
-            from =
-                (Over (Failed Station), inl refl, refl);
+            from = (Over (Failed Station), inl refl, refl);
           } refl e from
     ]
 stops j (Met GivesLocal ∷ acts) (RanInPlace r) fine (c, next, from) =
@@ -71,11 +70,9 @@ stops j (Met GivesLocal ∷ acts) (RanInPlace r) fine (c, next, from) =
       | inr e ↦ gave-local j (RanInPlace r) c acts record {
         next = Met GivesLocal;
         rest = [];
-        end =
-            Done r.status [] r.err r.out InPlace;
+        end = Done r.status [] r.err r.out InPlace;
         whole = λ k. cc;
-        from =
-            (Over (Done r.status [] r.err r.out InPlace), inl refl, refl);
+        from = (Over (Done r.status [] r.err r.out InPlace), inl refl, refl);
       } refl e from
     ]
 stops j [] (Send source note tried) fine h = here j (Send source note tried) [] (goes-send j source note tried) refl
@@ -151,8 +148,7 @@ stops j (Met (Gives k) ∷ acts) (RanThere host note r) fine (c, next, from) =
             next = Met (Gives host);
             rest = f.acts;
             end = f.end;
-            whole =
-                f.whole;
+            whole = f.whole;
             from = (Finish Here note (outcome_of r), (refl, inl refl), f.from);
           } refl next.0 e from
     ]
@@ -169,8 +165,7 @@ stops j (Met GivesLocal ∷ acts) (LentHere source note) fine (c, next, from) =
             next = Met GivesLocal;
             rest = [];
             end = Failed Station;
-            whole =
-                λ k. cc;
+            whole = λ k. cc;
             from = (Over (Failed Station), inl refl, refl);
           } refl e from
     ]
@@ -184,20 +179,17 @@ stops j (Met GivesLocal ∷ acts) (RanHere note r) fine (c, next, from) =
             rest = f.acts;
             end = f.end;
             whole = f.whole;
-            from =
-                (Finish Here note (outcome_of r), inl refl, f.from);
+            from = (Finish Here note (outcome_of r), inl refl, f.from);
           } refl e from
     ]
 stops j [] (Finish by note o) fine h =
     elim h [
       | inl z ↦ here j (Finish by note o) [] record {
         next = Did (put (record { path = output_name j; bytes = o.object }));
-        rest =
-            [];
+        rest = [];
         end = Done 0 note o.err o.out by;
         whole = λ k. cc;
-        from =
-            (Over (Done 0 note o.err o.out by), (z.0, refl, refl, refl), refl);
+        from = (Over (Done 0 note o.err o.out by), (z.0, refl, refl, refl), refl);
       } refl
       | inr d ↦ let e = d.1 in cc
     ]

@@ -210,8 +210,7 @@ ran-now j acts source x h is =
       source = source;
       source_is = more-source acts (Did (ran x)) source h;
       run = x;
-      among =
-          among-last acts (Did (ran x));
+      among = among-last acts (Did (ran x));
       is_run = is;
       left = refl;
     }
@@ -299,8 +298,7 @@ put-here j before x rest end (Finish by note o) k (c, next, from) =
       compiled = k.compiled;
       status = next.0;
       object = next.2;
-      done =
-          (note, by, ended.1);
+      done = (note, by, ended.1);
     }
 put-here j before x rest end Start k (c, next, from) = absurd next
 put-here j before x rest end LentInPlace k (c, next, from) = absurd next

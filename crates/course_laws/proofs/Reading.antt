@@ -32,8 +32,7 @@ pub longer : (acts : List Act) (es : Entries) → Longer es (added es acts)
 longer [] es = record {
   runs = begins-itself es.runs;
   fetches = begins-itself es.fetches;
-  exchanges =
-      begins-itself es.exchanges;
+  exchanges = begins-itself es.exchanges;
   puts = begins-itself es.puts;
 }
 longer (Did (ran x) ∷ acts) es =
@@ -50,8 +49,7 @@ longer (Did (exchanged x) ∷ acts) es =
     record {
       runs = l.runs;
       fetches = l.fetches;
-      exchanges =
-          begins-more es.exchanges (added then acts).exchanges x l.exchanges;
+      exchanges = begins-more es.exchanges (added then acts).exchanges x l.exchanges;
       puts = l.puts;
     }
 longer (Did (put x) ∷ acts) es =
@@ -95,8 +93,7 @@ reading at es (Did (exchanged x) ∷ acts) c =
       runs = c.runs;
       fetches = c.fetches;
       exchanges = length_push es.exchanges x ∙ ap (λ n. n + 1) c.exchanges;
-      puts =
-          c.puts;
+      puts = c.puts;
     } in
     ((x, get-there es.exchanges (added then acts).exchanges x at.exchanges c.exchanges l.exchanges, refl), reading next then acts counts)
 reading at es (Did (put x) ∷ acts) c =

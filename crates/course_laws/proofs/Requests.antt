@@ -47,8 +47,7 @@ fits-or-not words source =
               | inl fits ↦ inl record {
                 some = some;
                 count = count;
-                words_fit =
-                    record { each = each; together = together };
+                words_fit = record { each = each; together = together };
                 source_fits = fits;
               }
             ]

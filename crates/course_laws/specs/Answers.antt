@@ -23,9 +23,8 @@ AllGiven peers [] = Unit {0}
 AllGiven peers (Did (exchanged x) ∷ acts) = (x.dialed ≡ true → peers x.sent x.given) × AllGiven peers acts
 AllGiven peers (act ∷ acts) = AllGiven peers acts
 
--- Peers are fully honest to a job: where they were sent its own request, and begin what they give with an outcome of any status, it
--- is one that a
--- compiler may answer. Of other requests nothing is asked.
+-- Peers are fully honest to a job: where they were sent its own request, and begin what they give with an outcome of any status, it is
+-- one that a compiler may answer. Of other requests nothing is asked.
 abbrev pub IsFullyHonestTo : Peers → Programs → Job → Type 0
 IsFullyHonestTo peers programs j = (source sent given : List ℕ) (o : Outcome) (used : ℕ)
     → peers sent given → SpellsRequest sent (request_for j source) → BeginsReply given used o → Compiles programs (request_for j source) o
@@ -86,8 +85,7 @@ EndAnswerLaw peers programs = (j : Job) (acts : List Act) (end : End)
     → AreHonestFor peers programs j → AllGiven peers acts → AllRan programs acts → Course j acts end → IsAnswered programs j acts end
 
 -- Where the exchanges are told and a host's failure is compiled here once more over honest peers, or over peers fully honest to the
--- job: a job that
--- was compiled ends with an outcome that a compiler may answer.
+-- job: a job that was compiled ends with an outcome that a compiler may answer.
 abbrev pub AnswersBy : Peers → Programs → KitView → Job → List Act → End → Type 0
 AnswersBy peers programs kit job acts end = IsTrue kit.dialer.exchanges.known → AreHonestFor peers programs job
     → IsAnswered programs job acts end

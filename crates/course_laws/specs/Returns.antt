@@ -52,9 +52,8 @@ asks_once (Takes host ∷ events) = not (finds_down events) && asks_once events
 asks_once (GivesBad host until ∷ events) = false
 asks_once (e ∷ events) = asks_once events
 
--- What a job does and how it ends where none of its exchanges broke: it leaves no host alone, and finds hosts down, if at all,
--- before it took
--- one; and where it didn't find them down, no host is the cause of its end, whether fallback is on or off.
+-- What a job does and how it ends where none of its exchanges broke: it leaves no host alone, and finds hosts down, if at all, before
+-- it took one; and where it didn't find them down, no host is the cause of its end, whether fallback is on or off.
 pub record IsUnbroken (acts : List Act) (end : End) : Type 0 where
   pub asks : asks_once (slots_of acts) ≡ true
   pub own : finds_down (slots_of acts) ≡ false → is_own_end end ≡ true

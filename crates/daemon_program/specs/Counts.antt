@@ -39,8 +39,7 @@ AreShort [] = Unit {0}
 AreShort (row ∷ rows) = (length row.program < 4294967296) × AreShort rows
 
 -- Each answer of a compile was a hit or a miss, and each new run of the station a miss; where neither the station failed nor memory was
--- wanting,
--- each miss was a run.
+-- wanting, each miss was a run.
 pub record AreCounted {S : Type 0} (shows : S → StationView) (before after : S) (entries : List Entry) (stats : Stats) : Type 0 where
   pub answers : compiled_in entries ≤ stats.hits + stats.misses
   pub runs : List Run

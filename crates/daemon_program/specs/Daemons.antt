@@ -49,10 +49,9 @@ abbrev pub doors_used : {K : Type 0} → Options → List K → ℕ
 doors_used options doors = min (unwrap_or options.jobs 4) (length doors)
 
 module _ {A S : Type 0} (door : A → DoorView) (station : S → StationView) (ran : S → List Word → List ℕ → Ran → Type 0) where
-  -- Memory was wanting before anything was served. Or the doors were served, the others are as before, and the log was printed;
-  -- where each door's station stood beside a book, it told no runs, each book's counts are those of its door's connections and of its
-  -- station's own
-  -- new runs, and the lines of the books were printed behind the log.
+  -- Memory was wanting before anything was served. Or the doors were served, the others are as before, and the log was printed; where
+  -- each door's station stood beside a book, it told no runs, each book's counts are those of its door's connections and of its
+  -- station's own new runs, and the lines of the books were printed behind the log.
   pub data Serves (words : List (List ℕ)) (options : Options) (olds news : List (DoorKit A S)) (old new : SinkView)
       (answer : ℕ) : Type 0 where
     unserved : news ≡ olds → WantsAfter [] old new answer → Serves words options olds news old new answer

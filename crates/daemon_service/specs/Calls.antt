@@ -27,8 +27,7 @@ IsUncompiled (Answered status) = IsRefused status
 IsUncompiled other = Unit {0}
 
 -- The answer is by a run that ended so: with a status it is that of the run, and any other than a fault of the station or want of
--- memory comes of a run
--- that came to something.
+-- memory comes of a run that came to something.
 abbrev pub IsEnded : Result Ran StationFault → Served → Type 0
 IsEnded ended (Answered status) = (ran : Ran) × (ended ≡ Ok ran) × (ran.status ≡ status)
 IsEnded ended served.StationFault = Unit {0}

@@ -23,7 +23,7 @@ const UNKNOWN_COMPILER: u32 = 110 * 256;
 /// The status of a reply to a request that isn't a compile of one source: exit code 111.
 const NOT_ONE_SOURCE: u32 = 111 * 256;
 /// The most bytes of a compiler's name that a message has.
-const NAME_MAX: usize = 64;
+const SHOWN_NAME_MAX: usize = 64;
 
 fn first_word(words: &Words) -> &[u8]
     ensures { result.now ≡ replies.first_word words.now }
@@ -38,8 +38,8 @@ fn first_word(words: &Words) -> &[u8]
 fn front_of(name: &[u8]) -> &[u8]
     ensures { result.now ≡ take replies.shown_name_max name.now }
 {
-    if NAME_MAX < name.len() {
-        &name[..NAME_MAX]
+    if SHOWN_NAME_MAX < name.len() {
+        &name[..SHOWN_NAME_MAX]
     } else {
         name
     }

@@ -1,7 +1,7 @@
 //! The service over links and stations that fail.
 
 use crate::scripts::{REPLY, REQUEST};
-use crate::services::{Course, Left, NOTHING, OBJECT, PLAIN, expect, station};
+use crate::services::{Course, Left, NOTHING, OBJECT, PLAIN, expect};
 use daemon_service::Served;
 use std::alloc::Global;
 use std::process::Abort;

@@ -40,8 +40,7 @@ numbered_more : (door number : ℕ) (cs : List Connection) (c : Connection)
     → numbered door number (cs ++ c ∷ []) ≡ numbered door number cs ++ record {
       door = door;
       number = number + length cs;
-      what =
-          c.what;
+      what = c.what;
     } ∷ []
 numbered_more door number [] c =
     let same : number ≡ number + 0 = omega arith in

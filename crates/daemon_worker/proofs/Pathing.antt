@@ -28,8 +28,7 @@ module _ {S : Type 0} (goes : S → List Word → List ℕ → Bounds → Result
     entries = so_far.entries ++ entry ∷ [];
     is = record {
       door_is = All-push (λ e. e.door ≡ door) so_far.entries entry so_far.is.door_is is;
-      path =
-          path_more before mid after so_far.entries entry so_far.is.path calls;
+      path = path_more before mid after so_far.entries entry so_far.is.path calls;
     };
     grew = added ∙ ap (λ l. l ++ entry ∷ []) so_far.grew ∙ append_assoc log_before so_far.entries (entry ∷ []);
   }

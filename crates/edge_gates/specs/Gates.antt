@@ -47,6 +47,10 @@ looks_of link = (user_of link).looks
 abbrev pub dialer_gate : {R : Type 0} → GateDialer R → TableId
 dialer_gate dialer = name_of dialer.gate
 
+-- what a dialer knows as a user of its gate
+abbrev pub dialer_user : {R : Type 0} → GateDialer R → GateView
+dialer_user dialer = view_of dialer.gate
+
 -- how many bytes of its reply a link gave
 abbrev pub given_of : {R : Type 0} → GateLink R → ℕ
 given_of link = link.at
@@ -78,7 +82,7 @@ any_exchange sent given = ⊤
 abbrev pub gate_station_view : {R : Type 0} → GateStation R → StationView
 gate_station_view station = record { runs = untold []; faults = station.faults; overruns = 0 }
 
--- What a station's run does: it waits for a run of the other one, the other one waits for it, or it has to be alone
+-- what a station's run does: it waits for a run of the other one, the other one waits for it, or it has to be alone
 pub data Role : Type 0 where
   Waiting : Role
   Awaited : Role

@@ -112,14 +112,16 @@ pub struct GateDialer<'a, R> {
 
 impl<'a, R: Wait> GateDialer<'a, R> {
     ghost use Rattle.std.specs.Prelude.{◌≡◌, IfOk};
-    ghost use Rattle.edge_gates.specs.Gates.{dialer_gate};
+    ghost use Rattle.edge_gates.specs.GateRule.{newcomer};
+    ghost use Rattle.edge_gates.specs.Gates.{dialer_gate, dialer_user};
 
-    /// Two dialers with one gate. It alone takes memory beside `dial`.
+    /// Two dialers with one gate, at which nobody has asked. It alone takes memory beside `dial`.
     pub fn pair(
         rt: &'a R,
         alloc: Global,
     ) -> Result<(GateDialer<'a, R>, GateDialer<'a, R>), AllocError>
-        ensures { IfOk result (λ made. dialer_gate made.0 ≡ dialer_gate made.1) }
+        ensures one { IfOk result (λ made. dialer_gate made.0 ≡ dialer_gate made.1) }
+        ensures unasked { IfOk result (λ made. (dialer_user made.0 ≡ newcomer) × (dialer_user made.1 ≡ newcomer)) }
     {
         let (first, second) = Gate::pair(rt, alloc)?;
         Ok((GateDialer { gate: first }, GateDialer { gate: second }))

@@ -26,8 +26,7 @@ dialer_state dialer = record {
   links = dialer.links.items;
   fails = dialer.calls.fails;
   made = dialer.calls.made;
-  exchanges =
-      dialer.exchanges;
+  exchanges = dialer.exchanges;
 }
 
 -- what it tells

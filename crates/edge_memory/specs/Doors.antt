@@ -29,8 +29,7 @@ door_state door = record {
   links = door.links.items;
   peers = door.peers.items;
   fails = door.calls.fails;
-  made =
-      door.calls.made;
+  made = door.calls.made;
   came = door.came;
   visits = door.visits;
 }

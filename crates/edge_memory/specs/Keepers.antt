@@ -9,7 +9,7 @@ use Rattle.edge_traits.specs.declared.faults.FetchFault.TheVariants.{Failed, Abs
 use Rattle.edge_traits.specs.Told.{told}
 use Rattle.file_map.specs.FileMaps.{Files}
 use Rattle.edge_traits.specs.FileMaps.{files_after}
-use Rattle.edge_traits.specs.Keepers.{PendingPut, KeeperView, HasLength, put_entries, fetch_entries, overruns_after}
+use Rattle.edge_traits.specs.Keepers.{PendingPut, KeeperView, HasLength, put_entries, fetch_entries, overruns_after_fetch}
 use Rattle.edge_memory.specs.declared.keeper.MemKeeper.{MemKeeper}
 use Rattle.edge_traits.specs.Calls.{names_next, one_more, failed_calls}
 
@@ -29,8 +29,7 @@ keeper_state keeper = record {
   files = keeper.files;
   fails = keeper.calls.fails;
   made = keeper.calls.made;
-  overruns =
-      keeper.overruns;
+  overruns = keeper.overruns;
   puts = keeper.puts;
   fetches = keeper.fetches;
   pending = keeper.pending;
@@ -107,6 +106,6 @@ IsFetchAnswer keeper path bound (Err Memory) = (names_next keeper.fails keeper.m
 abbrev pub after_fetch : KeeperState → List ℕ → Result (List ℕ) FetchFault → KeeperState
 after_fetch keeper path result = record keeper {
   made = one_more keeper.made;
-  overruns = overruns_after keeper.overruns result;
+  overruns = overruns_after_fetch keeper.overruns result;
   fetches = keeper.fetches ++ fetch_entries path result;
 }

@@ -77,6 +77,5 @@ abbrev pub after_recv : LinkState → Result ℕ EdgeFault → LinkState
 after_recv link result = record link {
   made = one_more link.made;
   given = link.given + count_of result;
-  ended =
-      link.ended || moved_none result;
+  ended = link.ended || moved_none result;
 }

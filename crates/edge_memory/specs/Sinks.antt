@@ -18,8 +18,7 @@ pub record SinkState : Type 0 where
 abbrev pub sink_state : MemSink → SinkState
 sink_state sink = record {
   moves = record { fails = sink.calls.fails; zeros = sink.zeros; most = sink.most };
-  made =
-      sink.calls.made;
+  made = sink.calls.made;
   written = sink.written;
   stopped = sink.stopped;
 }

@@ -24,8 +24,7 @@ source_state source = record {
   fails = source.calls.fails;
   most = source.most;
   made = source.calls.made;
-  given =
-      source.at;
+  given = source.at;
   ended = source.ended;
 }
 

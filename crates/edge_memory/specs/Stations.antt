@@ -10,7 +10,7 @@ use Rattle.edge_traits.specs.declared.faults.Stream.TheVariants.{Out, Err as Err
 use Rattle.edge_traits.specs.declared.faults.StationFault.{StationFault}
 use Rattle.edge_traits.specs.declared.faults.StationFault.TheVariants.{Failed, TooMuch, Memory}
 use Rattle.edge_traits.specs.Told.{told}
-use Rattle.edge_traits.specs.Stations.{StationView, has_output, run_entries, overruns_after}
+use Rattle.edge_traits.specs.Stations.{StationView, has_output, run_entries, overruns_after_run}
 use Rattle.edge_memory.specs.declared.station.MemStation.{MemStation}
 use Rattle.edge_traits.specs.Calls.{names_next, one_more, failed_calls}
 use Rattle.edge_memory.specs.Scripts.{first_or}
@@ -29,8 +29,7 @@ station_state station = record {
   rans = station.rans.items;
   fails = station.calls.fails;
   made = station.calls.made;
-  overruns =
-      station.overruns;
+  overruns = station.overruns;
   runs = station.runs;
 }
 
@@ -75,6 +74,6 @@ abbrev pub after_run : StationState → List Word → List ℕ → Result Ran St
 after_run station words input result = record station {
   made = one_more station.made;
   rans = rans_after station.rans result;
-  overruns = overruns_after station.overruns result;
+  overruns = overruns_after_run station.overruns result;
   runs = station.runs ++ run_entries words input result;
 }

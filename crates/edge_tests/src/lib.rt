@@ -1,4 +1,5 @@
-//! Tests of the devices: those in memory by their scripts, and those of the system against a peer, a file or a child of their own.
+//! Tests of the devices: those in memory by their scripts, those for two threads, and those of the system against a peer, a file or
+//! a child of their own.
 #![tactic(auto)]
 
 #[cfg(test)]

@@ -23,8 +23,7 @@ hung link = record {
   port = link.origin.port;
   dialed = true;
   sent = link.sent.value;
-  given =
-      link.given.value;
+  given = link.given.value;
   ended = link.ended;
   stopped = link.stopped;
   faults = link.faults;

@@ -88,9 +88,9 @@ fetch_entries path (Ok bytes) = record { path = path; bytes = bytes } ∷ []
 fetch_entries path (Err fault) = []
 
 -- the overruns after a fetch or a load: one more for a file that isn't there or is above the bound, counted up to the greatest u64
-abbrev pub overruns_after : ℕ → Result (List ℕ) FetchFault → ℕ
-overruns_after overruns (Ok bytes) = overruns
-overruns_after overruns (Err Failed) = overruns
-overruns_after overruns (Err Absent) = one_more overruns
-overruns_after overruns (Err (TooMuch bytes)) = one_more overruns
-overruns_after overruns (Err Memory) = overruns
+abbrev pub overruns_after_fetch : ℕ → Result (List ℕ) FetchFault → ℕ
+overruns_after_fetch overruns (Ok bytes) = overruns
+overruns_after_fetch overruns (Err Failed) = overruns
+overruns_after_fetch overruns (Err Absent) = one_more overruns
+overruns_after_fetch overruns (Err (TooMuch bytes)) = one_more overruns
+overruns_after_fetch overruns (Err Memory) = overruns

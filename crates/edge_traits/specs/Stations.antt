@@ -68,8 +68,8 @@ RunFault bounds old new (TooMuch stream bytes) = IsTooMuch bounds stream bytes o
 RunFault bounds old new Memory = StationStill old new
 
 -- the overruns after a run: one more for a run that gave too much, counted up to the greatest u64
-abbrev pub overruns_after : ℕ → Result Ran StationFault → ℕ
-overruns_after overruns (Ok ran) = overruns
-overruns_after overruns (Err Failed) = overruns
-overruns_after overruns (Err (TooMuch stream bytes)) = one_more overruns
-overruns_after overruns (Err Memory) = overruns
+abbrev pub overruns_after_run : ℕ → Result Ran StationFault → ℕ
+overruns_after_run overruns (Ok ran) = overruns
+overruns_after_run overruns (Err Failed) = overruns
+overruns_after_run overruns (Err (TooMuch stream bytes)) = one_more overruns
+overruns_after_run overruns (Err Memory) = overruns

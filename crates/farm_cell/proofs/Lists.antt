@@ -50,8 +50,7 @@ pub are-all : (c : Cell 16 34) (ps : List Pass) → length ps ≡ callers_of c �
     → AreAllOf c ps
 are-all c ps len all = record {
   len = len;
-  each =
-      λ k d below. subst (λ m. IsNumbered c m (get_or ps k d)) (omega arith) (are-each c 0 ps all k d below);
+  each = λ k d below. subst (λ m. IsNumbered c m (get_or ps k d)) (omega arith) (are-each c 0 ps all k d below);
 }
 
 pub are-at : (c : Cell 16 34) (k : ℕ) (ps : List Pass) → ((i : ℕ) (d : Pass) → i < length ps → IsNumbered c (k + i) (get_or ps i d))

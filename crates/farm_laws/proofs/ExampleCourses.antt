@@ -77,8 +77,7 @@ spelled =
       err_fits = omega arith;
       out_fits = omega arith;
       object_fits = omega arith;
-      failure =
-          λ failed. absurd (failed refl);
+      failure = λ failed. absurd (failed refl);
     } (omega arith))
 
 whole : IsWholeWith (jobs 0) answered (codes "int a;") 0 outcome

@@ -166,8 +166,7 @@ workers-run h l jobs n done calls of legal worked did =
       reported = reported;
       courses = courses;
       agrees = agrees;
-      run =
-          weave-law h l jobs r calls of courses agrees;
+      run = weave-law h l jobs r calls of courses agrees;
       back = all-back h l jobs r calls of courses agrees;
     }
   where

@@ -79,22 +79,19 @@ asks-more past events (Takes host) asks not = let parts = not-left (finds_down e
 asks-more past events (Gives host) asks not =
     record {
       once = asks.once;
-      first =
-          elim asks.first [ inl none ↦ inl (λ k. took-append past (Gives host) k refl (none k)) | inr later ↦ inr later ];
+      first = elim asks.first [ inl none ↦ inl (λ k. took-append past (Gives host) k refl (none k)) | inr later ↦ inr later ];
     }
 asks-more past events (GivesBad host until) asks not = absurd (true≢false (sym asks.once))
 asks-more past events FindsDown asks not = absurd (true≢false not)
 asks-more past events TakesLocal asks not =
     record {
       once = asks.once;
-      first =
-          elim asks.first [ inl none ↦ inl (λ k. took-append past TakesLocal k refl (none k)) | inr later ↦ inr later ];
+      first = elim asks.first [ inl none ↦ inl (λ k. took-append past TakesLocal k refl (none k)) | inr later ↦ inr later ];
     }
 asks-more past events GivesLocal asks not =
     record {
       once = asks.once;
-      first =
-          elim asks.first [ inl none ↦ inl (λ k. took-append past GivesLocal k refl (none k)) | inr later ↦ inr later ];
+      first = elim asks.first [ inl none ↦ inl (λ k. took-append past GivesLocal k refl (none k)) | inr later ↦ inr later ];
     }
 
 -- a call that leaves no host alone leaves none left alone

@@ -35,16 +35,14 @@ abbrev pub preprocessed : Run
 preprocessed = record {
   words = Text (codes "cc") ∷ Text (codes "-E") ∷ Text (codes "a.c") ∷ [];
   input = [];
-  ran =
-      record { status = 0; out = codes "int a;"; err = []; object = [] };
+  ran = record { status = 0; out = codes "int a;"; err = []; object = [] };
 }
 
 abbrev pub not_preprocessed : Run
 not_preprocessed = record {
   words = Text (codes "cc") ∷ Text (codes "-E") ∷ Text (codes "b.c") ∷ [];
   input = [];
-  ran =
-      record { status = 256; out = []; err = codes "b.c: none"; object = [] };
+  ran = record { status = 256; out = []; err = codes "b.c: none"; object = [] };
 }
 
 -- the commands of the jobs, of which the first two are the same
@@ -59,8 +57,7 @@ abbrev pub config : JobConfig
 config = record {
   hosts = record { list = host ∷ []; local_slots = 1; local_cpp = 1; randomize = false };
   fallback = false;
-  retry =
-      false;
+  retry = false;
   period = 60;
   tries = 1;
 }

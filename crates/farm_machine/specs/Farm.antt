@@ -21,9 +21,8 @@ use Rattle.farm_machine.specs.Weave.{Reports, Agrees, weave}
 abbrev pub is_as_wanted : List SlotEvent → Mask → ℕ → Bool
 is_as_wanted past mask host = cond (took host past) (not (in_mask mask host)) (in_mask mask host)
 
--- Of the entries a take has in its mask all but those that the job took before. With one try that is all of them. What a mask says
--- of places
--- behind the last entry doesn't matter.
+-- Of the entries a take has in its mask all but those that the job took before. With one try that is all of them. What a mask says of
+-- places behind the last entry doesn't matter.
 abbrev pub wanted : {h : ℕ} → Limits h → List SlotEvent → Mask → Bool
 wanted l past mask = list_all (is_as_wanted past mask) (entries l)
 

@@ -46,9 +46,8 @@ IsWaitedFor HostSlot x = (x ≡ FindsDown) ⊎ ((host : ℕ) × (x ≡ Takes hos
 IsWaitedFor LocalSlot x = x ≡ TakesLocal
 
 -- The call of this worker follows: a draw that answers none; a draw that answers a job which this worker's report is of; the next slot
--- event of the job that this worker's latest draw answered; or a refused take before that event, where it is waited for. A take has
--- the mask
--- that is wanted after the job's slot events so far.
+-- event of the job that this worker's latest draw answered; or a refused take before that event, where it is waited for. A take has the
+-- mask that is wanted after the job's slot events so far.
 abbrev pub Follows : Reports → Wants → Progress → ℕ → JobCall → Type 0
 Follows r wants p worker (Draws None) = Unit {0}
 Follows r wants p worker (Draws (Some j)) = r.worker j ≡ worker

@@ -63,8 +63,7 @@ abbrev pub HasListFault : SourceView → SourceView → ℕ → JobFault → Typ
 HasListFault = HasFaultOf JobFaultStands
 
 -- Memory was wanting before the first job began: while the input was read or after that, and no more of it was read than the limit.
--- None was run, and
--- nothing but the notice was printed. No fault of the input is told so.
+-- None was run, and nothing but the notice was printed. No fault of the input is told so.
 pub record Wanted {K : Type 0} (old new : World K) (answer : ℕ) : Type 0 where
   pub read : HasReadSome input_limit old.source new.source
   pub still : Still old.source.faults new.source.faults

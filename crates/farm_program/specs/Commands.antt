@@ -23,10 +23,9 @@ use Rattle.farm_program.specs.WatchBuilds.{Watches}
 use Rattle.farm_program.specs.Rehearsed.{DidRehearse}
 use Rattle.farm_program.specs.Settings.{IsConfigOf, build_config}
 
--- A command that runs jobs, by the back-off period of the environment and by the text of a host list. Both are right, and then this
--- is done;
--- or the period isn't; or the period is, and the list has this fault; or memory was wanting while the list was read. What the environment
--- and the text are tells the first three apart; the last is free.
+-- A command that runs jobs, by the back-off period of the environment and by the text of a host list. Both are right, and then this is
+-- done; or the period isn't; or the period is, and the list has this fault; or memory was wanting while the list was read. What the
+-- environment and the text are tells the first three apart; the last is free.
 pub data OnHosts {K : Type 0} (text : List ℕ) (variables : List (List ℕ × List ℕ)) (Rest : Hosts → ℕ → Type 0) (old new : World K)
     (answer : ℕ) : Type 0 where
   on_hosts : {hosts : Hosts} {period : ℕ} → PeriodOf variables period → HostListOf text hosts → Rest hosts period

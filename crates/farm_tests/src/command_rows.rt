@@ -1,7 +1,5 @@
 //! Rows of words, of environments and of what farm answers to them.
 
-use crate::devices::run;
-
 pub(crate) const DONE: &str = "1 remote H:3632 stat 00000000\ntotal 1 ok 1\n";
 
 const HOSTS: &str = "red:4000/2\nblue:4001/3\n--localslots=4\n--localslots_cpp=8\n";
@@ -240,5 +238,3 @@ pub(crate) const BUILDS: &[Row] = &[
         err: "",
     },
 ];
-
-// Builds that compile here: the compile gives an empty object.

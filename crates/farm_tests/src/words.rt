@@ -8,6 +8,7 @@ use std::sync::Wait;
 use std::test::Fail;
 use std::thread::Threads;
 
+// Builds that compile here: the compile gives an empty object.
 const HERE: &[(&[&str], &str)] = &[
     (&["build"], "1 here stat 00000000\ntotal 1 ok 1\n"),
     (

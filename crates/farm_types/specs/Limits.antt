@@ -105,6 +105,6 @@ cache_max = 128
 abbrev pub lines_max : ℕ
 lines_max = 100
 
--- the room for the bytes that one receive or one read of a file brings
+-- the most bytes that one receive, or one read of what a program left, has room for
 abbrev pub piece_max : ℕ
 piece_max = 65536

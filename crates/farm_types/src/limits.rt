@@ -52,5 +52,5 @@ pub const COMPILERS_MAX: usize = 64;
 pub const CACHE_MAX: u32 = 128;
 /// The most lines that tell of a build while it goes on.
 pub const LINES_MAX: u32 = 100;
-/// The room for the bytes that one receive or one read of a file brings.
+/// The most bytes that one receive, or one read of what a program left, has room for.
 pub const PIECE_MAX: usize = 65_536;

@@ -18,7 +18,7 @@ tries_max = hosts_max
 abbrev pub tries_default : ℕ
 tries_default = 1
 
--- these lines where no number is given
+-- the lines of a watched build where no number is given
 abbrev pub lines_default : ℕ
 lines_default = 10
 

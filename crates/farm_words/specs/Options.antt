@@ -30,8 +30,7 @@ given_in options = record {
   hosts = option_copied options.hosts;
   workers = options.workers;
   tries = options.tries;
-  lines =
-      options.lines;
+  lines = options.lines;
   fallback = options.fallback;
   retry = options.retry;
 }

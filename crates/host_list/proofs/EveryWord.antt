@@ -53,8 +53,7 @@ span (c ∷ cs) = ⊎_elim
       front = c ∷ later.front;
       rest = later.rest;
       split = ap (λ t. c ∷ t) later.split;
-      plain =
-          All-cons plain_byte c later.front (rw no refl) later.plain;
+      plain = All-cons plain_byte c later.front (rw no refl) later.plain;
       ends = later.ends;
     })
     (cases_Bool (is_separator c))

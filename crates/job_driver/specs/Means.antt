@@ -47,9 +47,8 @@ pub record RunMeans {K : Type 0} (d : Devices K) (l : Limits 16) (jobs : ℕ →
   pub honest_ends : (j : ℕ) (other : K) → j < l.jobs
       → AnswersBy (d.peers (slice_index_or old (read.worker j) other)) (d.programs (slice_index_or old (read.worker j) other))
       (d.shows (slice_index_or new (read.worker j) other)) (jobs j) (read.acts j) (read.ends j)
-  -- With fallback on a job whose worker's station and keeper did nothing wrong is done, or memory was wanting, whatever dialers,
-  -- links and hosts do. So
-  -- it is with fallback off where there is a host and no exchange of the run broke: then no host is ever left alone.
+  -- With fallback on a job whose worker's station and keeper did nothing wrong is done, or memory was wanting, whatever dialers, links
+  -- and hosts do. So it is with fallback off where there is a host and no exchange of the run broke: then no host is ever left alone.
   pub returns : (j : ℕ) (other : K) → j < l.jobs → (jobs j).config.fallback ≡ true
       → IsCalm (d.shows (slice_index_or old (read.worker j) other)) (d.shows (slice_index_or new (read.worker j) other))
       → is_done_or_wanted (read.ends j) ≡ true

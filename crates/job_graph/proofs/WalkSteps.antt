@@ -58,8 +58,7 @@ step_pushed needs marks p s ns at job w same low known here is fresh there =
     let long : length ns ≡ length (needs_at needs s.job) = ap length same in
     let has : HasSeen needs marks t = record {
       within = omega arith;
-      known =
-          all_known needs marks s ns at same (path_seen needs marks p s w) low known;
+      known = all_known needs marks s ns at same (path_seen needs marks p s w) low known;
     } in
     let on : Walk needs marks (p ++ t ∷ []) = walk_on needs marks p s t w refl has in
     let un : IsKnown (mark_at marks job) → ⊥ = fresh_unknown (mark_at marks job) fresh in

@@ -95,8 +95,7 @@ every_rest [] (marked_double quoted) h =
         right = h;
         end = backslash ∷ [];
         last = inr refl;
-        spelled =
-            ap (λ t. double_quote ∷ t) (append-nil (flat_map quoted_text quoted ++ backslash ∷ []));
+        spelled = ap (λ t. double_quote ∷ t) (append-nil (flat_map quoted_text quoted ++ backslash ∷ []));
       },
     )))
 every_rest (c ∷ cs) outside h =

@@ -76,8 +76,7 @@ next_line text from end low high plain feed = by (drop end text) refl
         record {
           more = lines_of (drop (end + 1) text);
           first = lines_more text from end low lt plain (feed lt);
-          left =
-              inl (omega arith, refl);
+          left = inl (omega arith, refl);
         }
 
 -- ---- one line more

@@ -233,8 +233,7 @@ dialed_once may q host old new dialed is adds =
           λ i a. record {
             entry = a.entry;
             grew = a.grew;
-            is =
-                (a.is.0.0, record { dialed = a.is.0.1; faults = a.is.1.faults refl; stopped = a.is.1.stopped; ended = a.is.1.ended });
+            is = (a.is.0.0, record { dialed = a.is.0.1; faults = a.is.1.faults refl; stopped = a.is.1.stopped; ended = a.is.1.ended });
             may = a.may;
           }
       | false ↦ λ i a. absurd (cc)

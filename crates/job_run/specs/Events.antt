@@ -6,6 +6,14 @@ use Rattle.farm_types.specs.Limits.{hosts_max}
 abbrev pub events_max : ℕ
 events_max = 64
 
+-- the greatest place that an event can name
+abbrev pub place_max : ℕ
+place_max = 4294967295
+
+-- the greatest place at which a job may begin, so that all its events have places
+abbrev pub first_place_max : ℕ
+first_place_max = 4294967231
+
 -- a run in a local slot: the slot taken, the run, the slot given back
 abbrev pub local_events : ℕ
 local_events = 3

@@ -24,7 +24,7 @@ use Rattle.course_laws.specs.Answers.{AnswersBy}
 use Rattle.course_laws.specs.Returns.{IsCalm, is_done_or_wanted, NoneBroke}
 use Rattle.job_run.specs.Gives.{LeavesAlone}
 use Rattle.job_run.specs.Courses.{IsJobCourse}
-use Rattle.job_run.specs.Events.{events_max}
+use Rattle.job_run.specs.Events.{events_max, first_place_max}
 use Rattle.job_run.specs.Seen.{IsAskable}
 use Rattle.job_run.specs.Stands.{KeeperStands, FetchEnds}
 
@@ -73,10 +73,10 @@ pub record JobRan {h : ℕ} (peers : Peers) (programs : Programs) (j : Job) (l :
 
 -- each next place is so small that a job's events can't pass the greatest
 pub record AreSmall (at : Places) : Type 0 where
-  pub runs : at.runs ≤ 4294967231
-  pub fetches : at.fetches ≤ 4294967231
-  pub exchanges : at.exchanges ≤ 4294967231
-  pub puts : at.puts ≤ 4294967231
+  pub runs : at.runs ≤ first_place_max
+  pub fetches : at.fetches ≤ first_place_max
+  pub exchanges : at.exchanges ≤ first_place_max
+  pub puts : at.puts ≤ first_place_max
 
 -- The command has a word, the configuration's hosts may be asked, and the slots are theirs.
 pub record CanRun {h : ℕ} (words : List (List ℕ)) (config : JobConfig) (l : Limits h) : Type 0 where

@@ -18,6 +18,7 @@ use Rattle.farm_machine.specs.Jobs.{Job, source_name}
 use Rattle.farm_machine.specs.Moments.{AreMoments}
 use Rattle.farm_machine.specs.Numbered.{numbered, advanced, untimed}
 use Rattle.farm_machine.specs.Own.{Serves}
+use Rattle.job_run.specs.Events.{place_max}
 use Rattle.job_run.specs.Gives.{LeavesAlone}
 use Rattle.job_run.specs.Strict.{StrictReach}
 use Rattle.job_run.specs.Stands.{KeepsStill, KeeperStands, FetchEnds}
@@ -80,10 +81,10 @@ pub record HasEnded {h : ℕ} (j : Job) (l : Limits h) (caller number : ℕ) (ol
 
 -- the next places, with room for so many more entries
 pub record HasPlaces (at : Places) (left : ℕ) : Type 0 where
-  pub runs : at.runs + left ≤ 4294967295
-  pub fetches : at.fetches + left ≤ 4294967295
-  pub exchanges : at.exchanges + left ≤ 4294967295
-  pub puts : at.puts + left ≤ 4294967295
+  pub runs : at.runs + left ≤ place_max
+  pub fetches : at.fetches + left ≤ place_max
+  pub exchanges : at.exchanges + left ≤ place_max
+  pub puts : at.puts + left ≤ place_max
 
 -- there is room for as many calls as for events, where a caller is alone
 abbrev pub HasSpare : Bool → ℕ → ℕ → Type 0

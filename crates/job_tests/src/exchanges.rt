@@ -1,4 +1,4 @@
-use crate::same::{holds, same, same_bytes};
+use crate::same::{same, same_bytes};
 use edge_memory::{LinkScript, LinkScripts, MemDialer, MemKeeper, Moves};
 use edge_traits::{CallNumbers, Cause, FetchFault, FileList, Keeper, is_staged};
 use farm_types::{Bytes, Host, HostName, Outcome, Request, Words};

@@ -1,9 +1,7 @@
 //! What becomes of the jobs of rows.
 
 use crate::same::{same, same_bytes};
-use crate::scripted::{
-    Ended, Passed, Row, Scripted, devices, dialer, done, files, host, kit, station, words,
-};
+use crate::scripted::{Ended, Passed, Row, Scripted, done, kit, station};
 use edge_memory::{MemDialer, MemStation};
 use edge_traits::{Exchange, Keeper, Kit, Run, is_staged};
 use farm_machine::{End, Event, Report};

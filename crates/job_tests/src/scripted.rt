@@ -8,7 +8,6 @@ ghost use Rattle.slot_table.specs.Grants.{cost};
 ghost use Rattle.farm_machine.specs.Jobs.{AreLimitsOf};
 ghost use Rattle.job_run.specs.Events.{events_max};
 
-use crate::same::same;
 use crate::slots::slots_of;
 use edge_memory::{
     LinkScript, LinkScripts, MemClock, MemDialer, MemKeeper, MemStation, Moments, Moves, RanList,

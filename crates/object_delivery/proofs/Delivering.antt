@@ -38,8 +38,7 @@ changes-failed old new path fault failed = elim failed [
   | inl dropped ↦ changes-dropped old new path fault dropped
   | inr untouched ↦ record {
     known = λ k. subst (λ v. IsTrue v.files.known) untouched.same k;
-    others =
-        λ k. ap (λ v. remove v.files.value (staged path)) untouched.same;
+    others = λ k. ap (λ v. remove v.files.value (staged path)) untouched.same;
   }
 ]
 

@@ -22,8 +22,7 @@ as_keeper view = record {
   puts = untold [];
   fetches = untold [];
   pending = None;
-  faults =
-      view.faults;
+  faults = view.faults;
   overruns = view.overruns;
 }
 

@@ -8,7 +8,7 @@ use Rattle.edge_traits.specs.Told.{told}
 use Rattle.edge_traits.specs.Calls.{names_next, one_more, failed_calls}
 use Rattle.file_map.specs.FileMaps.{Files}
 use Rattle.edge_traits.specs.FileMaps.{files_after}
-use Rattle.edge_traits.specs.Keepers.{HasLength, overruns_after}
+use Rattle.edge_traits.specs.Keepers.{HasLength, overruns_after_fetch}
 use Rattle.object_delivery.specs.declared.mem_files.MemFiles.{MemFiles}
 use Rattle.object_delivery.specs.FileViews.{FilesView, appended, files_renamed, files_without}
 
@@ -27,8 +27,7 @@ files_state files = record {
   fails = files.calls.fails;
   most = files.most;
   made = files.calls.made;
-  overruns =
-      files.overruns;
+  overruns = files.overruns;
 }
 
 -- what they tell
@@ -67,4 +66,4 @@ IsLoadAnswer files name bound (Err (TooMuch bytes)) = (names_next files.fails fi
 IsLoadAnswer files name bound (Err Memory) = (names_next files.fails files.made ≡ false) × (bytes : List ℕ) × IsHeld files name bound bytes
 
 abbrev pub after_load : FilesState → Result (List ℕ) FetchFault → FilesState
-after_load files result = record files { made = one_more files.made; overruns = overruns_after files.overruns result }
+after_load files result = record files { made = one_more files.made; overruns = overruns_after_fetch files.overruns result }

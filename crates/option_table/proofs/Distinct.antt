@@ -48,13 +48,11 @@ distinct_from (r ∷ rows) apart =
     (λ k within. fails_by _ (λ same. apart zero (suc k) record {
       before = omega arith;
       within = omega arith;
-      alike =
-          (bytes_eq-Decides _ _).0 same;
+      alike = (bytes_eq-Decides _ _).0 same;
     })))))
     (distinct_from rows (λ i j alike. apart (suc i) (suc j) record {
       before = omega (arith, alike.before);
-      within =
-          omega (arith, alike.within);
+      within = omega (arith, alike.within);
       alike = alike.alike;
     }))
 

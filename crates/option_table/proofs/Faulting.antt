@@ -45,8 +45,7 @@ first_once rows i j second a b less =
       a.least i j record {
         before = less;
         within = omega (arith, b.before, b.within);
-        alike =
-            a.alike.alike ∙ sym b.alike;
+        alike = a.alike.alike ∙ sym b.alike;
       },
       b.before,
     )

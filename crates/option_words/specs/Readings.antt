@@ -25,8 +25,7 @@ StopAt table before [] behind = ⊥
 StopAt table before (word ∷ more) behind = MatchBool (follows table before word) (ValueStop table before word more behind) (behind ≡ 0)
 
 -- The words are no options of the command, and this is the place, from 0, of the first that doesn't fit: options stand in front of it,
--- one after
--- another. That of a missing word is behind the last.
+-- one after another. That of a missing word is behind the last.
 pub record BadOptionAt (table : Table) (words : List (List ℕ)) (place : ℕ) : Type 0 where
   pub items : List Item
   pub rest : List (List ℕ)

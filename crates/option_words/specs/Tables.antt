@@ -3,9 +3,8 @@ use Rattle.std.specs.Prelude.{◌≡◌, ℕ, Bool, true, false, not, ◌||◌, 
 use Rattle.option_words.specs.declared.table.Row.{Row}
 use Rattle.option_words.specs.Items.{Item, items_words, value_words, stands_in}
 
--- What is known of the option that a word names, if it names one; and whether a word may be the value of the option of this name, behind
--- these
--- words.
+-- What is known of the option that a word names, if it names one; and whether a word may be the value of the option of this name,
+-- behind these words.
 pub record Table : Type 1 where
   pub known : List ℕ → Option Row
   pub Fits : List (List ℕ) → List ℕ → List ℕ → Type 0

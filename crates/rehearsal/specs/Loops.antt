@@ -40,9 +40,8 @@ abbrev pub loop_kits : {K C : Type 0} → (K → KeeperView) → (C → ClockVie
 loop_kits keeper clock = devices (λ d. dialer_shows (dialer_state d)) station_shows keeper clock
     (λ d. DialerGives (λ s. StationRan (station_files s)) d) (λ s. StationRan (station_files s))
 
--- The put is of the object of status 0 that a run of the sample compiler leaves over these files, by the job's words and on the
--- source that the job has
--- after these acts.
+-- The put is of the object of status 0 that a run of the sample compiler leaves over these files, by the job's words and on the source
+-- that the job has after these acts.
 pub record IsCompilers (files : Files) (j : Job) (before : List Act) (x : Put) : Type 0 where
   pub source : List ℕ
   pub source_is : IsSource before source

@@ -45,9 +45,13 @@ rehearsal_hosts = record {
 abbrev pub rehearsal_config : JobConfig
 rehearsal_config = record { hosts = rehearsal_hosts; fallback = true; retry = true; period = period_default; tries = 1 }
 
--- four workers, but no more than there are jobs
+-- the most workers of a rehearsal
+abbrev pub rehearsal_workers_max : ℕ
+rehearsal_workers_max = 4
+
+-- so many workers, but no more than there are jobs
 abbrev pub rehearsal_workers : ℕ → ℕ
-rehearsal_workers n = min n 4
+rehearsal_workers n = min n rehearsal_workers_max
 
 -- what is seen of the kits
 abbrev pub loop_devices : Devices RehearsalKit
@@ -87,9 +91,8 @@ abbrev pub EndsAs : End → Ran → Type 0
 EndsAs (Done status note err out by) ran = (status ≡ ran.status) × (err ≡ ran.err) × (out ≡ ran.out)
 EndsAs (Failed why) ran = ⊥
 
--- All jobs were done, each as the compiler leaves it. The one number is how many of them have status 0, among the compiler's runs
--- as among the
--- reports; the other is the length of their objects together.
+-- All jobs were done, each as the compiler leaves it. The one number is how many of them have status 0, among the compiler's runs as
+-- among the reports; the other is the length of their objects together.
 pub record AreCounted (n : ℕ) (reports : List Report) (count : Count) : Type 0 where
   pub rans : List Ran
   pub left : AreLeft n rans
@@ -107,9 +110,8 @@ abbrev pub Tells : ℕ → List Report → Option Count → Type 0
 Tells n reports (Some count) = AreCounted n reports count
 Tells n reports None = SomeWanted reports
 
--- The jobs of the workload were run by four workers at most, over loops to a daemon that runs the compiler over the workload's
--- files. There is a
--- report for each, in order; each was done, or wanted memory.
+-- The jobs of the workload were run by four workers at most, over loops to a daemon that runs the compiler over the workload's files.
+-- There is a report for each, in order; each was done, or wanted memory.
 pub record IsRehearsal (n : ℕ) (built : Built) (count : Option Count) : Type 0 where
   pub of_hosts : AreLimitsOf built.last.limits rehearsal_hosts
   pub of_jobs : built.last.limits.jobs ≡ n

@@ -17,7 +17,7 @@ use std::thread::Threads;
 use workload::make;
 
 /// The most workers of a rehearsal.
-const REHEARSAL_WORKERS: u32 = 4;
+const REHEARSAL_WORKERS_MAX: u32 = 4;
 
 /// What a rehearsal left: what was built, and the two numbers, which there are where no job wanted memory.
 #[derive(Drop)]
@@ -43,7 +43,7 @@ pub fn rehearse<R: Threads + Wait + Sync>(
     runs_of_jobs();
     let jobs = make(alloc, n)?.jobs;
     let config = rehearsal_config(alloc)?;
-    let workers = n.min(REHEARSAL_WORKERS);
+    let workers = n.min(REHEARSAL_WORKERS_MAX);
     let mut kits = kits(alloc, n, workers as usize)?;
     let built = build(rt, alloc, &jobs, &config, &mut kits, workers)?;
     let count = count_reports(kits.as_slice(), built.reports.as_slice());

@@ -276,8 +276,7 @@ into-last old mid new reader next have state path before keeper after count byte
     record {
       object = into.object ++ bytes;
       given = w.1;
-      lands =
-          (w.0, lands into.object before.faults later into.lands spelled.fits.failure);
+      lands = (w.0, lands into.object before.faults later into.lands spelled.fits.failure);
     }
 into-last old mid new reader next have state path before keeper after count bytes o (Err stop) into later p lands memory =
     let r = into.receiving in

@@ -59,8 +59,7 @@ module _ (q : Request) (h : Host) (text : List ℕ) (old new : LinkView) (is_for
             unsent = part.unsent;
             prefix = sym is_for.spelled ∙ part.parts;
             proper = part.proper;
-            given =
-                refl;
+            given = refl;
           },
           rose_above_none _ _ stops.0,
         );
@@ -68,8 +67,7 @@ module _ (q : Request) (h : Host) (text : List ℕ) (old new : LinkView) (is_for
       record {
         ended = ended ∙ fresh.ended;
         stopped = stops.1 ∙ fresh.stopped;
-        faults =
-            λ unlike. failed_not unlike _;
+        faults = λ unlike. failed_not unlike _;
       },
     );
   }
@@ -87,8 +85,7 @@ module _ (q : Request) (h : Host) (text : List ℕ) (old new : LinkView) (is_for
             unsent = part.unsent;
             prefix = sym is_for.spelled ∙ part.parts;
             proper = part.proper;
-            given =
-                refl;
+            given = refl;
           },
           stops.0,
         );
@@ -105,8 +102,7 @@ module _ (q : Request) (h : Host) (text : List ℕ) (old new : LinkView) (is_for
       (begun part.sent part.unsent [] part.parts, refl),
       record {
         ended = ended ∙ fresh.ended;
-        stopped =
-            stops.0 ∙ fresh.stopped;
+        stopped = stops.0 ∙ fresh.stopped;
         faults = λ none. stops.1 ∙ fresh.faults;
       },
     );
@@ -146,8 +142,7 @@ module _ (q : Request) (h : Host) (text : List ℕ) (old new : LinkView) (is_for
           dialed = refl;
           sent = is_for.spelled;
           used = given.is.0.0;
-          spelled =
-              given.is.0.1;
+          spelled = given.is.0.1;
         },
         record { ended = never_ended given.is.1; stopped = never_stopped; faults = λ none. never_failed given.is.2 },
       );
@@ -162,8 +157,7 @@ module _ (q : Request) (h : Host) (text : List ℕ) (old new : LinkView) (is_for
       is = (
         record {
           begun = whole_begun given.bytes;
-          shown =
-              (record { sent = is_for.spelled; short = given.is.0 }, rose_above_none _ _ given.is.1);
+          shown = (record { sent = is_for.spelled; short = given.is.0 }, rose_above_none _ _ given.is.1);
         },
         record { ended = never_ended given.is.2; stopped = never_stopped; faults = λ unlike. failed_not unlike _ },
       );
@@ -176,8 +170,7 @@ module _ (q : Request) (h : Host) (text : List ℕ) (old new : LinkView) (is_for
       is = (
         record {
           begun = whole_begun given.bytes;
-          shown =
-              (record { sent = is_for.spelled; short = given.is.0 }, given.is.1, given.is.2);
+          shown = (record { sent = is_for.spelled; short = given.is.0 }, given.is.1, given.is.2);
         },
         record { ended = given.is.2; stopped = never_stopped; faults = λ none. never_failed given.is.3 },
       );
@@ -203,8 +196,7 @@ module _ (q : Request) (h : Host) (text : List ℕ) (old new : LinkView) (is_for
         record {
           ended = never_ended given.is.0;
           stopped = never_stopped;
-          faults =
-              λ none. never_failed given.is.1;
+          faults = λ none. never_failed given.is.1;
         },
       );
     }

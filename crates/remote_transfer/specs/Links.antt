@@ -45,8 +45,7 @@ entry_of link sent given =
       dialed = true;
       sent = sent;
       given = given;
-      ended =
-          link.ended;
+      ended = link.ended;
       stopped = link.stopped;
       faults = link.faults;
     }

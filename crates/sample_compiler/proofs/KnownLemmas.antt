@@ -273,8 +273,7 @@ stands_then start before after task path only listed first last told =
     inr (record {
       path = path;
       listed = listed told;
-      absent =
-          subst (λ (p : List ℕ). get after.files.value p ≡ None) (sym same) gone.absent;
+      absent = subst (λ (p : List ℕ). get after.files.value p ≡ None) (sym same) gone.absent;
     }))
     (last told))
     (λ gone. inr (subst (λ (files : Files). HasAbsent files (task_names (unstaged files) task)) (sym (only.files.became told)) gone))

@@ -18,14 +18,12 @@ pub same_stations : (old new : Files) (before : List ℕ) → new ≡ with_input
 same_stations old new before is = record {
   kept = λ words input ran run. record {
     whole = run.whole;
-    leaves =
-        subst (λ files. LeavesAsked files (asked_by words) run.whole) (sym (earlier old new before input is)) run.leaves;
+    leaves = subst (λ files. LeavesAsked files (asked_by words) run.whole) (sym (earlier old new before input is)) run.leaves;
     left = run.left;
   };
   back = λ words input ran run. record {
     whole = run.whole;
-    leaves =
-        subst (λ files. LeavesAsked files (asked_by words) run.whole) (earlier old new before input is) run.leaves;
+    leaves = subst (λ files. LeavesAsked files (asked_by words) run.whole) (earlier old new before input is) run.leaves;
     left = run.left;
   };
 }

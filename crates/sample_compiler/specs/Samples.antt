@@ -75,13 +75,13 @@ task_text files task = content_text files task (get files task.input)
 
 -- ---- the run
 
--- the status of words that aren't right
-abbrev pub bad_words_left : ℕ
-bad_words_left = 512
+-- the wait status of exit code 2: words that the compiler doesn't take
+abbrev pub bad_words_wait_status : ℕ
+bad_words_wait_status = 512
 
--- words that the compiler doesn't take
+-- what the compiler leaves of them
 abbrev pub bad_words : Ran
-bad_words = record { status = bad_words_left; out = []; err = codes "scc: bad words\n"; object = [] }
+bad_words = record { status = bad_words_wait_status; out = []; err = codes "scc: bad words\n"; object = [] }
 
 -- the text is printed or compiled
 abbrev pub MadeOf : Product → List ℕ → Ran → Type 0

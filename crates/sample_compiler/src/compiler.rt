@@ -20,7 +20,7 @@ use sample_lang::{FileMap, one_reading};
 use std::alloc::{AllocError, Global};
 
 /// The most files that may be open within one another below the input.
-const DEPTH_MAX: u32 = 16;
+const INCLUDES_MAX: u32 = 16;
 
 // Whether the input is compiled as it stands.
 fn is_ready(product: &Product, input: &[u8]) -> bool
@@ -44,7 +44,7 @@ fn expanded_text(sources: Sources<'_>, task: &Task, content: &Bytes) -> Result<B
         defines: task.defines.copy()?,
         text: Bytes::new(sources.alloc),
     };
-    expand(sources, DEPTH_MAX, content.as_slice(), &mut made)?;
+    expand(sources, INCLUDES_MAX, content.as_slice(), &mut made)?;
     Ok(made.text)
 }
 

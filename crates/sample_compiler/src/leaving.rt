@@ -11,8 +11,8 @@ use farm_types::{Bytes, Ran};
 use sample_lang::{Parsed, parse};
 use std::alloc::{AllocError, Global};
 
-/// The status of words that aren't right.
-const BAD_WORDS: u32 = 512;
+/// The wait status of exit code 2: words that the compiler doesn't take.
+const BAD_WORDS_WAIT_STATUS: u32 = 512;
 
 // The message of a fault of the preprocessor.
 fn message_of(alloc: Global, fault: &ExpandFault) -> Result<Bytes, AllocError>
@@ -61,7 +61,7 @@ pub fn expand_failed(alloc: Global, line: u64, fault: &ExpandFault) -> Result<Ra
     failed(alloc, line, message.as_slice())
 }
 
-/// A text on standard output.
+/// What a run leaves that prints this text and nothing else, with status 0.
 pub fn printed(alloc: Global, text: Bytes) -> Ran
     ensures { result ≡ samples.printed text }
 {
@@ -73,13 +73,13 @@ pub fn printed(alloc: Global, text: Bytes) -> Ran
     }
 }
 
-/// Words that the compiler doesn't take.
+/// What the compiler leaves of words that it doesn't take: wait status 512 and a message. It fails where memory is wanting.
 pub fn bad_words(alloc: Global) -> Result<Ran, AllocError>
     ensures { IfOk result (λ ran. ran ≡ samples.bad_words) }
 {
     let err = Bytes::from_slice(alloc, b"scc: bad words\n")?;
     Ok(Ran {
-        status: BAD_WORDS,
+        status: BAD_WORDS_WAIT_STATUS,
         out: Bytes::new(alloc),
         err,
         object: Bytes::new(alloc),

@@ -144,7 +144,7 @@ impl SampleStation {
 impl Station for SampleStation {
     ghost use Rattle.std.specs.Prelude.{◌≡◌, ◌≤◌, false, [], IfOk, IfErr, OnOk};
     ghost use Rattle.edge_traits.specs.Told.{Grew, SameRelation3};
-    ghost use Rattle.edge_traits.specs.Stations.{IsWithin, StationStill, RunFault, has_output, run_entries, overruns_after};
+    ghost use Rattle.edge_traits.specs.Stations.{IsWithin, StationStill, RunFault, has_output, run_entries, overruns_after_run};
     ghost use Rattle.sample_compiler.specs.Stations.{StationRan, RunStops, station_files, station_shows};
 
     ghost shows = { station_shows };
@@ -172,7 +172,7 @@ impl Station for SampleStation {
         // A run that gives too much is one that the compiler leaves, with a stream of just so many bytes.
         ensures stops { IfErr result (RunStops (station_files self.new) words.now input.now) }
         // A run that gives too much counts once, and no other counts.
-        ensures count { (station_shows self.new).overruns ≡ overruns_after (station_shows self.old).overruns result }
+        ensures count { (station_shows self.new).overruns ≡ overruns_after_run (station_shows self.old).overruns result }
     {
         let room = Room::new(alloc)?;
         let ran = left(alloc, &mut self.files, words, input)?;

@@ -13,7 +13,7 @@ use edge_traits::Keeper;
 use farm_types::{Bytes, Ran};
 use sample_compiler::printed;
 use sample_linker::{Linked, link, run};
-use std::alloc::{AllocError, Global};
+use std::alloc::Global;
 
 // What is printed where files weren't fetched.
 fn missed_ran(alloc: Global, stop: FetchStop) -> Result<Ran, RunStop>

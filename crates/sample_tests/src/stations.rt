@@ -1,9 +1,8 @@
 //! Files that are loaded from a keeper, and runs at a station.
 
 use crate::devices::keeper_of;
-use crate::files::{Listed, files_of, numbers, words_of};
+use crate::files::{files_of, words_of};
 use crate::runs::{FILES, Left, compare, compile_by};
-use edge_memory::MemKeeper;
 use edge_traits::{Bounds, Station, StationFault, Stream};
 use farm_types::{Bytes, Ext, PlacedWords, Ran, Word};
 use file_map::FileMap;

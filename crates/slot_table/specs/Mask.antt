@@ -3,7 +3,7 @@ use Rattle.std.specs.Prelude.{ℕ, Bool, nat_eq}
 use Rattle.std.specs.Int.{bit_at}
 use Rattle.slot_table.specs.declared.mask.Mask.{Mask}
 
--- the places of a mask
+-- how many host entries a mask can have
 abbrev pub mask_bits : ℕ
 mask_bits = 64
 

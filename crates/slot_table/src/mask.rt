@@ -2,7 +2,7 @@
 ghost use Rattle.std.specs.Prelude.{◌≡◌, ℕ, ◌<◌, ◌≤◌, ◌&&◌, not, nat_lt, nat_eq};
 ghost use Rattle.slot_table.specs.Mask.{mask_bits, in_mask};
 
-/// The places of a mask.
+/// How many host entries a mask can have.
 pub const MASK_BITS: u32 = 64;
 
 /// A set of host entries: bit `i` says whether entry `i` is in it. It has entries below `MASK_BITS` alone.

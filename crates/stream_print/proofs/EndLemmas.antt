@@ -27,8 +27,7 @@ want_stopped notice out old new part stop =
       told = cut part.0 (complaint notice) ∷ [];
       printed = Printed-err part.2 refl;
       out = goes-same out;
-      end =
-          told_stopped (part_of_one (complaint notice) part.0 part.1) stop refl;
+      end = told_stopped (part_of_one (complaint notice) part.0 part.1) stop refl;
     }
 
 -- a part of it was printed, and its sink wanted memory
@@ -40,8 +39,7 @@ want_wanted notice out old new part goes =
       told = cut part.0 (complaint notice) ∷ [];
       printed = Printed-err part.2 refl;
       out = goes-same out;
-      end =
-          told_wanted (part_of_one (complaint notice) part.0 part.1) goes refl;
+      end = told_wanted (part_of_one (complaint notice) part.0 part.1) goes refl;
     }
 
 WantTold-after : {notice : List ℕ} {told : List Piece} (a b c : SinksView) (answer : ℕ) → BothGoOn a b
@@ -75,12 +73,10 @@ complaint_part text stop out old new part stopped memory =
     record {
       done = complaint (take part.0 text) ∷ [];
       next = complaint text;
-      part =
-          part_of_one (complaint text) part.0 part.1;
+      part = part_of_one (complaint text) part.0 part.1;
       printed = Printed-err part.2 refl;
       stopped = stopped;
-      other =
-          λ _. goes-same out;
+      other = λ _. goes-same out;
       memory = λ is. record { out = goes-same out; err = memory is };
     }
 
@@ -111,8 +107,7 @@ front_of_part pieces a b part = record {
     next = part.next;
     part = part.part;
     printed = part.printed;
-    stopped =
-        λ same. part.stopped is;
+    stopped = λ same. part.stopped is;
     other = λ same. part.other is;
     memory = λ wanted. absurd (cc);
   };

@@ -121,8 +121,7 @@ longest_request_of count size source some few small together last =
     record {
       some = omega (arith, w.1);
       count = omega (arith, w.1);
-      words_fit =
-          record { each = w.2; together = omega (arith, sum) };
+      words_fit = record { each = w.2; together = omega (arith, sum) };
       source_fits = omega arith;
     } in
     let all : List ℕ = request_text q in

@@ -187,7 +187,6 @@ reply_spelling = record {
   fields = reply_fields;
   front = spelled-front;
   whole_due = whole_due;
-  spelled =
-      front-spelled;
+  spelled = front-spelled;
   same = same_outcome;
 }

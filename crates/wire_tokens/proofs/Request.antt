@@ -316,7 +316,6 @@ request_spelling = record {
   fields = request_fields;
   front = spelled-front;
   whole_due = whole_due;
-  spelled =
-      front-spelled;
+  spelled = front-spelled;
   same = same_request;
 }

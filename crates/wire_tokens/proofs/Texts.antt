@@ -43,8 +43,7 @@ reads-begins {V} format Spells s text fields r =
       w.0,
       record {
         within = omega (arith, len, ap length z.3, length-append z.0 z.1);
-        spelled =
-            subst (λ (x : List ℕ). Spells x w.0) (sym taken) w.1;
+        spelled = subst (λ (x : List ℕ). Spells x w.0) (sym taken) w.1;
       },
       w.2,
     )

@@ -18,8 +18,7 @@ low_is name n h = record {
   digits = lower_digits 8 n;
   spelled = refl;
   eight = length-lower_digits 8 n;
-  each =
-      each-lower_digits 8 n;
+  each = each-lower_digits 8 n;
   value = number_of-lower_digits 8 n h;
 }
 

@@ -1,7 +1,5 @@
 use crate::lines::words_of;
-use arg_scan::{
-    Action, Ending, OutputPlace, Plan, Scan, Verdict, Why, classify, remote_plan, scan,
-};
+use arg_scan::{Action, Ending, OutputPlace, Plan, Scan, Verdict, Why, classify, scan};
 use farm_types::{Ext, Words};
 use std::test::Fail;
 

@@ -1,4 +1,4 @@
-//! Tests of what is read of words and lists: options, the class of a command, the words for a dependency file, job lists, host lists,
+//! Tests of what is read of words and lists: options, the class of a command, the words for a dependency file, job lists and graphs, host lists,
 //! the command line of `farm`, and access rules.
 #![tactic(auto)]
 

@@ -29,6 +29,5 @@ returns-then-can_be_job-clause-words c =
       entry = view c.in-Some.entry.now;
       there = sym c.in-Some.ensures;
       read_so = c.in-Ok.ensures.words;
-      job =
-          c.can_be_job.ensures.yes c.if-can_be_job.true;
+      job = c.can_be_job.ensures.yes c.if-can_be_job.true;
     }

@@ -13,8 +13,7 @@ receiving-init g c = record {
     is_at = c.new-reader.ensures.at;
     short = empty_is_short;
     len = refl;
-    grew =
-        Grew-refl _;
+    grew = Grew-refl _;
     open_still = refl;
   };
   sent = Grew-refl _;

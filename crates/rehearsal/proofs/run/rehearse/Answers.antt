@@ -20,8 +20,7 @@ returns g c =
     rehearsed (record {
       sent = c.runs_of_jobs.ensures.sent;
       preprocessed = c.runs_of_jobs.ensures.preprocessed;
-      compiled =
-          c.runs_of_jobs.ensures.compiled;
+      compiled = c.runs_of_jobs.ensures.compiled;
     }) c.put_law.ensures
     c.args.n c.requires.some c.requires.most c.in_ok-built.built c.in_ok-jobs.field-0.jobs c.in_ok-config.config c.min-workers.result
     c.in_ok-kits.kits.items c.build.new.kits.items c.as_slice.result.now c.as_slice-2.result.now c.count_reports-count.result

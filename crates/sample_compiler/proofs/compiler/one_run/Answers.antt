@@ -7,8 +7,7 @@ returns-clause-some c =
     let law : OneReading = record {
       some = c.one_reading.ensures.some;
       source = c.one_reading.ensures.source;
-      apart =
-          c.one_reading.ensures.apart;
+      apart = c.one_reading.ensures.apart;
       fault = c.one_reading.ensures.fault;
     } in
     λ files words. some_run law files (task_of words)
@@ -18,8 +17,7 @@ returns-clause-one c =
     let law : OneReading = record {
       some = c.one_reading.ensures.some;
       source = c.one_reading.ensures.source;
-      apart =
-          c.one_reading.ensures.apart;
+      apart = c.one_reading.ensures.apart;
       fault = c.one_reading.ensures.fault;
     } in
     λ files words ran other. one_run law files (task_of words) ran other

@@ -15,7 +15,6 @@ reading-preserved c =
       inputs = more.inputs;
       outputs = more.outputs;
       dirs = more.dirs;
-      defines =
-          more.defines;
+      defines = more.defines;
       lacking = more.lacking;
     })
