@@ -22,7 +22,7 @@ use Rattle.farm_machine.specs.Course.{IsRunOf, At, Start, LentInPlace, RanInPlac
 use Rattle.farm_machine.specs.Course.{Finish, Over, outcome_of, after_preprocessor, or_here, after_broken, after_whole, Tried, tried_too}
 use Rattle.farm_machine.specs.Course.{no_host, Next, Ends, From, Reach, Course}
 use Rattle.farm_machine.specs.Table.{IsSource}
-use Rattle.course_laws.specs.Laws.{IsAmong, IsCompiled, PutsLast, PutLaw}
+use Rattle.course_laws.specs.Laws.{IsAmong, IsCompiled, IsOwnSource, PutsLast, PutLaw}
 use Rattle.course_laws.proofs.Sources.{split, SourceAt, more-source, source-next}
 use Rattle.course_laws.proofs.Tables.{along, over}
 
@@ -286,36 +286,45 @@ reach-known j (x ∷ xs) acts at b s k (c, next, more) =
     subst (λ (ys : List Act). KnownAt j ys b) (append_assoc acts (x ∷ []) xs)
     (reach-known j xs (acts ++ x ∷ []) c b (source-next j acts at c x next s) (known-next j acts at c x next s k) more)
 
+-- the source that a course has after its first acts is the job's own
+own-source : (j : Job) (acts rest : List Act) (end : End) (source : List ℕ) → From j Start (acts ++ rest) end → IsSource acts source
+    → IsOwnSource j acts source
+own-source j (Did (fetched x) ∷ acts) rest end source (c, next, from) is = (next.2, is)
+own-source j (Did (ran x) ∷ acts) rest end source (c, next, from) is = (next.2, is)
+own-source j acts rest end source course is = absurd is
+
 -- a put comes where a compile of status 0 is to be finished, and ends the course
-put-here : (j : Job) (before : List Act) (x : Put) (rest : List Act) (end : End) (b : At) → KnownAt j before b
+put-here : (j : Job) (before : List Act) (x : Put) (rest : List Act) (end : End) (b : At)
+    → ((source : List ℕ) → IsSource before source → IsOwnSource j before source) → KnownAt j before b
     → From j b (Did (put x) ∷ rest) end → PutsLast j before x rest end
-put-here j before x rest end (Finish by note o) k (c, next, from) =
+put-here j before x rest end (Finish by note o) own k (c, next, from) =
     let ended = over j (Done 0 note o.err o.out by) rest end (along j c (Over (Done 0 note o.err o.out by)) rest end next.3 from) in
     record {
       last = ended.0;
       path = next.1;
       outcome = o;
       compiled = k.compiled;
+      own = own k.compiled.source k.compiled.source_is;
       status = next.0;
       object = next.2;
       done = (note, by, ended.1);
     }
-put-here j before x rest end Start k (c, next, from) = absurd next
-put-here j before x rest end LentInPlace k (c, next, from) = absurd next
-put-here j before x rest end (RanInPlace r) k (c, next, from) = absurd next
-put-here j before x rest end (Send source note tried) k (c, next, from) = absurd next
-put-here j before x rest end (Lent host source note tried) k (c, next, from) = absurd next
-put-here j before x rest end (RanThere host note r) k (c, next, from) = absurd next
-put-here j before x rest end (Sent host source note tried y) k (c, next, from) = absurd next
-put-here j before x rest end (Locally source note) k (c, next, from) = absurd next
-put-here j before x rest end (LentHere source note) k (c, next, from) = absurd next
-put-here j before x rest end (RanHere note r) k (c, next, from) = absurd next
-put-here j before x rest end (Over e) k (c, next, from) = absurd next
+put-here j before x rest end Start own k (c, next, from) = absurd next
+put-here j before x rest end LentInPlace own k (c, next, from) = absurd next
+put-here j before x rest end (RanInPlace r) own k (c, next, from) = absurd next
+put-here j before x rest end (Send source note tried) own k (c, next, from) = absurd next
+put-here j before x rest end (Lent host source note tried) own k (c, next, from) = absurd next
+put-here j before x rest end (RanThere host note r) own k (c, next, from) = absurd next
+put-here j before x rest end (Sent host source note tried y) own k (c, next, from) = absurd next
+put-here j before x rest end (Locally source note) own k (c, next, from) = absurd next
+put-here j before x rest end (LentHere source note) own k (c, next, from) = absurd next
+put-here j before x rest end (RanHere note r) own k (c, next, from) = absurd next
+put-here j before x rest end (Over e) own k (c, next, from) = absurd next
 
 pub puts-last : PutLaw
 puts-last j before x rest end course =
     let s = split j before (Did (put x) ∷ rest) Start end course in
-    put-here j before x rest end s.0 (reach-known j before [] Start s.0 refl tt s.1) s.2
+    put-here j before x rest end s.0 (λ source is. own-source j before (Did (put x) ∷ rest) end source course is) (reach-known j before [] Start s.0 refl tt s.1) s.2
 
 known-ends : (j : Job) (acts : List Act) (at : At) (end : End) → KnownAt j acts at → Ends j at end → KnownEnd j acts end
 known-ends j acts Start end k h =

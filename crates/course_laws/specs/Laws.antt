@@ -4,13 +4,13 @@ use Rattle.farm_types.specs.declared.ran.Outcome.{Outcome}
 use Rattle.edge_traits.specs.declared.entries.Run.{Run}
 use Rattle.edge_traits.specs.declared.entries.Exchange.{Exchange}
 use Rattle.edge_traits.specs.declared.entries.Put.{Put}
-use Rattle.edge_traits.specs.Deeds.{ran, exchanged, put, exchanges_in}
+use Rattle.edge_traits.specs.Deeds.{ran, fetched, exchanged, put, exchanges_in}
 use Rattle.farm_machine.specs.declared.reports.By.{By}
 use Rattle.farm_machine.specs.declared.reports.Why5.TheVariants.{Broke, Memory, NoHost}
 use Rattle.farm_machine.specs.declared.reports.End.{End}
 use Rattle.farm_machine.specs.declared.reports.End.TheVariants.{Done, Failed}
 use Rattle.farm_machine.specs.Acts.{Takes, Gives, FindsDown, Act, Did, Met, slots_of, deeds_of, took, IsOrderly}
-use Rattle.farm_machine.specs.Jobs.{Job, CanRequest, may_be_sent, output_name, compile_command, host_count, is_local_host}
+use Rattle.farm_machine.specs.Jobs.{Job, CanRequest, may_be_sent, source_name, output_name, preprocessing_command, compile_command, host_count, is_local_host}
 use Rattle.farm_machine.specs.Course.{IsRunOf, IsWholeWith, outcome_of, Course}
 use Rattle.farm_machine.specs.Table.{IsSource}
 use Rattle.farm_machine.specs.Numbered.{untimed}
@@ -42,6 +42,12 @@ pub record IsCompiled (j : Job) (acts : List Act) (o : Outcome) : Type 0 where
       ((x : Exchange) × (host : ℕ) × IsAmong (Did (exchanged x)) acts × CanRequest j source × IsWholeWith j x source host o)
       ⊎ ((x : Run) × IsAmong (Did (ran x)) acts × IsRunOf x (compile_command j) source × (o ≡ outcome_of x.ran))
 
+-- The source that a job has after these acts is its own: what its source's file gave, or what its own preprocessor's run left.
+abbrev pub IsOwnSource : Job → List Act → List ℕ → Type 0
+IsOwnSource j (Did (fetched x) ∷ acts) source = (x.path ≡ source_name j) × (source ≡ x.bytes)
+IsOwnSource j (Did (ran x) ∷ acts) source = IsRunOf x (preprocessing_command j) [] × (source ≡ x.ran.out)
+IsOwnSource j acts source = ⊥
+
 -- A put of a course is its last act. It is under the output's name, of the object of a compile of status 0 before it,
 -- and the job is done with status 0: so a job that has put its object never fails.
 pub record PutsLast (j : Job) (before : List Act) (x : Put) (rest : List Act) (end : End) : Type 0 where
@@ -49,6 +55,7 @@ pub record PutsLast (j : Job) (before : List Act) (x : Put) (rest : List Act) (e
   pub path : x.path ≡ output_name j
   pub outcome : Outcome
   pub compiled : IsCompiled j before outcome
+  pub own : IsOwnSource j before compiled.source
   pub status : outcome.status ≡ 0
   pub object : x.bytes ≡ outcome.object
   pub done : (note : List ℕ) × (by : By) × (end ≡ Done 0 note outcome.err outcome.out by)

@@ -22,10 +22,11 @@ use Rattle.slot_table.specs.History.{entry, IsLegal, state_after, outstanding, c
 use Rattle.slot_table.specs.Laws.{SlotsAgree}
 use Rattle.slot_table.proofs.Histories.{legal-front}
 use Rattle.slot_table.proofs.Keeps.{state-agrees}
-use Rattle.edge_traits.specs.Deeds.{exchanges_in, moments_in, DidIn, MayAll}
+use Rattle.edge_traits.specs.declared.entries.Put.{Put}
+use Rattle.edge_traits.specs.Deeds.{exchanges_in, puts_in, moments_in, DidIn, MayAll}
 use Rattle.farm_machine.specs.Honest.{AllRan}
 use Rattle.edge_traits.specs.Keepers.{IsIdle}
-use Rattle.edge_traits.specs.Told.{SameRelation, SameRelation3}
+use Rattle.edge_traits.specs.Told.{Grew, SameRelation, SameRelation3}
 use Rattle.farm_machine.specs.declared.reports.End.{End}
 use Rattle.farm_machine.specs.declared.reports.Report.{Report}
 use Rattle.farm_machine.specs.Acts.{Act, Entries, deeds_of}
@@ -47,9 +48,9 @@ use Rattle.job_driver.specs.Works.{untimed_job, all_acts, AreReportsOf, WorkedOf
 use Rattle.course_laws.proofs.Puts.{puts-last}
 use Rattle.course_laws.proofs.Staying.{stays-here}
 use Rattle.farm_machine.specs.Devices.{Devices}
-use Rattle.job_driver.specs.Driven.{reports_by, events_of, acts_by, CountsOf, AreWithinLimits, KitDid, JobsRan}
+use Rattle.job_driver.specs.Driven.{reports_by, events_of, acts_by, puts_by, CountsOf, AreWithinLimits, KitDid, JobsRan}
 use Rattle.job_run.proofs.Tabled.{is-walked}
-use Rattle.job_driver.proofs.Countings.{no_entries, entries-added, acts-read, counts-read}
+use Rattle.job_driver.proofs.Countings.{no_entries, entries-added, entries-untimed, acts-read, counts-read}
 use Rattle.job_driver.proofs.Working.{numbers_of}
 use Rattle.job_driver.proofs.Drawing.{drawn-append}
 use Rattle.job_driver.proofs.Stepping.{numbers-drawn}
@@ -279,6 +280,14 @@ module _ {K : Type 0} (d : Devices K) (l : Limits 16) (words : List (List (List 
         (subst (λ (ds : List DoneJob). AreReportsOf i no_places ds (R i)) f.1 f.0.works.reported) (run.reported i below)
         (subst (λ (ds : List DoneJob). CountsGoOn jobs ds (d.shows (V i)) (d.shows (N i))) f.1 f.0.works.counts))
 
+    -- a worker's new puts are those of its jobs
+    puts-of : (i : ℕ) → i < n → Grew (d.shows (V i)).keeper.puts (d.shows (N i)).keeper.puts (puts_by run.reports (reports_by i sorted))
+    puts-of i below =
+        let k = kit-did i below in
+        let same : puts_in (deeds_of k.acts) ≡ puts_by run.reports (reports_by i sorted) =
+        ap (λ (es : Entries). es.puts) (sym (entries-untimed k.acts)) ∙ ap (λ (acts : List Act). puts_in (deeds_of acts)) k.of_jobs in
+        subst (λ (ps : List Put). Grew (d.shows (V i)).keeper.puts (d.shows (N i)).keeper.puts ps) same k.did.puts
+
     -- what holds of the acts and ends of each worker's jobs holds of those of each job
     told-each : (Q : ℕ → ℕ → List Act → End → Type 0) → ((i : ℕ) → i < n
         → Each (λ job. Q i job.number (untimed job.acts) job.end) (done i)) → (j : ℕ) → j < l.jobs
@@ -336,6 +345,11 @@ module _ {K : Type 0} (d : Devices K) (l : Limits 16) (words : List (List (List 
               (subst (λ (es : List CallEntry). IsLegal l es) is legal));
           back = run.back;
           others = others;
+          puts_are = λ i other below.
+              let k = kits i other below in
+              let ps = puts_by run.reports (reports_by i sorted) in
+              subst (λ (x : K). Grew (d.shows x).keeper.puts (d.shows (get_or new i other)).keeper.puts ps) (sym k.0)
+              (subst (λ (x : K). Grew (d.shows (V i)).keeper.puts (d.shows x).keeper.puts ps) (sym k.1) (puts-of i below));
           counts = λ i other below.
               let k = kits i other below in
               subst (λ (x : K). CountsOf jobs run.reports (reports_by i sorted) (d.shows x) (d.shows (get_or new i other))) (sym k.0)

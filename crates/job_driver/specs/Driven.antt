@@ -12,7 +12,7 @@ use Rattle.slot_table.specs.History.{entry, Holding, count_at, outstanding, stat
 use Rattle.edge_traits.specs.Keepers.{IsIdle}
 use Rattle.edge_traits.specs.Deeds.{runs_in, fetches_in, exchanges_in, puts_in, moments_in, put, DidIn, MayAll}
 use Rattle.edge_traits.specs.Kits.{KitView}
-use Rattle.edge_traits.specs.Told.{SameRelation, SameRelation3}
+use Rattle.edge_traits.specs.Told.{Grew, SameRelation, SameRelation3}
 use Rattle.farm_machine.specs.declared.reports.Event.{Event}
 use Rattle.farm_machine.specs.declared.reports.Report.{Report}
 use Rattle.edge_traits.specs.declared.entries.Put.{Put}
@@ -51,6 +51,10 @@ entries_of acts = record {
 -- what the jobs of these reports did, job after job
 abbrev pub acts_by : Reports → List Report → List Act
 acts_by read reports = flat_map (λ report. read.acts report.number) reports
+
+-- the puts of the jobs of these reports, job after job
+abbrev pub puts_by : Reports → List Report → List Put
+puts_by read reports = puts_in (deeds_of (acts_by read reports))
 
 -- the jobs of these reports, one after another, each from where the job before it left the kit
 abbrev pub CountsOf : (ℕ → Job) → Reports → List Report → KitView → KitView → Type 0
@@ -120,6 +124,9 @@ pub record JobsRan {K : Type 0} (d : Devices K) (l : Limits 16) (jobs : ℕ → 
   pub never_above : (front rest : List CallEntry) → history ≡ front ++ rest → AreWithinLimits l (outstanding front)
   pub back : outstanding history ≡ []
   pub others : (caller : ℕ) → workers ≤ caller → calls_by caller history ≡ []
+  -- Each new put of a worker's keeper is a put of just one job that this worker did.
+  pub puts_are : (worker : ℕ) (other : K) → worker < workers → Grew (d.shows (slice_index_or old worker other)).keeper.puts
+      (d.shows (slice_index_or new worker other)).keeper.puts (puts_by read (reports_by worker reports))
   -- Each worker did with its kit what its reports tell, and nothing else, and the kit's counts went on job by job. All other kits are as
   -- they were.
   pub kits : (worker : ℕ) (other : K) → worker < workers
