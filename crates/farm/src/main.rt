@@ -123,12 +123,14 @@ fn run<W: Threads + Wait + Sync>(
     let given = Given {
         words,
         variables: variables.as_slice(),
-        list: input.kept().unwrap_or(&[]),
+        list: input.kept(),
     };
     if ended.built.is_empty() && is_refusal(ended.status) {
         tell_refusal(rt, alloc, &given);
     }
-    tell_carriage_return(rt, given.list);
+    if let Some(list) = given.list {
+        tell_carriage_return(rt, list);
+    }
     Ok(ended.status)
 }
 
