@@ -144,7 +144,7 @@ const ROWS: [(Ask, u8, &str, &str); 19] = [
     (
         Ask::Help(Some(CommandName::Cc)),
         0,
-        "Usage: farm cc WORD...\nDoes the compile command that the words are, on the hosts of DISTCC_HOSTS, and\nends with the compiler's status. A command that may not be sent is run here as\nit stands.\n\nEach command asks the hosts in the order of the list, from the first on. With\n--randomize in the list each process begins at another one, so that make -j\nuses them all.\n",
+        "Usage: farm cc WORD...\nDoes the compile command that the words are, on the hosts of DISTCC_HOSTS, and\nends with the compiler's exit code. A command that may not be sent is run here\nas it stands.\n\nEach command asks the hosts in the order of the list, from the first on. With\n--randomize in the list each process begins at another one, so that make -j\nuses them all.\n",
         "",
     ),
 ];

@@ -106,7 +106,7 @@ abbrev pub graph_help : List ℕ
 graph_help =
     codes "Usage: farm graph [OPTION]...\n"
     ++ codes "Does the jobs on standard input as farm build does, but level by level: a job\n"
-    ++ codes "begins once all jobs that it needs were done with status 0. It is skipped where\n"
+    ++ codes "is run only when all that it needs were done with status 0. It is skipped where\n"
     ++ codes "one of them wasn't. Then it prints a line for each job, in their order.\n"
     ++ codes "\n"
     ++ codes "  needs: N...    a line of the list; the next job needs these jobs, by their\n"
@@ -118,8 +118,8 @@ abbrev pub cc_help : List ℕ
 cc_help =
     codes "Usage: farm cc WORD...\n"
     ++ codes "Does the compile command that the words are, on the hosts of DISTCC_HOSTS, and\n"
-    ++ codes "ends with the compiler's status. A command that may not be sent is run here as\n"
-    ++ codes "it stands.\n"
+    ++ codes "ends with the compiler's exit code. A command that may not be sent is run here\n"
+    ++ codes "as it stands.\n"
     ++ codes "\n"
     ++ codes "Each command asks the hosts in the order of the list, from the first on. With\n"
     ++ codes "--randomize in the list each process begins at another one, so that make -j\n"

@@ -104,7 +104,7 @@ that there may be keeps the time, so at most 15 jobs are done at once.
 /// What `farm graph --help` prints.
 pub const GRAPH_HELP: &[u8] = b"Usage: farm graph [OPTION]...
 Does the jobs on standard input as farm build does, but level by level: a job
-begins once all jobs that it needs were done with status 0. It is skipped where
+is run only when all that it needs were done with status 0. It is skipped where
 one of them wasn't. Then it prints a line for each job, in their order.
 
   needs: N...    a line of the list; the next job needs these jobs, by their
@@ -116,8 +116,8 @@ The options and the host list are those of farm build.
 /// What `farm cc --help` prints.
 pub const CC_HELP: &[u8] = b"Usage: farm cc WORD...
 Does the compile command that the words are, on the hosts of DISTCC_HOSTS, and
-ends with the compiler's status. A command that may not be sent is run here as
-it stands.
+ends with the compiler's exit code. A command that may not be sent is run here
+as it stands.
 
 Each command asks the hosts in the order of the list, from the first on. With
 --randomize in the list each process begins at another one, so that make -j
