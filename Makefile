@@ -85,8 +85,8 @@ uninstall:
 dist:
 	contrib/dist
 
-# The measures of docs/benchmarks.md but that of the cache, in hours. What they find goes into docs/figures and the end of that page.
-bench: export FIGURES = docs/figures
+# The measures of docs/benchmarks.md but that of the cache and the two below, in hours. What they find goes into docs/figures and the end of that page.
+bench bench-wire bench-jobs: export FIGURES = docs/figures
 bench:
 	bench/run
 	bench/builds 100 7
@@ -101,8 +101,8 @@ bench:
 
 # How many times as long writing and reading 32 MiB takes as a plain copy of as many bytes.
 bench-wire:
-	bench/parts/kept wire
+	bench/text wire
 
 # How many times as long reading a job list of 16 MiB takes as a plain copy of it.
 bench-jobs:
-	bench/parts/kept jobs
+	bench/text jobs

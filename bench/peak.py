@@ -1,4 +1,5 @@
-"""Runs a command, and prints the largest resident size that it had itself, in KiB, its children left out: bench/peak.py COMMAND.."""
+"""Runs a command, and prints the largest resident size that it had itself, in KiB, its children left out: bench/peak.py COMMAND.. The status is that of the
+command, or 1 where it ended before it was seen."""
 import subprocess
 import sys
 
@@ -7,5 +8,6 @@ from peaks import Peak
 run = subprocess.Popen(sys.argv[1:], stdin=sys.stdin, stdout=subprocess.DEVNULL)
 peak = Peak(run.pid)
 status = run.wait()
-print(peak.kib())
-sys.exit(status)
+most = peak.kib()
+print(most)
+sys.exit(status or most == 0)

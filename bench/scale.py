@@ -54,7 +54,8 @@ def main():
             client, jobs = client + used, jobs + count
     servers, compilers = sum(map(own_time, SERVERS)) - servers, sum(map(children_time, SERVERS)) - compilers
     for count in NUMBERS:
-        print(f"{count:4} jobs: {least[count] * 1000:6.1f} ms, {least[count] / count * 1e6:6.0f} us a job, {least[count] / count / (least[64] / 64):.2f} of the least number's")
+        each = least[count] / count
+        print(f"{count:4} jobs: {least[count] * 1000:6.1f} ms, {each * 1e6:6.0f} us a job, {each / (least[64] / 64):.2f} of the least number's")
     print(f"processor time a job: farm {client / jobs * 1e6:.0f} us, farmd {servers / jobs * 1e6:.0f} us, compilers {compilers / jobs * 1e6:.0f} us;"
           f" {jobs / (client + servers):.0f} jobs a second of farm and farmd")
 

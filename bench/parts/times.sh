@@ -1,5 +1,12 @@
 # The times of the measures. To be sourced by bash, behind tests/parts/checks.sh.
 
+# the folder that FIGURES names, from the top of the repository; nothing where it isn't set
+figures=
+if [ -n "${FIGURES:-}" ]; then
+  [ -d "$FIGURES" ] || stop "FIGURES names no folder: $FIGURES"
+  figures=$(realpath "$FIGURES")
+fi
+
 # the least microseconds of each name
 declare -A least
 
@@ -33,14 +40,17 @@ file_by_farm() { "$FARM" cc gcc -c "$1.c" -o "$1.o"; }
 # list_by_farm LIST HOSTS WORKERS: builds a job list
 list_by_farm() { "$FARM" build --hosts "$2" --workers "$3" --no-fallback <"$1" >/dev/null; }
 
-# record WORD..: where FIGURES names a folder, the script is begun anew with its words, and what it prints goes into a file there too, but for the lines of single rounds
+# record NAME WORD..: where FIGURES names a folder, the script is begun anew with these words. If it succeeds, what it printed goes into the file NAME.txt
+# there, but for the lines of single rounds.
 record() {
-  local file status
-  if [ -z "${FIGURES:-}" ] || [ -n "${RECORDED:-}" ]; then return; fi
-  file=$TOP/$FIGURES/$(basename "$0")
-  { echo "$(nproc) processors, $(date +%F)"; RECORDED=yes "$TOP/bench/$(basename "$0")" "$@"; } | tee "$file.all"
-  status=${PIPESTATUS[0]}
-  grep -v '^round ' "$file.all" >"$file.txt"
-  rm "$file.all"
-  exit "$status"
+  local name=$1 printed ends
+  shift
+  if [ -z "$figures" ] || [ -n "${RECORDED:-}" ]; then return; fi
+  printed=$(mktemp)
+  trap 'rm -f "$printed"' EXIT
+  { echo "$(nproc) processors, load $(load), $(date +%F)"; RECORDED=yes "$TOP/bench/$(basename "$0")" "$@"; } | tee "$printed"
+  ends=("${PIPESTATUS[@]}")
+  [ "${ends[0]}" = 0 ] || exit "${ends[0]}"
+  [ "${ends[1]}" = 0 ] && grep -v '^round ' "$printed" >"$figures/$name.txt" || stop "what was printed can't be kept in $figures"
+  exit 0
 }
