@@ -1,4 +1,4 @@
-"""Runs programs with one allocation refused, by tests/refuse.c: for some numbers, spread over all of them, or with --every for each."""
+"""Runs programs with one allocation refused, by refuse.c: for some numbers, spread over all of them, or with --every for each."""
 import os
 import shutil
 import subprocess
@@ -7,7 +7,7 @@ import tempfile
 import time
 from collections import Counter
 
-from checks import fail, verdict, write
+from checks import expect, fail, verdict, write
 
 REFUSE, RUNS, FARM = sys.argv[1:4]
 EVERY = "--every" in sys.argv
@@ -104,6 +104,7 @@ def numbers(most):
 def refuse(name, words, end):
     """Refuses none that is made, and then one after another."""
     most = count(words)
+    expect(f"{name}: allocations are seen", most)
     if end(run(words, REFUSED=str(2 * most))) != USUAL:
         fail(f"{name}: with no allocation refused")
     begun = time.monotonic()
@@ -126,7 +127,9 @@ def refuse(name, words, end):
 for name in ("daemon", "one", "four", "graph"):
     refuse(name, [RUNS, name], judged)
 usual = run([FARM, "rehearse", "2"])
-if usual.returncode == 0:
+if usual.returncode != 0:
+    fail(f"farm rehearse 2: {usual}")
+else:
     refuse("farm rehearse 2", [FARM, "rehearse", "2"], rehearsed(usual.stdout))
 if shutil.which("gcc"):
     with tempfile.TemporaryDirectory() as folder:
@@ -136,4 +139,6 @@ if shutil.which("gcc"):
         else:
             print("farm cc over the disk: skipped, since no program can be linked statically here")
         os.chdir("/")
+else:
+    print("farm cc over the disk: skipped, since gcc is missing")
 verdict("tests/allocations")

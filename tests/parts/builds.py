@@ -5,6 +5,7 @@ import sys
 import time
 
 import wire
+from checks import end, expect
 from peaks import Peak
 
 REPLY = wire.reply_head(4) + b"OBJ\n"
@@ -35,11 +36,20 @@ def build(farm, port, limit, workers, count):
     _, status, used = os.wait4(child.pid, 0)
     took = time.monotonic() - begin
     wanted = "".join(f"{k} remote 127.0.0.1:{port} stat 00000000\n" for k in range(1, count + 1)) + f"total {count} ok {count}\n"
-    assert status == 0 and out == wanted, (status, out[-200:])
-    for k in range(1, count + 1):
-        with open(f"s{k}.o", "rb") as made:
-            assert made.read() == b"OBJ\n"
+    expect(f"{workers} workers, the report:", status == 0 and out == wanted, (status, out[-200:]))
+    lost = [k for k in range(1, count + 1) if not is_made(f"s{k}.o")]
+    expect(f"{workers} workers, the objects:", not lost, lost[:5])
     return took, used.ru_utime + used.ru_stime, peak.kib()
+
+
+def is_made(path):
+    """Whether the host's object is there, which is taken away."""
+    if not os.path.exists(path):
+        return False
+    with open(path, "rb") as file:
+        held = file.read()
+    os.remove(path)
+    return held == b"OBJ\n"
 
 
 def source(count, size):
@@ -56,11 +66,12 @@ def main():
     source(512, MIB)
     took, busy, _ = build(farm, host(0.5), 1, 8, 6)
     print(f"  8 workers at one slot: {took:.2f} s, of which {busy:.2f} s of processor time")
-    assert took >= 3 and busy < 0.3, "a worker that waits takes processor time"
+    expect("a worker that waits takes no processor time", took >= 3 and busy < 0.3, (took, busy))
     for workers in (1, 4):
         took, _, peak = build(farm, host(0), 16, workers, 512)
         print(f"  512 jobs of 1 MiB, {workers} workers: {took:.2f} s, at most {peak} KiB resident")
-        assert peak < 141 * 1024 * workers, "too much memory"
+        expect(f"{workers} workers, the memory:", 0 < peak < 141 * 1024 * workers, f"{peak} KiB")
+    end()
 
 
 main()

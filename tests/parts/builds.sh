@@ -51,10 +51,9 @@ for _ in $(seq 100); do
   [ "$(find . -maxdepth 1 -name 'unit*.o' ! -name '*.ref.o' | wc -l)" -ge 20 ] && break
   sleep 0.05
 done
-pkill -9 -P "$DAEMON"
-kill -9 "$DAEMON"
-wait "$building"
-[ $? = 0 ] || fail 'killed: the status'
+# its whole group at once, since it starts others in place of those that are gone
+kill -9 -- "-$DAEMON"
+ends_within 600 "$building" || fail 'killed: the status'
 wait "$DAEMON" 2>/dev/null
 lines killed 200 "remote 127.0.0.1:($FIRST_PORT|$SECOND_PORT)|here"
 objects killed 200

@@ -1,6 +1,10 @@
 """What the checks in Python share: what isn't as it should be is told and counted, and decides how a check ends."""
+import contextlib
 import os
+import shutil
+import signal
 import sys
+import tempfile
 
 failures = []
 
@@ -21,10 +25,22 @@ def end():
     sys.exit(1 if failures else 0)
 
 
-def verdict(check):
-    """Ends a check by what failed, and says so."""
-    print(f"{check}: {f'{len(failures)} failed' if failures else 'passed'}")
+def verdict(check, text=""):
+    """Ends a check by what failed, and says so, with this text behind that it passed."""
+    print(f"{check}: {len(failures)} failed" if failures else f"{check}: passed{text and ', '}{text}")
     end()
+
+
+@contextlib.contextmanager
+def work_folder():
+    """A folder for the files of a check and for temporary ones. It is gone at the end, also where the check is ended from outside."""
+    signal.signal(signal.SIGTERM, lambda *_: sys.exit(143))
+    folder = tempfile.mkdtemp()
+    try:
+        os.environ["TMPDIR"] = folder
+        yield folder
+    finally:
+        shutil.rmtree(folder, ignore_errors=True)
 
 
 def write(path, text):

@@ -56,8 +56,8 @@ end_jobs() {
   wait 2>/dev/null
 }
 
-# work_folder [NAME..]: makes a folder, work, with a folder tmp for temporary files and folders of these names in it. It is gone when the script ends, and so are
-# the daemons that it started.
+# work_folder [NAME..]: makes a folder, work, with a folder tmp for temporary files and folders of these names in it. It is gone when the script ends, and so
+# are the daemons that it started.
 work_folder() {
   local name
   work=$(mktemp -d)
@@ -80,6 +80,17 @@ comes_up() {
     sleep 0.1
   done
   return 1
+}
+
+# ends_within SECONDS PROCESS: waits until a process that the script started has ended, and gives its status; after so many seconds it is killed
+ends_within() {
+  local process=$2
+  for _ in $(seq $(($1 * 10))); do
+    kill -0 "$process" 2>/dev/null || break
+    sleep 0.1
+  done
+  kill -9 "$process" 2>/dev/null
+  wait "$process" 2>/dev/null
 }
 
 # fail WHAT: something isn't as it should be

@@ -6,7 +6,7 @@ import sys
 import threading
 import time
 
-from checks import end, fail
+from checks import end, expect, fail
 from wire import compile_request, dial, exchange
 
 PORT = int(sys.argv[1])
@@ -18,10 +18,10 @@ def is_answered(reply):
 
 
 def four():
-    assert is_answered(exchange(PORT, GOOD))
-    assert b"unknown compiler cc\n" in exchange(PORT, compile_request(b"cc", b""))
-    assert exchange(PORT, b"", source="127.0.0.2") == b""
-    assert exchange(PORT, b"DIST", half_close=True) == b""
+    expect("a right request", is_answered(exchange(PORT, GOOD)))
+    expect("a compiler that isn't known", b"unknown compiler cc\n" in exchange(PORT, compile_request(b"cc", b"")))
+    expect("a peer that is denied", exchange(PORT, b"", source="127.0.0.2") == b"")
+    expect("a request that is cut off", exchange(PORT, b"DIST", half_close=True) == b"")
 
 
 def all_kinds():
@@ -35,13 +35,13 @@ def all_kinds():
     link.sendall(GOOD)
     link.setsockopt(socket.SOL_SOCKET, socket.SO_LINGER, struct.pack("ii", 1, 0))
     link.close()
-    assert is_answered(exchange(PORT, GOOD + b"x" * 1000)), "surplus bytes"
-    assert is_answered(exchange(PORT, GOOD, half_close=True)), "a client that half-closes"
-    assert exchange(PORT, b"GET / HTTP/1.0\r\n\r\n") == b"", "another protocol"
+    expect("surplus bytes", is_answered(exchange(PORT, GOOD + b"x" * 1000)))
+    expect("a client that half-closes", is_answered(exchange(PORT, GOOD, half_close=True)))
+    expect("another protocol", exchange(PORT, b"GET / HTTP/1.0\r\n\r\n") == b"")
     # one that says nothing holds one door and no other
     idle = dial(PORT)
     for _ in range(12):
-        assert is_answered(exchange(PORT, GOOD)), "beside an idle client"
+        expect("beside an idle client", is_answered(exchange(PORT, GOOD)))
     # more at once than there are doors
     answers = []
     threads = [threading.Thread(target=lambda: answers.append(exchange(PORT, GOOD))) for _ in range(64)]
@@ -49,7 +49,7 @@ def all_kinds():
         thread.start()
     for thread in threads:
         thread.join()
-    assert len(answers) == 64 and all(map(is_answered, answers)), "64 at once"
+    expect("64 at once", len(answers) == 64 and all(map(is_answered, answers)))
     idle.close()
 
 
@@ -71,27 +71,27 @@ def own_objects(rounds):
             thread.start()
         for thread in threads:
             thread.join()
-        none, written = answers[asked[0][0]], answers[b"-fwrites"]
+        none, written = answers.get(asked[0][0]), answers.get(b"-fwrites", b"")
         ends = b"DONE00000001STAT%08xSERR00000000SOUT00000000DOTO00000000" % (256 * status)
-        assert none == ends, f"round {number}: the one that took its output away: {none}"
-        assert written.endswith(b"DOTO00000010THE OTHER'S OWN\n"), f"round {number}: the one that wrote: {written}"
+        expect(f"round {number}: the one that took its output away:", none == ends, none)
+        expect(f"round {number}: the one that wrote:", written.endswith(b"DOTO00000010THE OTHER'S OWN\n"), written)
 
 
 def served():
-    assert is_answered(exchange(PORT, GOOD)), "a program by a path from farmd's folder"
-    assert exchange(PORT, compile_request(b"gcc", b"int a;\n", b"-B@x\n")) == b"", "a word that isn't let through"
-    assert is_answered(exchange(PORT, GOOD)), "a word that is let through, after another"
+    expect("a program by a path from farmd's folder", is_answered(exchange(PORT, GOOD)))
+    expect("a word that isn't let through", exchange(PORT, compile_request(b"gcc", b"int a;\n", b"-B@x\n")) == b"")
+    expect("a word that is let through, after another", is_answered(exchange(PORT, GOOD)))
     messages = exchange(PORT, compile_request(b"gcc", b"int a = ;\n"))
-    assert b"SERR" in messages and b"input.i:1:9: error" in messages and b"farm-" not in messages, messages
+    expect("messages of the compiler:", b"SERR" in messages and b"input.i:1:9: error" in messages and b"farm-" not in messages, messages)
 
 
 def one():
-    assert is_answered(exchange(PORT, GOOD)), "one client"
+    expect("one client", is_answered(exchange(PORT, GOOD)))
 
 
 MODES = {"all": all_kinds, "four": four, "one": one, "served": served, "own": lambda: own_objects(int(os.environ.get("ROUNDS", "5")))}
 try:
     MODES[sys.argv[2] if sys.argv[2:] else "all"]()
-except (AssertionError, OSError) as error:
+except OSError as error:
     fail(f"clients.py: {error}")
 end()

@@ -1,11 +1,11 @@
-"""Compares the words that farm_jobs makes of commands with those that sh makes of them: tests/database.py FARM_JOBS."""
+"""Compares the words that farm_jobs makes of commands with those that sh makes of them: database.py FARM_JOBS."""
 import json
 import random
 import re
 import subprocess
 import sys
 
-from checks import end, fail
+from checks import end, expect, fail
 
 FIXED = [
     "gcc x.c",
@@ -55,7 +55,7 @@ def main():
     database = json.dumps([{"directory": "/", "file": "x", "command": command} for command in commands])
     ran = subprocess.run([sys.argv[1], "--count", "512"], input=database.encode(), stdout=subprocess.PIPE, stderr=subprocess.PIPE, check=False)
     lines = ran.stdout.split(b"\n")[:-1]
-    assert ran.returncode == 0 and len(lines) == len(commands), (ran.returncode, len(lines), ran.stderr)
+    expect("a line for each command:", ran.returncode == 0 and len(lines) == len(commands), (ran.returncode, len(lines), ran.stderr))
     wrong = [command for command, line in zip(commands, lines) if by_list(line) != by_shell(command)]
     for command in wrong[:5]:
         fail(f"{command!r}: the shell has {by_shell(command)}")

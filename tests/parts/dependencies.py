@@ -8,12 +8,13 @@ import subprocess
 import sys
 import tempfile
 
-from checks import end, fail, write
+from checks import end, expect, fail, write
 
 FARM = sys.argv[1]
 IS_ALL = "--all" in sys.argv
 
-OUTPUTS = [[], ["-o", "x.o"], ["-oobj/x.o"], ["-o", "obj/deep/x.y.o"], ["-o", "obj.d/x"], ["-o", "obj/.x"], ["-o", "obj/a b$c#.o"], ["-oout"], ["-o", "./obj/../x.o"]]
+OUTPUTS = [[], ["-o", "x.o"], ["-oobj/x.o"], ["-o", "obj/deep/x.y.o"], ["-o", "obj.d/x"], ["-o", "obj/.x"], ["-o", "obj/a b$c#.o"], ["-oout"],
+           ["-o", "./obj/../x.o"]]
 LISTS = [["-MD"], ["-MMD"], ["-MD", "-MMD"]]
 FILES = [[], ["-MF", "obj/f.dep"], ["-MFobj/f.dep"], ["-MF", "f.dep", "-MFobj/g.dep"]]
 TARGETS = [[], ["-MT", "t $u"], ["-MQ", "t $u"], ["-MTa", "-MQ", "$b"]]
@@ -69,11 +70,12 @@ def other_shapes(compiler):
 
 
 def compare(words):
+    """Whether the compiler succeeds, and what differs."""
     want, got = left(words), left([FARM, "cc", *words])
     if want[0] != got[0] or (want[0] and want[1] != got[1]):
         differing = [name for name in {**want[1], **got[1]} if want[1].get(name) != got[1].get(name)]
-        return f"{words}: {want[0]} {got[0]} {[(name, want[1].get(name), got[1].get(name)) for name in differing]}"
-    return None
+        return want[0], f"{words}: {want[0]} {got[0]} {[(name, want[1].get(name), got[1].get(name)) for name in differing]}"
+    return want[0], None
 
 
 def main():
@@ -83,7 +85,9 @@ def main():
                 print(f"tests/dependencies: not compared, since it is missing: {compiler}")
                 continue
             commands = [*combinations(compiler), *other_shapes(compiler)]
-            faults = [fault for fault in pool.map(compare, commands) if fault]
+            seen = list(pool.map(compare, commands))
+            faults = [fault for _, fault in seen if fault]
+            expect(f"{compiler} compiles", any(succeeds for succeeds, _ in seen))
             print(f"{compiler}: {len(commands)} commands, {len(faults)} wrong")
             for fault in faults[:5]:
                 fail(fault)

@@ -127,5 +127,7 @@ took.sort()
 held = len(took) and took[-1]
 print(f"{CONNECTIONS} connections in {time.monotonic() - begun:.1f} s, {', '.join(f'{count} of which each {kind}' for kind, count in kinds.items())}: "
       f"answers took {took[len(took) // 2]:.2f} s (median), {took[int(len(took) * 0.99)]:.2f} (of a hundred the longest), {held:.2f} at most")
+asked = sum(number % 10 >= len(CHOICES) for number in range(CONNECTIONS))
+expect("doors.py:", len(took) == asked, f"{len(took)} of {asked} are answered")
 expect("doors.py:", not wrong and held <= LONGEST, f"{len(wrong)} wrong {wrong[:3]}, the longest answer took {held:.2f} s")
 end()

@@ -1,17 +1,21 @@
-# A farmd for the checks. To be sourced by bash, behind the rest of checks.sh.
+# A farmd for the checks. Sourced by checks.sh, whose functions it calls.
 
-# start_farmd LOG [WORD..]: starts farmd on loopback with these words, and sets PORT and FARMD_PROCESS. Its output goes to the file LOG, its messages to LOG.err.
-# --trust-options comes first.
+# start_farmd LOG [WORD..]: starts farmd on loopback with these words, and sets PORT and FARMD_PROCESS. Its output goes to the file LOG, its messages to
+# LOG.err. --trust-options comes first, and in its place may stand the word anywhere: farmd listens as where no word says at which address.
 start_farmd() {
-  local log=$1 trust=
+  local log=$1 trust='' listen='--listen 127.0.0.1'
   shift
-  [ "${1:-}" = --trust-options ] && trust=$1 && shift
+  case ${1:-} in
+  --trust-options) trust=$1 && shift ;;
+  anywhere) listen='' && shift ;;
+  esac
   for PORT in $(seq 14632 14731); do
     is_taken "$PORT" && continue
     : >"$log.err" # an earlier one may have told this port
-    "$FARMD" $trust --listen 127.0.0.1 --port "$PORT" "$@" >"$log" 2>"$log.err" &
+    # shellcheck disable=SC2086
+    "$FARMD" $trust $listen --port "$PORT" "$@" >"$log" 2>"$log.err" &
     FARMD_PROCESS=$!
-    comes_up "$FARMD_PROCESS" grep -q "^farmd: listens at 127.0.0.1:$PORT," "$log.err" && return
+    comes_up "$FARMD_PROCESS" grep -q "^farmd: listens at [0-9.]*:$PORT," "$log.err" && return
     kill "$FARMD_PROCESS" 2>/dev/null
     # another was faster at this port, or no other port will do either
     grep -q 'cannot listen' "$log.err" || break

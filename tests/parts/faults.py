@@ -4,16 +4,14 @@ A source is a number and a letter, as `65536 B`: its object has so many bytes of
 """
 import os
 import random
-import shutil
 import signal
 import socket
 import struct
 import subprocess
-import tempfile
 import threading
 import time
 
-from checks import expect, verdict, write
+from checks import expect, verdict, work_folder, write
 from farm import FARM, content, file_limit, job, leftovers, make_folder, remove_leftovers, run_farm, start_farm
 from wire import read_request, reply_head, start_host
 
@@ -204,11 +202,14 @@ def killed_host(folder):
     port = door.getsockname()[1]
     host = os.fork()
     if host == 0:
-        link, _ = door.accept()
-        made = object_of(read_request(link))
-        link.sendall(reply_head(len(made)) + made[: SIZE // 2])
-        time.sleep(600)
-        os._exit(0)
+        signal.alarm(60)  # nobody may be there to kill it
+        try:
+            link, _ = door.accept()
+            made = object_of(read_request(link))
+            link.sendall(reply_head(len(made)) + made[: SIZE // 2])
+            signal.pause()
+        finally:
+            os._exit(0)
     door.close()
     write(f"{folder}/x.o", "oooo")
     child = start_farm(folder, job("x.i", "x.o"), port)
@@ -273,12 +274,8 @@ def two_addresses(folder):
 
 
 PORT = start_host(answer)
-work = tempfile.mkdtemp()
-try:
-    os.environ["TMPDIR"] = work
+with work_folder() as work:
     make_folder(work, COMPILER, SOURCES)
     for check in (full_disk, limited, unwritable, unprinted, killed, resets, hangs, killed_host, mute_host, silent_host, two_addresses):
         check(work)
-finally:
-    shutil.rmtree(work, ignore_errors=True)
 verdict("tests/faults")

@@ -6,6 +6,7 @@ import threading
 import time
 
 import wire
+from checks import expect, fail, verdict
 from peaks import resident
 
 PORT, PROCESS, RUNS, COUNT, SECONDS = int(sys.argv[1]), int(sys.argv[2]), sys.argv[3], int(sys.argv[4]), float(sys.argv[5])
@@ -96,8 +97,7 @@ def main():
     announced = memory("VmRSS")
     for link in idle:
         link.close()
-    if 16 < announced - begin:
-        sys.exit(f"tests/hostile: 7 announced sources took {announced - begin} MiB")
+    expect("7 announced sources take no memory:", announced - begin <= 16, f"{announced - begin} MiB")
     end = time.monotonic() + SECONDS
     workers = [Worker(seed, COUNT // THREADS, end) for seed in range(THREADS)]
     for worker in workers:
@@ -106,16 +106,18 @@ def main():
         worker.join()
     for worker in workers:
         if worker.error:
-            sys.exit(f"tests/hostile: {worker.error!r}")
-    ran, runs = sum(w.ran for w in workers), os.path.getsize(RUNS)
-    if ran != runs:
-        sys.exit(f"tests/hostile: {runs} runs, and {ran} replies of runs")
-    if not wire.exchange(PORT, SEEDS[0], half_close=True).startswith(b"DONE00000001STAT00000000"):
-        sys.exit("tests/hostile: a right request isn't answered any more")
-    if 256 < memory("VmHWM"):
-        sys.exit(f"tests/hostile: {memory('VmHWM')} MiB")
-    sent = sum(w.sent for w in workers)
-    print(f"tests/hostile: passed, {sent} requests, {ran} runs, {sum(w.refused for w in workers)} refused, at most {memory('VmHWM')} MiB")
+            fail(f"{worker.error!r}")
+    sent, ran, refused = (sum(numbers) for numbers in zip(*((w.sent, w.ran, w.refused) for w in workers)))
+    runs = os.path.getsize(RUNS)
+    expect("some requests are run, and each run is answered:", 0 < ran == runs, f"{runs} runs, and {ran} replies of runs")
+    try:
+        reply = wire.exchange(PORT, SEEDS[0], half_close=True)
+    except OSError as error:
+        reply = repr(error).encode()
+    expect("a right request is still answered:", reply.startswith(b"DONE00000001STAT00000000"), reply[:80])
+    most = memory("VmHWM")
+    expect("memory stays bounded:", 0 < most <= 256, f"{most} MiB")
+    verdict("tests/hostile", f"{sent} requests, {ran} runs, {refused} refused, at most {most} MiB")
 
 
 main()

@@ -33,6 +33,7 @@ def through():
         count += 1
         wanted = (1, b"DONE00000001") if KIND == "served" else (0, b"")
         expect(f"{' '.join(options)} is to be {KIND}:", (ran, reply[:12]) == wanted, f"{ran} runs, {reply[:60]!r}")
+    expect("commands are read", count)
     print(f"{len(failures)} of {count} aren't {KIND}" if failures else f"{count} commands are {KIND}")
 
 
@@ -50,7 +51,8 @@ def hostile():
     count = 0
     begin = time.monotonic()
     for options in lines():
-        options = [option.replace("FILE", outside + "/wrote").replace("|touch", f"|touch {outside}/ran").replace("/x", outside + "/wrote") for option in options]
+        for old, new in (("FILE", f"{outside}/wrote"), ("|touch", f"|touch {outside}/ran"), ("/x", f"{outside}/wrote")):
+            options = [option.replace(old, new) for option in options]
         for compiler in compilers:
             for source in sources:
                 reply = ask(compiler, options, source)
@@ -60,12 +62,11 @@ def hostile():
                 for name in made:
                     os.remove(os.path.join(outside, name))
     # what is let through and writes beside the object writes into the folder of the run
-    here = set(os.listdir("."))
     for options in (["-fstack-usage"], ["-fcallgraph-info"], ["-O2", "-fopt-info-all=wrote"], ["-ftime-trace"], ["-O2", "-fsave-optimization-record"]):
         for compiler in compilers:
             ask(compiler, options, sources[0])
             count += 1
-    made = sorted(set(os.listdir(".")) - here) + os.listdir(outside)
+    made = os.listdir(outside)
     expect("written outside the folder of a run:", not made, made)
     # the doors serve on
     for compiler in compilers:

@@ -1,6 +1,6 @@
-"""Writes three projects of 30 sources with a test of their own, by_make, by_cmake and by_configure: tests/projects.py FOLDER.
+"""Writes three projects of 30 sources with a test of their own, by_make, by_cmake and by_configure: projects.py FOLDER.
 
-tests/projects.py --graph reads what make would run, and writes it as a job graph: a command needs each command before it that makes a
+projects.py --graph reads what make would run, and writes it as a job graph: a command needs each command before it that makes a
 file that it names."""
 import os
 import sys
