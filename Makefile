@@ -81,7 +81,8 @@ uninstall:
 	rm -f $(units)/farmd.service $(bin)/farmcc
 	if cmp -s contrib/farmd.default $(defaults)/farmd; then rm -f $(defaults)/farmd; fi
 
-# An archive of what `make install` puts in place, with the SHA-256 sums of its files and how it was made, below dist/.
+# An archive of what `make install` puts in place, with the SHA-256 sums of its files and how it was made, in dist/ or in the folder that ARCHIVES
+# names.
 dist:
 	contrib/dist
 
