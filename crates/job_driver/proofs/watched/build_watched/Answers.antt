@@ -1,4 +1,6 @@
-use Rattle.std.proofs.Common.{ℕ, length, refl, subst, arith}
+use Rattle.std.proofs.Common.{◌≡◌, ℕ, [], ◌∷◌, ◌++◌, length, refl, sym, ap, ◌∙◌, subst, arith}
+use Rattle.std.proofs.lemmas.Result.{err_from_is_err_and}
+use Rattle.edge_traits.specs.Told.{Grew}
 use Rattle.edge_traits.specs.declared.kit.Kit.{Kit}
 use Rattle.job_run.proofs.Leaves.{same_peers, same_programs}
 use Rattle.farm_cell.specs.Passes.{seen_of}
@@ -29,7 +31,7 @@ returns-clause-built g c =
       dialer = lender.dialer;
       station = lender.station;
       keeper = lender.keeper;
-      clock = c.build_beside-done.new.beside.watch.clock;
+      clock = c.into_parts-markers.result.2;
     } in
     record {
       ran = watched-ran d built.last.limits (job_at c.args.jobs.now c.args.config.now) c.args.config.now.period c.args.workers built.reports
@@ -39,7 +41,8 @@ returns-clause-built g c =
             dialer = refl;
             station = refl;
             keeper = refl;
-            clock = c.in_ok-built.ensures.watched.paused;
+            clock = subst (λ (clock : g.row.C.Denot). Grew (g.C.Clock.shows lender.clock).moments (g.C.Clock.shows clock).moments [])
+                (sym c.into_parts-markers.ensures.clock) c.in_ok-built.ensures.watched.paused;
             peers = same_peers _;
             programs = same_programs _;
           })
@@ -58,3 +61,16 @@ returns-clause-printed g c =
     last-printed (length c.args.jobs.now) c.args.workers c.args.lines after.result.1 (shows c.args.err.now)
     (shows c.build_beside-done.new.err)
     (shows after.new.err) c.in_ok-built.end after.result.0 c.in_ok-built.ensures.watched.printed followed
+
+pub returns-in_err-built-clause-undone : goal.returns-in_err-built-clause-undone
+returns-in_err-built-clause-undone g c =
+    let u = c.in_err-built.ensures.undone in
+    let lender = c.in-Some.lender in
+    let kit : g.row.C.Denot → Kit g.row.D.Denot g.row.S.Denot g.row.K.Denot g.row.C.Denot =
+    λ clock. record { dialer = lender.dialer; station = lender.station; keeper = lender.keeper; clock = clock } in
+    let clock : c.into_parts-markers.result.2 ≡ lender.clock = c.into_parts-markers.ensures.clock ∙ ap (λ beside. beside.watch.clock) u.1 in
+    let kits : c.push.new.self.items ≡ c.args.kits.now.items =
+    c.in-Ok.ensures.items ∙ ap (λ ks. ks ++ kit c.into_parts-markers.result.2 ∷ []) u.0
+    ∙ ap (λ clock. c.pop.new.self.items ++ kit clock ∷ []) clock ∙ sym c.in-Some.ensures.items in
+    let fault = err_from_is_err_and c.from_residual-in_err-built.result c.from_residual-in_err-built.ensures.1 in
+    rw fault.1 (kits, u.2)
