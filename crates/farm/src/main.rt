@@ -120,15 +120,16 @@ fn run<W: Threads + Wait + Sync>(
         &mut out,
         &mut err,
     );
-    let given = Given {
-        words,
-        variables: variables.as_slice(),
-        list: input.kept(),
-    };
-    if ended.built.is_empty() && is_refusal(ended.status) {
-        tell_refusal(rt, alloc, &given);
-    }
-    if let Some(list) = given.list {
+    // a list whose copy wanted memory isn't judged
+    if let Some(list) = input.kept() {
+        let given = Given {
+            words,
+            variables: variables.as_slice(),
+            list,
+        };
+        if ended.built.is_empty() && is_refusal(ended.status) {
+            tell_refusal(rt, alloc, &given);
+        }
         tell_carriage_return(rt, list);
     }
     Ok(ended.status)

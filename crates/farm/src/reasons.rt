@@ -8,12 +8,12 @@ use std::alloc::Global;
 use std::fmt::{self, Display, Formatter};
 use std::io::Eprint;
 
-/// What a run was given: the words of the command line, the variables, and what it read of the job list, where that was kept.
+/// What a run was given: the words of the command line, the variables, and as much of the job list as was kept.
 #[derive(Drop)]
 pub struct Given<'a> {
     pub words: &'a [String],
     pub variables: &'a [(String, String)],
-    pub list: Option<&'a [u8]>,
+    pub list: &'a [u8],
 }
 
 /// Tells why this was refused, where it was: words, a period, a host list, a job list or a job graph.
@@ -23,17 +23,13 @@ pub fn tell_refusal<R: Eprint>(rt: &R, alloc: Global, given: &Given<'_>) {
         Ok(Command::Build(options) | Command::Watch(options)) => {
             let fits = fits_period(rt, given) && fit_hosts(rt, alloc, given, options.hosts);
             if fits {
-                if let Some(list) = given.list {
-                    tell_jobs(rt, alloc, list);
-                }
+                tell_jobs(rt, alloc, given.list);
             }
         }
         Ok(Command::Graph(options)) => {
             let fits = fits_period(rt, given) && fit_hosts(rt, alloc, given, options.hosts);
             if fits {
-                if let Some(list) = given.list {
-                    tell_graph(rt, alloc, list);
-                }
+                tell_graph(rt, alloc, given.list);
             }
         }
         Ok(Command::Cc { .. }) => {
