@@ -1,6 +1,9 @@
 -- How far a count rose, over several calls.
-use Rattle.std.proofs.Common.{ℕ, ◌+◌, ◌-◌, ◌^◌, ◌≤◌, min, arith}
-use Rattle.edge_traits.specs.Causes.{RoseBy}
+use Rattle.std.proofs.Common.{ℕ, ◌+◌, ◌-◌, ◌^◌, ◌≤◌, ◌≡◌, Bool, true, false, min, sym, subst, refl, arith}
+use Rattle.std.specs.Prelude.{if◌then◌else◌, nat_lt}
+use Rattle.std.proofs.lemmas.Bool.{ltb-false}
+use Rattle.edge_traits.specs.Calls.{greatest, one_more}
+use Rattle.edge_traits.specs.Causes.{RoseBy, Rose, RoseOnce}
 
 capped : (top a m b n c : ℕ) → min (a + m) top ≤ b → min (b + n) top ≤ c → min (a + (m + n)) top ≤ c
 capped top a m b n c first second = omega arith
@@ -18,3 +21,11 @@ above top a b n c later rose = omega arith
 
 pub later-RoseBy : (n a b c : ℕ) → a ≤ b → RoseBy n b c → RoseBy n a c
 later-RoseBy n a b c later rose = above (2 ^ 64 - 1) a b n c later rose
+
+rises-or-stands : (a : ℕ) (below : Bool) → nat_lt a greatest ≡ below → Rose a (if below then a + 1 else a)
+rises-or-stands a true is = omega arith
+rises-or-stands a false is = let most = ltb-false a greatest is in omega (arith, most)
+
+-- a count that rose by just one rose
+pub once-rose : (a b : ℕ) → RoseOnce a b → Rose a b
+once-rose a b once = subst (Rose a) (sym once) (rises-or-stands a (nat_lt a greatest) refl)

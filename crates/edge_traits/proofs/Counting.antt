@@ -1,7 +1,9 @@
 -- How many of the first calls failed.
-use Rattle.std.proofs.Common.{◌∙◌, sym, ap, [], ◌≡◌, ℕ, zero, suc, ◌+◌, ◌≤◌, Bool, true, false, List, refl, add-one, arith}
+use Rattle.std.proofs.Common.{◌∙◌, sym, ap, ltb-true, [], ◌<◌, ◌≡◌, ℕ, zero, suc, ◌+◌, ◌≤◌, Bool, true, false, List, refl, add-one, arith}
 use Rattle.std.specs.Prelude.{if◌then◌else◌, ◌&&◌, nat_lt}
-use Rattle.edge_traits.specs.Causes.{Rose}
+use Rattle.std.proofs.lemmas.Bool.{lt-ltb}
+use Rattle.edge_traits.specs.Causes.{Rose, RoseOnce}
+use Rattle.edge_traits.proofs.CountLemmas.{once-rose}
 use Rattle.edge_traits.specs.Calls.{is_in, failed_calls, names_next, one_more, greatest}
 
 -- one call more, whose number is in the list or isn't
@@ -28,19 +30,28 @@ pub none_failed : (fails : List ℕ) (made faults : ℕ) (test : Bool) → test 
     → faults ≡ failed_calls fails made → faults ≡ failed_calls fails (made + 1)
 none_failed fails made faults test unnamed is counted = rw (failed_more, ← is, unnamed) (omega arith)
 
-rises : (fails : List ℕ) (made : ℕ) (below : Bool) → below && is_in (made + 1) fails ≡ true
-    → Rose (failed_calls fails made) (failed_calls fails (if below then made + 1 else made))
-rises fails made true named = rw (failed_more, named) (omega arith)
-rises fails made false named = cc
+more : (count made : ℕ) → count ≤ made → nat_lt made greatest ≡ true → 1 + count ≡ one_more count
+more count made within below = let first = ltb-true made greatest below in let less : count < greatest = omega (arith, first, within) in
+    rw (lt-ltb count greatest less) (omega arith)
+
+rises : (fails : List ℕ) (made : ℕ) (below : Bool) → nat_lt made greatest ≡ below → below && is_in (made + 1) fails ≡ true
+    → RoseOnce (failed_calls fails made) (failed_calls fails (if below then made + 1 else made))
+rises fails made true is named = rw (failed_more, named) (more (failed_calls fails made) made (failed_within fails made) is)
+rises fails made false is named = cc
 
 stays : (fails : List ℕ) (made : ℕ) (below : Bool) → failed_calls fails made ≤ failed_calls fails (if below then made + 1 else made)
 stays fails made true = rw failed_more (omega arith)
 stays fails made false = omega arith
 
--- A call that is one of those that fail raises their number.
+-- A call that is one of those that fail raises their number by one.
+pub failed_once : (fails : List ℕ) (made : ℕ) → names_next fails made ≡ true
+    → RoseOnce (failed_calls fails made) (failed_calls fails (one_more made))
+failed_once fails made named = rises fails made (nat_lt made greatest) refl named
+
+-- and so their number rose
 pub failed_rises : (fails : List ℕ) (made : ℕ) → names_next fails made ≡ true
     → Rose (failed_calls fails made) (failed_calls fails (one_more made))
-failed_rises fails made named = rises fails made (nat_lt made greatest) named
+failed_rises fails made named = once-rose (failed_calls fails made) (failed_calls fails (one_more made)) (failed_once fails made named)
 
 -- no call lowers the number of those that failed
 pub failed_stays : (fails : List ℕ) (made : ℕ) → failed_calls fails made ≤ failed_calls fails (one_more made)
@@ -55,7 +66,7 @@ same fails made false unnamed = refl
 pub failed_same : (fails : List ℕ) (made : ℕ) → names_next fails made ≡ false → failed_calls fails (one_more made) ≡ failed_calls fails made
 failed_same fails made unnamed = same fails made (nat_lt made greatest) unnamed
 
-pub ruleset causes = (failed_rises, failed_stays, failed_same)
+pub ruleset causes = (failed_once, failed_rises, failed_stays, failed_same)
 
 pub ruleset counting = (failed_within, one_failed, none_failed)
 

@@ -2,6 +2,7 @@
 use Rattle.std.specs.Prelude.{◌≡◌, ℕ, ◌+◌, ◌-◌, ◌^◌, ◌≤◌, min, Result, IsErrOf, OnOk}
 use Rattle.edge_traits.specs.declared.faults.EdgeFault.{EdgeFault}
 use Rattle.edge_traits.specs.declared.faults.EdgeFault.TheVariants.{Failed, Memory}
+use Rattle.edge_traits.specs.Calls.{one_more}
 
 -- A count rose by at least this number. One that stands at the greatest u64 counts as risen, by any number.
 abbrev pub RoseBy : ℕ → ℕ → ℕ → Type 0
@@ -10,6 +11,10 @@ RoseBy number before now = min (before + number) (2 ^ 64 - 1) ≤ now
 -- a count rose
 abbrev pub Rose : ℕ → ℕ → Type 0
 Rose before now = RoseBy 1 before now
+
+-- a count rose by just one, or stands at the greatest u64
+abbrev pub RoseOnce : ℕ → ℕ → Type 0
+RoseOnce before now = now ≡ one_more before
 
 -- a count stands still
 abbrev pub Still : ℕ → ℕ → Type 0

@@ -7,7 +7,7 @@ use Rattle.edge_traits.specs.declared.faults.FetchFault.{FetchFault}
 use Rattle.edge_traits.specs.declared.faults.FetchFault.TheVariants.{Failed, Absent, TooMuch, Memory}
 use Rattle.edge_traits.specs.Calls.{one_more}
 use Rattle.edge_traits.specs.Told.{Told}
-use Rattle.edge_traits.specs.Causes.{Rose, Still}
+use Rattle.edge_traits.specs.Causes.{RoseOnce, Still}
 use Rattle.file_map.specs.FileMaps.{Files}
 
 -- a put that was begun: the path, and the bytes so far
@@ -57,15 +57,20 @@ pub record HasLength (files : Files) (path : List ℕ) (bytes : ℕ) : Type 0 wh
   pub there : get files path ≡ Some content
   pub long : length content ≡ bytes
 
--- the file isn't there, which is an overrun and no fault
+-- a fetch failed, which is one fault and no overrun
+pub record IsFailedFetch (old now : KeeperView) : Type 0 where
+  pub rose : RoseOnce old.faults now.faults
+  pub calm : Still old.overruns now.overruns
+
+-- the file isn't there, which is one overrun and no fault
 pub record IsAbsent (path : List ℕ) (old now : KeeperView) : Type 0 where
-  pub rose : Rose old.overruns now.overruns
+  pub rose : RoseOnce old.overruns now.overruns
   pub calm : Still old.faults now.faults
   pub absent : IsTrue now.files.known → get now.files.value path ≡ None
 
--- the file has so many bytes, above the bound, which is an overrun and no fault
+-- the file has so many bytes, above the bound, which is one overrun and no fault
 pub record IsTooLong (path : List ℕ) (bound : ℕ) (old now : KeeperView) (bytes : ℕ) : Type 0 where
-  pub rose : Rose old.overruns now.overruns
+  pub rose : RoseOnce old.overruns now.overruns
   pub calm : Still old.faults now.faults
   pub above : bound < bytes
   pub long : IsTrue now.files.known → HasLength now.files.value path bytes
@@ -77,7 +82,7 @@ pub record KeeperStill (old new : KeeperView) : Type 0 where
 
 -- when a fetch that came to nothing may answer so
 abbrev pub FetchCause : List ℕ → ℕ → KeeperView → KeeperView → FetchFault → Type 0
-FetchCause path bound old now Failed = Rose old.faults now.faults
+FetchCause path bound old now Failed = IsFailedFetch old now
 FetchCause path bound old now Absent = IsAbsent path old now
 FetchCause path bound old now (TooMuch bytes) = IsTooLong path bound old now bytes
 FetchCause path bound old now Memory = KeeperStill old now

@@ -13,7 +13,7 @@ use Rattle.edge_traits.specs.declared.faults.StationFault.TheVariants.{Failed, T
 use Rattle.edge_traits.specs.declared.entries.Run.{Run}
 use Rattle.edge_traits.specs.Calls.{one_more}
 use Rattle.edge_traits.specs.Told.{Told}
-use Rattle.edge_traits.specs.Causes.{Rose, Still}
+use Rattle.edge_traits.specs.Causes.{RoseOnce, Still}
 
 -- what a station shows
 pub record StationView : Type 0 where
@@ -55,15 +55,20 @@ pub record StationStill (old new : StationView) : Type 0 where
   pub faults : Still old.faults new.faults
   pub overruns : Still old.overruns new.overruns
 
--- the stream has so many bytes, above its bound, which is an overrun and no fault
+-- a run failed, which is one fault and no overrun
+pub record IsFailedRun (old new : StationView) : Type 0 where
+  pub rose : RoseOnce old.faults new.faults
+  pub calm : Still old.overruns new.overruns
+
+-- the stream has so many bytes, above its bound, which is one overrun and no fault
 pub record IsTooMuch (bounds : Bounds) (stream : Stream) (bytes : ℕ) (old new : StationView) : Type 0 where
-  pub rose : Rose old.overruns new.overruns
+  pub rose : RoseOnce old.overruns new.overruns
   pub calm : Still old.faults new.faults
   pub above : bound_of bounds stream < bytes
 
 -- when a run that came to nothing may answer so
 abbrev pub RunFault : Bounds → StationView → StationView → StationFault → Type 0
-RunFault bounds old new Failed = Rose old.faults new.faults
+RunFault bounds old new Failed = IsFailedRun old new
 RunFault bounds old new (TooMuch stream bytes) = IsTooMuch bounds stream bytes old new
 RunFault bounds old new Memory = StationStill old new
 
