@@ -1,5 +1,5 @@
 -- When a device may answer a fault, and when it may want memory.
-use Rattle.std.specs.Prelude.{◌≡◌, ℕ, ◌+◌, ◌-◌, ◌^◌, ◌≤◌, min, Result, IsErrOf, OnOk}
+use Rattle.std.specs.Prelude.{◌≡◌, ◌⊎◌, ℕ, ◌+◌, ◌-◌, ◌^◌, ◌≤◌, min, max, Result, IsErrOf, OnOk}
 use Rattle.edge_traits.specs.declared.faults.EdgeFault.{EdgeFault}
 use Rattle.edge_traits.specs.declared.faults.EdgeFault.TheVariants.{Failed, Memory}
 use Rattle.edge_traits.specs.Calls.{one_more}
@@ -16,9 +16,17 @@ Rose before now = RoseBy 1 before now
 abbrev pub RoseOnce : ℕ → ℕ → Type 0
 RoseOnce before now = now ≡ one_more before
 
+-- A count rose by just this number, as far as the greatest u64 lets it.
+abbrev pub RoseJust : ℕ → ℕ → ℕ → Type 0
+RoseJust number before now = now ≡ max before (min (before + number) (2 ^ 64 - 1))
+
 -- a count stands still
 abbrev pub Still : ℕ → ℕ → Type 0
 Still before now = now ≡ before
+
+-- just one of two counts rose, by one
+abbrev pub OneRose : ℕ → ℕ → ℕ → ℕ → Type 0
+OneRose first first' second second' = (RoseOnce first first' × Still second second') ⊎ (Still first first' × RoseOnce second second')
 
 -- `Failed` is answered only where the count rose. Where anything else is answered, want of memory too, it stands still.
 pub record HasCause {T : Type 0} (before now : ℕ) (result : Result T EdgeFault) : Type 0 where

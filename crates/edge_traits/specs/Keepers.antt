@@ -7,7 +7,7 @@ use Rattle.edge_traits.specs.declared.faults.FetchFault.{FetchFault}
 use Rattle.edge_traits.specs.declared.faults.FetchFault.TheVariants.{Failed, Absent, TooMuch, Memory}
 use Rattle.edge_traits.specs.Calls.{one_more}
 use Rattle.edge_traits.specs.Told.{Told}
-use Rattle.edge_traits.specs.Causes.{RoseOnce, Still}
+use Rattle.edge_traits.specs.Causes.{Rose, RoseOnce, Still}
 use Rattle.file_map.specs.FileMaps.{Files}
 
 -- a put that was begun: the path, and the bytes so far
@@ -57,9 +57,9 @@ pub record HasLength (files : Files) (path : List ℕ) (bytes : ℕ) : Type 0 wh
   pub there : get files path ≡ Some content
   pub long : length content ≡ bytes
 
--- a fetch failed, which is one fault and no overrun
+-- a fetch failed, which is a fault and no overrun
 pub record IsFailedFetch (old now : KeeperView) : Type 0 where
-  pub rose : RoseOnce old.faults now.faults
+  pub rose : Rose old.faults now.faults
   pub calm : Still old.overruns now.overruns
 
 -- the file isn't there, which is one overrun and no fault
