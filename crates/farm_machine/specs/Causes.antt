@@ -1,7 +1,7 @@
 -- Why a job may fail.
 use Rattle.std.specs.Prelude.{◌≤◌, ◌⊎◌}
 use Rattle.edge_traits.specs.declared.cause.Cause.TheVariants.{Dial}
-use Rattle.edge_traits.specs.Causes.{Rose}
+use Rattle.edge_traits.specs.Causes.{Rose, OneRose}
 use Rattle.edge_traits.specs.Kits.{KitView}
 use Rattle.edge_traits.specs.Stations.{StationView, StationStill}
 use Rattle.farm_machine.specs.declared.reports.Why5.TheVariants.{Station, Put as NotPut, Broke, Fetch}
@@ -16,10 +16,10 @@ HasEndCause (Failed Fetch) old new = Rose old.keeper.faults new.keeper.faults �
 HasEndCause (Failed (Broke host Dial)) old new = Rose old.dialer.faults new.dialer.faults
 HasEndCause other old new = Unit {0}
 
--- Where a job ends otherwise than by a failed run, no count of its station rose: a run that fails, or gives too much, always fails
--- the job so.
+-- A run that fails, or gives too much, always fails the job so, and is its last: by it just one count of the station rose, by one. Where the
+-- job ends otherwise none rose.
 abbrev pub StationStands : End → StationView → StationView → Type 0
-StationStands (Failed Station) old new = Unit {0}
+StationStands (Failed Station) old new = OneRose old.faults new.faults old.overruns new.overruns
 StationStands end old new = StationStill old new
 
 -- the counts have not fallen

@@ -7,6 +7,7 @@ use Rattle.std.proofs.lemmas.Bool.{true≢false}
 use Rattle.std.proofs.lemmas.List.Sums.{sum_by-cons}
 use Rattle.std.proofs.lemmas.Option.{slice_get_cases}
 use Rattle.edge_traits.specs.Causes.{Rose, RoseBy}
+use Rattle.edge_traits.proofs.CountLemmas.{just-rose}
 use Rattle.farm_machine.specs.declared.reports.End.{End}
 use Rattle.farm_machine.specs.declared.reports.End.TheVariants.{Done, Failed}
 use Rattle.farm_machine.specs.declared.reports.Why5.TheVariants.{Station, Put, Broke, NoHost, Memory, Fetch}
@@ -22,7 +23,7 @@ use Rattle.course_laws.specs.Laws.{is_own_end}
 use Rattle.course_laws.specs.Returns.{is_done_or_wanted}
 use Rattle.course_laws.proofs.Given.{given-front, given-split, ran-front, ran-split}
 use Rattle.job_driver.specs.Driven.{acts_by, reports_by}
-use Rattle.job_driver.specs.Works.{untimed_job, AreReportsOf, RoseTogether, ends_so, is_station_failure, is_keeper_failure}
+use Rattle.job_driver.specs.Works.{untimed_job, AreReportsOf, RoseTogether, RoseInAll, ends_so, is_station_failure, is_keeper_failure}
 
 -- what holds of all reports of a worker holds of the one at a place, where it is the worker's
 pub all-own : (P : Report → Type 0) (w : ℕ) (xs : List Report) (k : ℕ) (r : Report)
@@ -105,6 +106,13 @@ none-together number a a' b b' rose not not' =
     let two = none-rose rose.second b b' rose.rose_too not' in
     let enough = rose.enough in
     omega (arith, one, two, enough)
+
+pub none-in-all : (number a a' b b' : ℕ) → RoseInAll number a a' b b' → ¬ (Rose a a') → ¬ (Rose b b') → number ≡ 0
+none-in-all number a a' b b' rose not not' =
+    let one = none-rose rose.first a a' (just-rose rose.first a a' rose.rose) not in
+    let two = none-rose rose.second b b' (just-rose rose.second b b' rose.rose_too) not' in
+    let all = rose.all in
+    omega (arith, one, two, all)
 
 -- an end that no host, station or keeper is the cause of
 pub returned-well : (end : End) → is_own_end end ≡ true → is_station_failure end ≡ false → is_keeper_failure end ≡ false

@@ -106,7 +106,7 @@ still-untimed acts old new k = record { faults = λ none. k.faults (none-timed a
 
 keeper-untimed : (end : End) (acts : List Act) (old new : KeeperView)
     → KeeperStands end acts old new → KeeperStands end (untimed acts) old new
-keeper-untimed (Failed NotFetched) acts old new k = tt
+keeper-untimed (Failed NotFetched) acts old new k = k
 keeper-untimed (Failed NotPut) acts old new k = k
 keeper-untimed (Failed Memory) acts old new k = record { faults = λ none. k.faults (none-timed acts none); overruns = k.overruns }
 keeper-untimed (Failed Station) acts old new k = still-untimed acts old new k

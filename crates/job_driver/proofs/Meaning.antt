@@ -31,7 +31,7 @@ use Rattle.job_driver.specs.Driven.{reports_by, KitDid, JobsRan}
 use Rattle.job_driver.specs.Means.{HasAnswers, RunMeans, RunMeansLaw}
 use Rattle.job_driver.specs.Works.{ends_so, is_station_failure, is_keeper_failure, is_fetch_failure}
 use Rattle.job_driver.proofs.Countings.{stands-by, found-by}
-use Rattle.job_driver.proofs.Answering.{all-own, given-by, ran-by, calm-by, none-together, returned-well, some-at}
+use Rattle.job_driver.proofs.Answering.{all-own, given-by, ran-by, calm-by, none-together, none-in-all, returned-well, some-at}
 
 module _ {K : Type 0} (d : Devices K) (l : Limits 16) (jobs : ℕ → Job) (period workers : ℕ) (reports : List Report)
     (history : List CallEntry) (last : SlotState 16) (old new : List K)
@@ -106,7 +106,7 @@ module _ {K : Type 0} (d : Devices K) (l : Limits 16) (jobs : ℕ → Job) (peri
       let mine = reports_by (worker j) reports in
       let station = of-worker (λ r. is_station_failure r.end ≡ false) j below
       (calm-by is_station_failure mine
-      (none-together (ends_so is_station_failure mine) a.station.faults c.station.faults a.station.overruns c.station.overruns
+      (none-in-all (ends_so is_station_failure mine) a.station.faults c.station.faults a.station.overruns c.station.overruns
       caused.station calm.station calm.station_overruns)) in
       let keeper = of-worker (λ r. is_keeper_failure r.end ≡ false) j below
       (calm-by is_keeper_failure mine

@@ -13,6 +13,7 @@ use Rattle.slot_table.specs.History.{entry, outstanding, jobs_drawn}
 use Rattle.edge_traits.specs.Deeds.{ran, fetched, exchanged, put, timed, exchanges_in, moments_in, DidIn, MayAll}
 use Rattle.edge_traits.specs.Kits.{KitView}
 use Rattle.edge_traits.specs.Told.{SameRelation, SameRelation3}
+use Rattle.edge_traits.proofs.CountLemmas.{just-still}
 use Rattle.edge_traits.proofs.DeedLemmas.{DidIn-join, DidIn-nothing}
 use Rattle.farm_machine.specs.declared.reports.Places.{Places}
 use Rattle.farm_machine.specs.declared.reports.Report.{Report}
@@ -134,7 +135,14 @@ works-none {period = period} {w = w} {a = a} none blank = record {
     ran = tt;
     caused = subst (λ (z : List Report). AreCaused z a a) (sym none)
         (record {
-          station = record { first = 0; second = 0; enough = omega arith; rose = omega arith; rose_too = omega arith };
+          station = record {
+            first = 0;
+            second = 0;
+            all = refl;
+            rose = just-still a.station.faults a.station.faults refl;
+            rose_too = just-still a.station.overruns a.station.overruns refl;
+          };
+          missing = record { by = 0; most = omega arith; rose = just-still a.keeper.overruns a.keeper.overruns refl };
           keeper = record { first = 0; second = 0; enough = omega arith; rose = omega arith; rose_too = omega arith };
           puts = omega arith;
           dialer = omega arith;
@@ -217,7 +225,8 @@ works-more {h} {peers = peers} {peers' = peers'} {programs = programs} {programs
             (may-along peers' peers same_peers.back ys (did.may known)));
         ran = subst (AllRan programs) (sym acts) (ran-append programs (all_acts done) did.acts works.ran
             (ran-along programs' programs same_programs.back did.acts did.ran));
-        caused = subst (λ (z : List Report). AreCaused z old b) (sym is) (caused-more rs r old a b works.caused did.cause did.later);
+        caused = subst (λ (z : List Report). AreCaused z old b) (sym is) (caused-more rs r did.acts old a b works.caused
+            did.cause did.station did.keeper did.later);
         counts = counts-more jobs done new old a b works.counts
             (subst (λ (k : Job). CountsTell k (untimed did.acts) r.end a b) is_job
             (tell-untimed j did.acts r.end a b

@@ -10,25 +10,28 @@ use Rattle.slot_table.specs.declared.calls.SlotCall.TheVariants.{Draw}
 use Rattle.slot_table.specs.declared.calls.SlotReply.TheVariants.{Drawn}
 use Rattle.slot_table.specs.History.{entry}
 use Rattle.edge_traits.specs.declared.cause.Cause.TheVariants.{Dial, Send as CutSend, Recv, Truncated, BadReply, Stopped}
-use Rattle.edge_traits.specs.Causes.{Rose, RoseBy}
+use Rattle.edge_traits.specs.Causes.{Rose, RoseBy, RoseJust, OneRose, Still}
+use Rattle.edge_traits.specs.Keepers.{KeeperView}
+use Rattle.edge_traits.specs.Stations.{StationView, StationStill}
 use Rattle.edge_traits.specs.Kits.{KitView}
-use Rattle.edge_traits.proofs.CountLemmas.{RoseBy-then, RoseBy-later}
+use Rattle.edge_traits.proofs.CountLemmas.{RoseBy-then, RoseBy-later, just-once}
 use Rattle.farm_machine.specs.declared.reports.Why5.TheVariants.{Station, Put, Broke, NoHost, Memory, Fetch}
 use Rattle.farm_machine.specs.declared.reports.End.{End}
 use Rattle.farm_machine.specs.declared.reports.End.TheVariants.{Done, Failed}
 use Rattle.farm_machine.specs.declared.reports.Places.{Places}
 use Rattle.farm_machine.specs.declared.reports.Report.{Report}
 use Rattle.farm_machine.specs.Acts.{Act, slots_of}
-use Rattle.farm_machine.specs.Causes.{HasEndCause, KitLater}
+use Rattle.farm_machine.specs.Causes.{HasEndCause, StationStands, KitLater}
 use Rattle.farm_machine.specs.Honest.{Peers, Programs}
 use Rattle.farm_machine.specs.Jobs.{Job}
 use Rattle.farm_machine.specs.Machine.{Wants}
 use Rattle.farm_machine.specs.Numbered.{advanced, no_places}
 use Rattle.farm_machine.specs.Own.{DoneJob, Each, Serves, DoesJobs}
 use Rattle.job_run.specs.Events.{events_max}
+use Rattle.job_run.specs.Stands.{KeeperStands}
 use Rattle.job_run.proofs.Lists.{advanced-append}
 use Rattle.job_driver.specs.Works.{all_acts, IsReportOf, AreReportsOf, is_station_failure, is_keeper_failure, is_put_failure}
-use Rattle.job_driver.specs.Works.{is_dial_failure, ends_so, RoseTogether, AreCaused, Works}
+use Rattle.job_driver.specs.Works.{is_fetch_failure, is_dial_failure, ends_so, RoseTogether, RoseInAll, RoseUpTo, AreCaused, Works}
 
 -- what a worker did so far, and the places that come next
 pub record WorksTo {h : ℕ} (peers : Peers) (programs : Programs) (jobs : ℕ → Job) (period : ℕ) (l : Limits h) (worker : ℕ)
@@ -134,28 +137,70 @@ both-second n m a b c a' b' c' is rose later more = record {
   rose_too = RoseBy-then rose.second 1 a' b' c' rose.rose_too more;
 }
 
-module _ (n n' : ℕ) (a b c : KitView) (rose : RoseTogether n a.station.faults b.station.faults a.station.overruns b.station.overruns)
-    (later : KitLater b c) where
+module _ (n n' : ℕ) (a b c : StationView) (rose : RoseInAll n a.faults b.faults a.overruns b.overruns) where
   abbrev StationRose : Type 0
-  StationRose = RoseTogether n' a.station.faults c.station.faults a.station.overruns c.station.overruns
+  StationRose = RoseInAll n' a.faults c.faults a.overruns c.overruns
 
-  station-same : n' ≡ n + 0 → StationRose
-  station-same is = both-later n n' a.station.faults b.station.faults c.station.faults a.station.overruns b.station.overruns
-      c.station.overruns is rose later.station later.station_overruns
+  station-same : n' ≡ n + 0 → StationStill b c → StationRose
+  station-same is still = record {
+    first = rose.first;
+    second = rose.second;
+    all = let all = rose.all in omega (arith, all, is);
+    rose = subst (RoseJust rose.first a.faults) (sym still.faults) rose.rose;
+    rose_too = subst (RoseJust rose.second a.overruns) (sym still.overruns) rose.rose_too;
+  }
 
-  pub station-more : (end : End) → n' ≡ n + cond (is_station_failure end) 1 0 → HasEndCause end b c → StationRose
-  station-more (Failed Station) is cause = elim cause [
-    | inl r ↦ both-first n n' a.station.faults b.station.faults c.station.faults a.station.overruns b.station.overruns c.station.overruns is
-        rose r later.station_overruns
-    | inr r ↦ both-second n n' a.station.faults b.station.faults c.station.faults a.station.overruns b.station.overruns c.station.overruns
-        is rose later.station r
+  station-once : n' ≡ n + 1 → OneRose b.faults c.faults b.overruns c.overruns → StationRose
+  station-once is once = elim once [
+    | inl h ↦ record {
+      first = rose.first + 1;
+      second = rose.second;
+      all = let all = rose.all in omega (arith, all, is);
+      rose = just-once rose.first a.faults b.faults c.faults rose.rose h.0;
+      rose_too = subst (RoseJust rose.second a.overruns) (sym h.1) rose.rose_too;
+    }
+    | inr h ↦ record {
+      first = rose.first;
+      second = rose.second + 1;
+      all = let all = rose.all in omega (arith, all, is);
+      rose = subst (RoseJust rose.first a.faults) (sym h.0) rose.rose;
+      rose_too = just-once rose.second a.overruns b.overruns c.overruns rose.rose_too h.1;
+    }
   ]
-  station-more (Done status note err out by) is cause = station-same is
-  station-more (Failed Put) is cause = station-same is
-  station-more (Failed Fetch) is cause = station-same is
-  station-more (Failed (Broke host why)) is cause = station-same is
-  station-more (Failed NoHost) is cause = station-same is
-  station-more (Failed Memory) is cause = station-same is
+
+  pub station-more : (end : End) → n' ≡ n + cond (is_station_failure end) 1 0 → StationStands end b c → StationRose
+  station-more (Failed Station) is stands = station-once is stands
+  station-more (Done status note err out by) is stands = station-same is stands
+  station-more (Failed Put) is stands = station-same is stands
+  station-more (Failed Fetch) is stands = station-same is stands
+  station-more (Failed (Broke host why)) is stands = station-same is stands
+  station-more (Failed NoHost) is stands = station-same is stands
+  station-more (Failed Memory) is stands = station-same is stands
+
+module _ (n n' : ℕ) (acts : List Act) (a b c : KeeperView) (rose : RoseUpTo n a.overruns b.overruns) where
+  missing-same : n ≤ n' → Still b.overruns c.overruns → RoseUpTo n' a.overruns c.overruns
+  missing-same is still = record {
+    by = rose.by;
+    most = let most = rose.most in omega (arith, most, is);
+    rose = subst (RoseJust rose.by a.overruns) (sym still) rose.rose;
+  }
+
+  pub missing-more : (end : End) → n' ≡ n + cond (is_fetch_failure end) 1 0 → KeeperStands end acts b c
+      → RoseUpTo n' a.overruns c.overruns
+  missing-more (Failed Fetch) is stands = elim stands [
+    | inl still ↦ missing-same (omega (arith, is)) still
+    | inr once ↦ record {
+      by = rose.by + 1;
+      most = let most = rose.most in omega (arith, most, is);
+      rose = just-once rose.by a.overruns b.overruns c.overruns rose.rose once;
+    }
+  ]
+  missing-more (Done status note err out by) is stands = missing-same (omega (arith, is)) stands.overruns
+  missing-more (Failed Put) is stands = missing-same (omega (arith, is)) stands
+  missing-more (Failed Station) is stands = missing-same (omega (arith, is)) stands.overruns
+  missing-more (Failed (Broke host why)) is stands = missing-same (omega (arith, is)) stands.overruns
+  missing-more (Failed NoHost) is stands = missing-same (omega (arith, is)) stands.overruns
+  missing-more (Failed Memory) is stands = missing-same (omega (arith, is)) stands.overruns
 
 module _ (n n' : ℕ) (a b c : KitView) (rose : RoseTogether n a.keeper.faults b.keeper.faults a.keeper.overruns b.keeper.overruns)
     (later : KitLater b c) where
@@ -214,11 +259,13 @@ module _ (n n' : ℕ) (a b c : KitView) (rose : RoseBy n a.keeper.faults b.keepe
   put-more (Failed NoHost) is cause = put-same is
   put-more (Failed Memory) is cause = put-same is
 
-pub caused-more : (rs : List Report) (r : Report) (a b c : KitView) → AreCaused rs a b → HasEndCause r.end b c → KitLater b c
-    → AreCaused (rs ++ r ∷ []) a c
-caused-more rs r a b c all cause later = record {
-  station = station-more (ends_so is_station_failure rs) (ends_so is_station_failure (rs ++ r ∷ [])) a b c all.station later r.end
-      (one-more is_station_failure rs r) cause;
+pub caused-more : (rs : List Report) (r : Report) (acts : List Act) (a b c : KitView) → AreCaused rs a b → HasEndCause r.end b c
+    → StationStands r.end b.station c.station → KeeperStands r.end acts b.keeper c.keeper → KitLater b c → AreCaused (rs ++ r ∷ []) a c
+caused-more rs r acts a b c all cause station keeper later = record {
+  station = station-more (ends_so is_station_failure rs) (ends_so is_station_failure (rs ++ r ∷ [])) a.station b.station c.station
+      all.station r.end (one-more is_station_failure rs r) station;
+  missing = missing-more (ends_so is_fetch_failure rs) (ends_so is_fetch_failure (rs ++ r ∷ [])) acts a.keeper b.keeper c.keeper
+      all.missing r.end (one-more is_fetch_failure rs r) keeper;
   keeper = keeper-more (ends_so is_keeper_failure rs) (ends_so is_keeper_failure (rs ++ r ∷ [])) a b c all.keeper later r.end
       (one-more is_keeper_failure rs r) cause;
   puts = put-more (ends_so is_put_failure rs) (ends_so is_put_failure (rs ++ r ∷ [])) a b c all.puts later r.end

@@ -6,7 +6,7 @@ use Rattle.slot_table.specs.declared.calls.SlotCall.TheVariants.{Draw}
 use Rattle.slot_table.specs.declared.calls.SlotReply.TheVariants.{Drawn}
 use Rattle.slot_table.specs.History.{entry}
 use Rattle.edge_traits.specs.declared.cause.Cause.TheVariants.{Dial}
-use Rattle.edge_traits.specs.Causes.{RoseBy}
+use Rattle.edge_traits.specs.Causes.{RoseBy, RoseJust}
 use Rattle.edge_traits.specs.Deeds.{exchanges_in, moments_in, DidIn, MayAll}
 use Rattle.edge_traits.specs.Kits.{KitView}
 use Rattle.farm_machine.specs.declared.reports.Why5.TheVariants.{Station, Put, Broke, Fetch}
@@ -83,16 +83,34 @@ pub record RoseTogether (number a a' b b' : ℕ) : Type 0 where
   pub rose : RoseBy first a a'
   pub rose_too : RoseBy second b b'
 
--- No more jobs failed by a device than its counts rose together. Puts have a bound of their own, since no overrun fails one.
+-- two counts together rose by just this number
+pub record RoseInAll (number a a' b b' : ℕ) : Type 0 where
+  pub first : ℕ
+  pub second : ℕ
+  pub all : number ≡ first + second
+  pub rose : RoseJust first a a'
+  pub rose_too : RoseJust second b b'
+
+-- a count rose by no more than this number
+pub record RoseUpTo (number before now : ℕ) : Type 0 where
+  pub by : ℕ
+  pub most : by ≤ number
+  pub rose : RoseJust by before now
+
+-- The counts of the station rose by just the number of the jobs that failed by it, so no other run failed or gave too much. The keeper's
+-- overruns rose by no more than the jobs that failed by a fetch, so for no other was a file missing or too long. No more jobs failed by
+-- the keeper or the dialer than their counts rose together. Puts have a bound of their own, since no overrun fails one.
 pub record AreCaused (reports : List Report) (old new : KitView) : Type 0 where
-  pub station : RoseTogether (ends_so is_station_failure reports) old.station.faults new.station.faults old.station.overruns
+  pub station : RoseInAll (ends_so is_station_failure reports) old.station.faults new.station.faults old.station.overruns
       new.station.overruns
+  pub missing : RoseUpTo (ends_so is_fetch_failure reports) old.keeper.overruns new.keeper.overruns
   pub keeper : RoseTogether (ends_so is_keeper_failure reports) old.keeper.faults new.keeper.faults old.keeper.overruns new.keeper.overruns
   pub puts : RoseBy (ends_so is_put_failure reports) old.keeper.faults new.keeper.faults
   pub dialer : RoseBy (ends_so is_dial_failure reports) old.dialer.faults new.dialer.faults
 
--- What a job did to the counts of its kit, by its end. A failure of a device goes with a rise of that device's count. Where the job ends
--- otherwise, for want of memory too, the counts of its station stand still, and those of its keeper as `run_job` says.
+-- What a job did to the counts of its kit, by its end. A failure of a device goes with a rise of that device's count; by one of the station
+-- just one count rose, by one. Where the job ends otherwise, for want of memory too, the counts of its station stand still, and those of its
+-- keeper as `run_job` says.
 pub record CountsTell (j : Job) (acts : List Act) (end : End) (old new : KitView) : Type 0 where
   pub cause : HasEndCause end old new
   pub station : StationStands end old.station new.station

@@ -14,7 +14,7 @@ use Rattle.remote_transfer.specs.declared.answers.Landing.TheVariants as landing
 use Rattle.farm_machine.specs.declared.reports.By.TheVariants.{Remote}
 use Rattle.edge_traits.specs.declared.cause.Cause.{Cause}
 use Rattle.farm_machine.specs.declared.reports.Why5.{Why5}
-use Rattle.farm_machine.specs.declared.reports.Why5.TheVariants.{Memory, Broke, Fetch}
+use Rattle.farm_machine.specs.declared.reports.Why5.TheVariants.{Memory, Broke, Fetch, Station}
 use Rattle.farm_machine.specs.declared.reports.End.{End}
 use Rattle.farm_machine.specs.declared.reports.End.TheVariants.{Done, Failed}
 use Rattle.farm_machine.specs.Causes.{HasEndCause}
@@ -110,9 +110,13 @@ wanted-step {a = a} {b = b} went =
       fetch = tt;
     }
 
+-- no fetch and no run
+abbrev IsOfHosts : Why5 → Type 0
+IsOfHosts why = (why ≢ Fetch) × (why ≢ Station)
+
 -- with fallback the job is compiled here, and else it has failed
 pub here-step : {h : ℕ} (j : Job) (l : Limits h) (caller number : ℕ) (a b : Seen) (at : At) (source note : List ℕ) (why : Why5)
-    → WentOn j l caller number a b at (or_here j source note (Failed why)) → HasEndCause (Failed why) a.kit b.kit → why ≢ Fetch
+    → WentOn j l caller number a b at (or_here j source note (Failed why)) → HasEndCause (Failed why) a.kit b.kit → IsOfHosts why
     → StepIs j l caller number a b at source note (cond j.config.fallback step.Here (step.Failed why))
 here-step j l caller number a b at source note why went cause other = go j.config.fallback went
   where
@@ -125,11 +129,10 @@ here-step j l caller number a b at source note why went cause other = go j.confi
           went = w.went;
           ends = refl;
           cause = cause;
-          station = stands-by (Failed why) a.kit.station
-              b.kit.station w.station;
+          station = stands-by why a.kit.station b.kit.station other.1 w.station;
           keeper = keeps-by (Failed why) w.went.acts a.kit.keeper b.kit.keeper w.keeper;
           fetch = unfetched
-              (source_name j) why w.went.acts a.kit.keeper b.kit.keeper other;
+              (source_name j) why w.went.acts a.kit.keeper b.kit.keeper other.0;
         }
 
 -- from here a job may go on by these acts to this end, each run and fetch within its bounds and no fault of an exchange hidden
@@ -163,10 +166,10 @@ host_found xs ys place host x same_list same_host is below =
     let e : x ≡ get_or ys host x = is ∙ ap (λ (zs : List Host). get_or zs place x) same_list ∙ ap (λ (k : ℕ). get_or ys k x) same_host in
     sym (get_or_read ys host x below e no_host_entry)
 
--- what the tries came to is no fetch
-pub no-host-unfetched : (tried : List Tried) → no_host tried ≢ Fetch
-no-host-unfetched [] e = cc
-no-host-unfetched (t ∷ tried) e = cc
+-- what the tries came to is of the hosts
+pub no-host-left : (tried : List Tried) → IsOfHosts (no_host tried)
+no-host-left [] = (λ e. cc, λ e. cc)
+no-host-left (t ∷ tried) = (λ e. cc, λ e. cc)
 
 -- where a job stands after these tries: it asks the next host, or has no tries left
 abbrev pub stage : Job → List ℕ → List ℕ → List Tried → At
@@ -228,7 +231,7 @@ pub here-as : {h : ℕ} {j : Job} {l : Limits h} {caller number : ℕ} {a b : Se
     (last why : Why5)
     → s ≡ cond j.config.fallback step.Here (step.Failed last) → last ≡ why
     → WentOn j l caller number a b at (or_here j source note (Failed why))
-    → HasEndCause (Failed last) a.kit b.kit → why ≢ Fetch → StepIs j l caller number a b at source note s
+    → HasEndCause (Failed last) a.kit b.kit → IsOfHosts why → StepIs j l caller number a b at source note s
 here-as {j = j} {l = l} {caller = caller} {number = number} {a = a} {b = b} {at = at} source note s last why is same went cause other =
     subst (λ (t : Step). StepIs j l caller number a b at source note t)
     (sym (is ∙ ap (λ (w : Why5). cond j.config.fallback step.Here (step.Failed w)) same))

@@ -1,11 +1,11 @@
 -- One part of a job after another.
-use Rattle.std.proofs.Common.{◌≡◌, ◌≢◌, ℕ, ◌≤◌, List, ◌++◌, refl, sym, ap, ◌∙◌, subst, append_assoc, arith, inl, inr}
+use Rattle.std.proofs.Common.{◌≡◌, ◌≢◌, ◌⊎◌, ℕ, ◌≤◌, List, ◌++◌, refl, sym, ap, ◌∙◌, subst, append_assoc, arith, inl, inr}
 use Rattle.farm_types.specs.Limits.{preprocessed_max}
 use Rattle.slot_table.specs.declared.limits.Limits.{Limits}
 use Rattle.slot_table.specs.declared.calls.CallEntry.{CallEntry}
 use Rattle.edge_traits.specs.declared.cause.Cause.TheVariants.{Dial, Send as CutSend, Recv, Truncated, BadReply, Stopped}
 use Rattle.edge_traits.specs.Kits.{KitView}
-use Rattle.edge_traits.specs.Causes.{Rose}
+use Rattle.edge_traits.specs.Causes.{Rose, RoseOnce, OneRose}
 use Rattle.edge_traits.specs.Dialers.{DialerView}
 use Rattle.remote_transfer.specs.Landings.{KeeperStays}
 use Rattle.edge_traits.specs.Stations.{StationView, StationStill}
@@ -148,19 +148,24 @@ pub went-on : {h : ℕ} {j : Job} {l : Limits h} {caller number : ℕ} {a b : Se
     → StationStill a.kit.station b.kit.station → KeepsStill went.acts a.kit.keeper b.kit.keeper → WentOn j l caller number a b at to
 went-on went none keeper = record { went = went; station = none; keeper = keeper }
 
--- where no count of the station rose, it stands at any end
-pub stands-by : (end : End) (old new : StationView) → StationStill old new → StationStands end old new
-stands-by (Done status note err out by) old new none = none
-stands-by (Failed Station) old new none = tt
-stands-by (Failed Put) old new none = none
-stands-by (Failed Fetch) old new none = none
-stands-by (Failed (Broke host cause)) old new none = none
-stands-by (Failed NoHost) old new none = none
-stands-by (Failed Memory) old new none = none
+-- where no count of the station rose, it stands at any end that isn't by a run
+pub stands-by : (why : Why5) (old new : StationView) → why ≢ Station → StationStill old new → StationStands (Failed why) old new
+stands-by Station old new other none = absurd (other refl)
+stands-by Put old new other none = none
+stands-by Fetch old new other none = none
+stands-by (Broke host cause) old new other none = none
+stands-by NoHost old new other none = none
+stands-by Memory old new other none = none
+
+-- by a run only one count rose, and none before it
+one-before : (a a' a'' b b' b'' : ℕ) → a' ≡ a → b' ≡ b → OneRose a' a'' b' b'' → OneRose a a'' b b''
+one-before a a' a'' b b' b'' first second last =
+    subst (λ n. OneRose n a'' b b'') first (subst (λ m. OneRose a' a'' m b'') second last)
 
 stands-before : (a b c : StationView) (end : End) → StationStill a b → StationStands end b c → StationStands end a c
 stands-before a b c (Done status note err out by) first last = none-rose-then a b c first last
-stands-before a b c (Failed Station) first last = tt
+stands-before a b c (Failed Station) first last =
+    one-before a.faults b.faults c.faults a.overruns b.overruns c.overruns first.faults first.overruns last
 stands-before a b c (Failed Put) first last = none-rose-then a b c first last
 stands-before a b c (Failed Fetch) first last = none-rose-then a b c first last
 stands-before a b c (Failed (Broke host cause)) first last = none-rose-then a b c first last
@@ -176,7 +181,7 @@ pub keeps-by : (end : End) (acts : List Act) (old new : KeeperView) → KeepsSti
 keeps-by (Done status note err out by) acts old new still = still
 keeps-by (Failed Station) acts old new still = still
 keeps-by (Failed Put) acts old new still = still.overruns
-keeps-by (Failed Fetch) acts old new still = tt
+keeps-by (Failed Fetch) acts old new still = inl still.overruns
 keeps-by (Failed (Broke host cause)) acts old new still = still
 keeps-by (Failed NoHost) acts old new still = still
 keeps-by (Failed Memory) acts old new still =
@@ -195,7 +200,8 @@ keeps-before : (xs ys : List Act) (a b c : KeeperView) (end : End) → KeepsStil
 keeps-before xs ys a b c (Done status note err out by) first last = still-then xs ys a b c first last
 keeps-before xs ys a b c (Failed Station) first last = still-then xs ys a b c first last
 keeps-before xs ys a b c (Failed Put) first last = last ∙ first.overruns
-keeps-before xs ys a b c (Failed Fetch) first last = tt
+keeps-before xs ys a b c (Failed Fetch) first last =
+    subst (λ n. (c.overruns ≡ n) ⊎ RoseOnce n c.overruns) first.overruns last
 keeps-before xs ys a b c (Failed (Broke host cause)) first last = still-then xs ys a b c first last
 keeps-before xs ys a b c (Failed NoHost) first last = still-then xs ys a b c first last
 keeps-before xs ys a b c (Failed Memory) first last = record {
@@ -217,34 +223,35 @@ unfetched name (Broke host cause) acts old new other = tt
 unfetched name NoHost acts old new other = tt
 unfetched name Memory acts old new other = tt
 
--- the cause of a fetch is one also from a moment before, since when the faults stood still
+-- the cause of a fetch is one also from a moment before, since when the counts stood still
 fetch-cause-before : (name : List ℕ) (bound : ℕ) (fault : FetchFault) (a b c : KeeperView) → fetch_failure fault ≡ Fetch
-    → b.faults ≡ a.faults → a.overruns ≤ b.overruns → FetchCause name bound b c fault → FetchCause name bound a c fault
-fetch-cause-before name bound fetch.Failed a b c is still later cause = rose-before a.faults b.faults c.faults (omega (arith, still)) cause
-fetch-cause-before name bound fetch.Absent a b c is still later cause =
-    record { rose = rose-before a.overruns b.overruns c.overruns later cause.rose; calm = cause.calm ∙ still; absent = cause.absent }
-fetch-cause-before name bound (fetch.TooMuch bytes) a b c is still later cause =
+    → b.faults ≡ a.faults → b.overruns ≡ a.overruns → FetchCause name bound b c fault → FetchCause name bound a c fault
+fetch-cause-before name bound fetch.Failed a b c is still kept cause =
+    record { rose = subst (λ n. Rose n c.faults) still cause.rose; calm = cause.calm ∙ kept }
+fetch-cause-before name bound fetch.Absent a b c is still kept cause =
+    record { rose = subst (λ n. RoseOnce n c.overruns) kept cause.rose; calm = cause.calm ∙ still; absent = cause.absent }
+fetch-cause-before name bound (fetch.TooMuch bytes) a b c is still kept cause =
     record {
-      rose = rose-before a.overruns b.overruns c.overruns later cause.rose;
+      rose = subst (λ n. RoseOnce n c.overruns) kept cause.rose;
       calm = cause.calm
           ∙ still;
       above = cause.above;
       long = cause.long;
     }
-fetch-cause-before name bound fetch.Memory a b c is still later cause = absurd (cc)
+fetch-cause-before name bound fetch.Memory a b c is still kept cause = absurd (cc)
 
-fetch-before : (name : List ℕ) (xs ys : List Act) (a b c : KeeperView) (end : End) → a.overruns ≤ b.overruns → KeepsStill xs a b
+fetch-before : (name : List ℕ) (xs ys : List Act) (a b c : KeeperView) (end : End) → KeepsStill xs a b
     → FetchEnds name end ys b c → FetchEnds name end (xs ++ ys) a c
-fetch-before name xs ys a b c (Done status note err out by) later first last = tt
-fetch-before name xs ys a b c (Failed Station) later first last = tt
-fetch-before name xs ys a b c (Failed Put) later first last = tt
-fetch-before name xs ys a b c (Failed Fetch) later first last = λ none.
+fetch-before name xs ys a b c (Done status note err out by) first last = tt
+fetch-before name xs ys a b c (Failed Station) first last = tt
+fetch-before name xs ys a b c (Failed Put) first last = tt
+fetch-before name xs ys a b c (Failed Fetch) first last = λ none.
     let both = exchangeless-both xs ys none in
     let found = last both.1 in
-    (found.0, found.1, fetch-cause-before name preprocessed_max found.0 a b c found.1 (first.faults both.0) later found.2)
-fetch-before name xs ys a b c (Failed (Broke host cause)) later first last = tt
-fetch-before name xs ys a b c (Failed NoHost) later first last = tt
-fetch-before name xs ys a b c (Failed Memory) later first last = tt
+    (found.0, found.1, fetch-cause-before name preprocessed_max found.0 a b c found.1 (first.faults both.0) first.overruns found.2)
+fetch-before name xs ys a b c (Failed (Broke host cause)) first last = tt
+fetch-before name xs ys a b c (Failed NoHost) first last = tt
+fetch-before name xs ys a b c (Failed Memory) first last = tt
 
 -- One part after another: by the limits and the caller that the first has, which stayed the same.
 went-then : {h : ℕ} {j : Job} {l l' : Limits h} {caller caller' number : ℕ} {a b c : Seen} {at mid to : At}
@@ -323,5 +330,5 @@ on-ended {j = j} {l = l} {l' = l'} {caller = caller} {caller' = caller'} {number
       station = stands-before a.kit.station b.kit.station c.kit.station end first.station last.station;
       keeper = keeps-before first.went.acts last.went.acts a.kit.keeper b.kit.keeper c.kit.keeper end first.keeper last.keeper;
       fetch = fetch-before (source_name j) first.went.acts last.went.acts a.kit.keeper b.kit.keeper c.kit.keeper end
-          first.went.later.keeper_overruns first.keeper last.fetch;
+          first.keeper last.fetch;
     }

@@ -19,7 +19,8 @@ use Rattle.edge_traits.specs.declared.cause.Cause.TheVariants.{Dial, Send as Cut
 use Rattle.edge_traits.specs.Causes.{Rose, Still, IsRemoval}
 use Rattle.edge_traits.specs.Kits.{KitView}
 use Rattle.edge_traits.specs.Keepers.{KeeperView, FetchCause}
-use Rattle.edge_traits.specs.Stations.{StationView, RunFault}
+use Rattle.edge_traits.specs.Stations.{StationView, StationStill, RunFault}
+use Rattle.edge_traits.proofs.CountLemmas.{once-rose}
 use Rattle.farm_types.specs.declared.request.Request.{Request}
 use Rattle.farm_types.specs.declared.hosts.Host.{Host}
 use Rattle.farm_types.specs.declared.ran.Outcome.{Outcome}
@@ -60,17 +61,19 @@ over-not-run fault why is =
 
 pub not-run-cause : (bounds : Bounds) (fault : StationFault) (why : Why5) (old new : KitView) → why ≡ station_failure fault
     → RunFault bounds old.station new.station fault → HasEndCause (Failed why) old new
-not-run-cause bounds station.Failed why old new is rose = subst (λ (w : Why5). HasEndCause (Failed w) old new) (sym is) (inl rose)
+not-run-cause bounds station.Failed why old new is failed =
+    subst (λ (w : Why5). HasEndCause (Failed w) old new) (sym is) (inl (once-rose old.station.faults new.station.faults failed.rose))
 not-run-cause bounds (station.TooMuch stream bytes) why old new is over =
-    subst (λ (w : Why5). HasEndCause (Failed w) old new) (sym is) (inr over.rose)
+    subst (λ (w : Why5). HasEndCause (Failed w) old new) (sym is) (inr (once-rose old.station.overruns new.station.overruns over.rose))
 not-run-cause bounds station.Memory why old new is free = subst (λ (w : Why5). HasEndCause (Failed w) old new) (sym is) tt
 
--- where it wanted memory, no count of the station rose
+-- by a run that failed or gave too much just one count of the station rose, and where it wanted memory none did
 pub not-run-stands : (bounds : Bounds) (fault : StationFault) (why : Why5) (old new : StationView) → why ≡ station_failure fault
     → RunFault bounds old new fault → StationStands (Failed why) old new
-not-run-stands bounds station.Failed why old new is rose = subst (λ (w : Why5). StationStands (Failed w) old new) (sym is) tt
-not-run-stands bounds (station.TooMuch stream bytes) why old new is rose =
-    subst (λ (w : Why5). StationStands (Failed w) old new) (sym is) tt
+not-run-stands bounds station.Failed why old new is failed =
+    subst (λ (w : Why5). StationStands (Failed w) old new) (sym is) (inl (failed.rose, failed.calm))
+not-run-stands bounds (station.TooMuch stream bytes) why old new is over =
+    subst (λ (w : Why5). StationStands (Failed w) old new) (sym is) (inr (over.calm, over.rose))
 not-run-stands bounds station.Memory why old new is none = subst (λ (w : Why5). StationStands (Failed w) old new) (sym is) none
 
 -- no run is a fetch
@@ -87,20 +90,23 @@ not-fetched fetch.Memory why is = inr is
 
 pub not-fetched-cause : (path : List ℕ) (bound : ℕ) (fault : FetchFault) (why : Why5) (old new : KitView) → why ≡ fetch_failure fault
     → FetchCause path bound old.keeper new.keeper fault → HasEndCause (Failed why) old new
-not-fetched-cause path bound fetch.Failed why old new is rose = subst (λ (w : Why5). HasEndCause (Failed w) old new) (sym is) (inl rose)
+not-fetched-cause path bound fetch.Failed why old new is failed =
+    subst (λ (w : Why5). HasEndCause (Failed w) old new) (sym is) (inl failed.rose)
 not-fetched-cause path bound fetch.Absent why old new is gone =
-    subst (λ (w : Why5). HasEndCause (Failed w) old new) (sym is) (inr gone.rose)
+    subst (λ (w : Why5). HasEndCause (Failed w) old new) (sym is) (inr (once-rose old.keeper.overruns new.keeper.overruns gone.rose))
 not-fetched-cause path bound (fetch.TooMuch bytes) why old new is long =
-    subst (λ (w : Why5). HasEndCause (Failed w) old new) (sym is) (inr long.rose)
+    subst (λ (w : Why5). HasEndCause (Failed w) old new) (sym is) (inr (once-rose old.keeper.overruns new.keeper.overruns long.rose))
 not-fetched-cause path bound fetch.Memory why old new is free = subst (λ (w : Why5). HasEndCause (Failed w) old new) (sym is) tt
 
--- where the fetch wanted memory, the keeper's counts stand still
+-- by a fetch that failed at most one overrun came in, and where it wanted memory the keeper's counts stand still
 pub not-fetched-stands : (path : List ℕ) (bound : ℕ) (fault : FetchFault) (why : Why5) (acts : List Act) (old new : KeeperView)
     → why ≡ fetch_failure fault → FetchCause path bound old new fault → KeeperStands (Failed why) acts old new
-not-fetched-stands path bound fetch.Failed why acts old new is rose = subst (λ (w : Why5). KeeperStands (Failed w) acts old new) (sym is) tt
-not-fetched-stands path bound fetch.Absent why acts old new is gone = subst (λ (w : Why5). KeeperStands (Failed w) acts old new) (sym is) tt
+not-fetched-stands path bound fetch.Failed why acts old new is failed =
+    subst (λ (w : Why5). KeeperStands (Failed w) acts old new) (sym is) (inl failed.calm)
+not-fetched-stands path bound fetch.Absent why acts old new is gone =
+    subst (λ (w : Why5). KeeperStands (Failed w) acts old new) (sym is) (inr gone.rose)
 not-fetched-stands path bound (fetch.TooMuch bytes) why acts old new is long =
-    subst (λ (w : Why5). KeeperStands (Failed w) acts old new) (sym is) tt
+    subst (λ (w : Why5). KeeperStands (Failed w) acts old new) (sym is) (inr long.rose)
 not-fetched-stands path bound fetch.Memory why acts old new is free =
     subst (λ (w : Why5). KeeperStands (Failed w) acts old new) (sym is)
     (record { faults = λ none. let e = free.faults in omega (arith, e); overruns = free.overruns })
@@ -121,6 +127,23 @@ fetch-ends name path fault why acts old new named is cause =
 pub not-put : (fault : EdgeFault) (why : Why5) → why ≡ put_failure fault → (why ≡ Put) ⊎ (why ≡ Memory)
 not-put edge.Failed why is = inl is
 not-put edge.Memory why is = inr is
+
+-- no put, no fetch and no outcome is a run, so the station stands still there
+pub not-put-ran : (fault : EdgeFault) (why : Why5) (old new : StationView) → why ≡ put_failure fault → StationStill old new
+    → StationStands (Failed why) old new
+not-put-ran edge.Failed why old new is still = subst (λ (w : Why5). StationStands (Failed w) old new) (sym is) still
+not-put-ran edge.Memory why old new is still = subst (λ (w : Why5). StationStands (Failed w) old new) (sym is) still
+
+pub not-fetched-ran : (fault : FetchFault) (why : Why5) (old new : StationView) → why ≡ fetch_failure fault → StationStill old new
+    → StationStands (Failed why) old new
+not-fetched-ran fetch.Failed why old new is still = subst (λ (w : Why5). StationStands (Failed w) old new) (sym is) still
+not-fetched-ran fetch.Absent why old new is still = subst (λ (w : Why5). StationStands (Failed w) old new) (sym is) still
+not-fetched-ran (fetch.TooMuch bytes) why old new is still = subst (λ (w : Why5). StationStands (Failed w) old new) (sym is) still
+not-fetched-ran fetch.Memory why old new is still = subst (λ (w : Why5). StationStands (Failed w) old new) (sym is) still
+
+pub done-stands : {end : End} {status : ℕ} {note err out : List ℕ} {by : By} (old new : StationView) → end ≡ Done status note err out by
+    → StationStill old new → StationStands end old new
+done-stands old new is still = subst (λ (e : End). StationStands e old new) (sym is) still
 
 -- no put is a fetch
 pub not-put-unfetched : (fault : EdgeFault) (why : Why5) → why ≡ put_failure fault → why ≢ Fetch

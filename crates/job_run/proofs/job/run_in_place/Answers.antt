@@ -6,8 +6,8 @@ use Rattle.farm_machine.specs.Acts.{TakesLocal, GivesLocal, Did, Met}
 use Rattle.farm_machine.specs.Course.{LentInPlace, RanInPlace, Over}
 use Rattle.edge_traits.specs.declared.entries.Run.{Run}
 use Rattle.child_runner.specs.Runs.{texts}
-use Rattle.job_run.proofs.Composing.{stands-by, keeps-none, keeps-by, unfetched, later-ran}
-use Rattle.job_run.proofs.Failing.{over-not-run, not-run-cause, not-run-stands, not-run-unfetched, done-cause, done-unfetched}
+use Rattle.job_run.proofs.Composing.{keeps-none, keeps-by, unfetched, later-ran}
+use Rattle.job_run.proofs.Failing.{over-not-run, not-run-cause, not-run-stands, not-run-unfetched, done-cause, done-stands, done-unfetched}
 use Rattle.job_run.proofs.Failing.{local-given, borrowed-given}
 use Rattle.job_run.proofs.Leaves.{noted-then, did-run, did-nothing, local-ran, local-not-run, same_peers}
 use Rattle.job_run.proofs.Outstanding.{gave-local, spent-two}
@@ -58,7 +58,7 @@ returns-in-Ok-clause-ended g c = λ config stays.
           (stays, refl) ((refl, refl), refl) run.within (inl (ap (λ e. Over e) end));
       ends = refl;
       cause = done-cause _ _ end;
-      station = stands-by _ _ _ run.done;
+      station = done-stands _ _ end run.done;
       keeper = keeps-by _ _ _ _ (keeps-none _ _);
       fetch = done-unfetched _ _ _ _ end;
     }

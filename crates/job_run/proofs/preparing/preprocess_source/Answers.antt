@@ -8,9 +8,9 @@ use Rattle.child_runner.specs.Runs.{texts}
 use Rattle.farm_machine.specs.declared.reports.End.TheVariants.{Failed}
 use Rattle.farm_machine.specs.Course.{Start, Over}
 use Rattle.farm_machine.specs.Jobs.{job_of}
-use Rattle.job_run.proofs.Composing.{stands-by, keeps-none, keeps-by, unfetched, later-ran}
+use Rattle.job_run.proofs.Composing.{keeps-none, keeps-by, unfetched, later-ran}
 use Rattle.job_run.proofs.Ends.{preprocessor-failed, preprocessor-well, ends-unpreprocessed}
-use Rattle.job_run.proofs.Failing.{not-run, not-run-cause, not-run-stands, not-run-unfetched, done-cause, done-unfetched}
+use Rattle.job_run.proofs.Failing.{not-run, not-run-cause, not-run-stands, not-run-unfetched, done-cause, done-stands, done-unfetched}
 use Rattle.job_run.proofs.Leaves.{only-deed, no-act, did-run, did-nothing, same_peers}
 use Rattle.job_run.proofs.Names.{class_unready}
 use Rattle.job_run.proofs.preparing.preprocess_source.Goals as goal
@@ -35,7 +35,7 @@ returns-then-ran-ne0-clause-prepared g c = λ h l caller number mine config.
           ) run.within;
       ends = refl;
       cause = done-cause _ _ c.done_by_preprocessor.ensures;
-      station = stands-by _ _ _ run.done;
+      station = done-stands _ _ c.done_by_preprocessor.ensures run.done;
       keeper = keeps-by _ _ _ _ (keeps-none _ _);
       fetch = done-unfetched _ _ _ _ c.done_by_preprocessor.ensures;
     }

@@ -10,7 +10,7 @@ use Rattle.job_run.specs.Events.{try_events, tries_events}
 use Rattle.job_run.specs.Seen.{job_in}
 use Rattle.job_run.specs.Stages.{HasUntried}
 use Rattle.job_run.proofs.Asking.{asks-next, stage-next, stage-last, stage-broken, tried-more, step-then, arrive, here-as}
-use Rattle.job_run.proofs.Asking.{no-host-unfetched, untried-all, untried-more}
+use Rattle.job_run.proofs.Asking.{no-host-left, untried-all, untried-more}
 use Rattle.job_run.proofs.Composing.{none-rose, on-then, cause-later, cause-before, keeps-none, later-none}
 use Rattle.job_run.proofs.Free.{free-then, stays-none, stays-then}
 use Rattle.job_run.proofs.Keeping.{idle-step}
@@ -64,7 +64,7 @@ returns-in-Down-clause-asked g c = λ note.
     here-as c.args.request.now.source note _ c.loop-made.last (no_host inv.tried) c.here_or.ensures inv.last
     (on-then limits caller (asks-next inv.tried below (inv.went note)) down)
     (cause-later _ _ _ (Failed c.loop-made.last) inv.cause down.went.later)
-    (no-host-unfetched inv.tried)
+    (no-host-left inv.tried)
 
 pub returns-in-Over-clause-asked : goal.returns-in-Over-clause-asked
 returns-in-Over-clause-asked g c = λ note.
@@ -84,7 +84,7 @@ returns-clause-asked g c = λ note.
     (arrive
     (stage-last (job_in c.args.task.now) c.args.request.now.source note inv.tried above) (inv.went note))
     inv.cause
-    (no-host-unfetched inv.tried)
+    (no-host-left inv.tried)
 
 pub loop-made-init : goal.loop-made-init
 loop-made-init g c =
