@@ -264,7 +264,7 @@ pub fetch-cause : (path : List ℕ) (bound : ℕ) (old now : FilesView) (before 
     (result : Result (List ℕ) FetchFault) → ¬ (IsStaged path) → IfErr result (FetchCause path bound (as_keeper old) (as_keeper now))
     → IfErr result (FetchCause path bound (keeper_view old before) (keeper_view now after))
 fetch-cause path bound old now before after (Ok bytes) other cause = tt
-fetch-cause path bound old now before after (Err FetchFailed) other cause = cause
+fetch-cause path bound old now before after (Err FetchFailed) other cause = record { rose = cause.rose; calm = cause.calm }
 fetch-cause path bound old now before after (Err Absent) other cause =
     record { rose = cause.rose; calm = cause.calm; absent = λ k. get-finished now.files.value path other ∙ cause.absent k }
 fetch-cause path bound old now before after (Err (TooMuch bytes)) other cause = record {
