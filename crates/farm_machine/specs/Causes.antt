@@ -16,8 +16,8 @@ HasEndCause (Failed Fetch) old new = Rose old.keeper.faults new.keeper.faults �
 HasEndCause (Failed (Broke host Dial)) old new = Rose old.dialer.faults new.dialer.faults
 HasEndCause other old new = Unit {0}
 
--- A run that fails, or gives too much, always fails the job so, and is its last: by it just one count of the station rose, by one. Where the
--- job ends otherwise none rose.
+-- A run that fails, or gives too much, always fails the job so, and is its last: by it just one count of the station rose, by one. At any
+-- other end none rose.
 abbrev pub StationStands : End → StationView → StationView → Type 0
 StationStands (Failed Station) old new = OneRose old.faults new.faults old.overruns new.overruns
 StationStands end old new = StationStill old new

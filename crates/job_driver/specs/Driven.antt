@@ -56,7 +56,8 @@ acts_by read reports = flat_map (λ report. read.acts report.number) reports
 abbrev pub puts_by : Reports → List Report → List Put
 puts_by read reports = puts_in (deeds_of (acts_by read reports))
 
--- the jobs of these reports, one after another, each from where the job before it left the kit
+-- The jobs of these reports, one after another, each from where the job before it left the kit. Of what the kit shows between two jobs this
+-- binds the counts alone; its lists and files may be any there.
 abbrev pub CountsOf : (ℕ → Job) → Reports → List Report → KitView → KitView → Type 0
 CountsOf jobs read [] old new = new ≡ old
 CountsOf jobs read (report ∷ reports) old new =
@@ -91,7 +92,8 @@ pub record KitDid {K : Type 0} (d : Devices K) (period worker : ℕ) (read : Rep
   -- peers gave what peers may give, and programs left what programs may leave
   pub may : IsTrue (d.shows new).dialer.exchanges.known → MayAll (d.peers old) (exchanges_in (deeds_of acts))
   pub ran : AllRan (d.programs old) acts
-  -- No more jobs failed by a device than its counts rose. No put is pending.
+  -- The station's counts rose by just the number of the jobs that failed by it, and no more jobs failed by another device than its counts
+  -- rose. No put is pending.
   pub caused : AreCaused (reports_by worker reports) (d.shows old) (d.shows new)
   pub later : KitLater (d.shows old) (d.shows new)
   pub idle : IsIdle (d.shows new).keeper

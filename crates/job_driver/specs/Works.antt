@@ -83,7 +83,7 @@ pub record RoseTogether (number a a' b b' : ℕ) : Type 0 where
   pub rose : RoseBy first a a'
   pub rose_too : RoseBy second b b'
 
--- two counts together rose by just this number
+-- Two counts together rose by just this number. One that stands at the greatest u64 counts as risen, by any.
 pub record RoseInAll (number a a' b b' : ℕ) : Type 0 where
   pub first : ℕ
   pub second : ℕ
@@ -97,9 +97,9 @@ pub record RoseUpTo (number before now : ℕ) : Type 0 where
   pub most : by ≤ number
   pub rose : RoseJust by before now
 
--- The counts of the station rose by just the number of the jobs that failed by it, so no other run failed or gave too much. The keeper's
--- overruns rose by no more than the jobs that failed by a fetch, so for no other was a file missing or too long. No more jobs failed by
--- the keeper or the dialer than their counts rose together. Puts have a bound of their own, since no overrun fails one.
+-- As many runs failed or gave too much as jobs failed by the station: its counts rose by just that number. Which jobs' runs these were isn't
+-- said. The keeper's overruns rose by no more than the jobs that failed by a fetch. No more jobs failed by the keeper or the dialer than
+-- their counts rose together. Puts have a bound of their own, since no overrun fails one.
 pub record AreCaused (reports : List Report) (old new : KitView) : Type 0 where
   pub station : RoseInAll (ends_so is_station_failure reports) old.station.faults new.station.faults old.station.overruns
       new.station.overruns
@@ -108,9 +108,9 @@ pub record AreCaused (reports : List Report) (old new : KitView) : Type 0 where
   pub puts : RoseBy (ends_so is_put_failure reports) old.keeper.faults new.keeper.faults
   pub dialer : RoseBy (ends_so is_dial_failure reports) old.dialer.faults new.dialer.faults
 
--- What a job did to the counts of its kit, by its end. A failure of a device goes with a rise of that device's count; by one of the station
--- just one count rose, by one. Where the job ends otherwise, for want of memory too, the counts of its station stand still, and those of its
--- keeper as `run_job` says.
+-- What a job did to the counts of its kit, by its end. A failure of a device goes with a rise of that device's count; by one of the
+-- station just one count rose, by one. Where the job ends otherwise, for want of memory too, the counts of its station stand still, and
+-- those of its keeper as `run_job` says.
 pub record CountsTell (j : Job) (acts : List Act) (end : End) (old new : KitView) : Type 0 where
   pub cause : HasEndCause end old new
   pub station : StationStands end old.station new.station
@@ -118,7 +118,7 @@ pub record CountsTell (j : Job) (acts : List Act) (end : End) (old new : KitView
   pub fetch : FetchEnds (source_name j) end acts old.keeper new.keeper
   pub later : KitLater old new
 
--- jobs, one after another, each from where the job before it left the kit
+-- Jobs, one after another, each from where the job before it left the kit. Of what the kit shows between two jobs this binds the counts.
 abbrev pub CountsGoOn : (ℕ → Job) → List DoneJob → KitView → KitView → Type 0
 CountsGoOn jobs [] old new = new ≡ old
 CountsGoOn jobs (job ∷ done) old new = (mid : KitView) × CountsTell (jobs job.number) (untimed job.acts) job.end old mid

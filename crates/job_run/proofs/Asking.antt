@@ -111,12 +111,12 @@ wanted-step {a = a} {b = b} went =
     }
 
 -- no fetch and no run
-abbrev IsOfHosts : Why5 → Type 0
-IsOfHosts why = (why ≢ Fetch) × (why ≢ Station)
+abbrev IsNoFetchOrRun : Why5 → Type 0
+IsNoFetchOrRun why = (why ≢ Fetch) × (why ≢ Station)
 
 -- with fallback the job is compiled here, and else it has failed
 pub here-step : {h : ℕ} (j : Job) (l : Limits h) (caller number : ℕ) (a b : Seen) (at : At) (source note : List ℕ) (why : Why5)
-    → WentOn j l caller number a b at (or_here j source note (Failed why)) → HasEndCause (Failed why) a.kit b.kit → IsOfHosts why
+    → WentOn j l caller number a b at (or_here j source note (Failed why)) → HasEndCause (Failed why) a.kit b.kit → IsNoFetchOrRun why
     → StepIs j l caller number a b at source note (cond j.config.fallback step.Here (step.Failed why))
 here-step j l caller number a b at source note why went cause other = go j.config.fallback went
   where
@@ -166,8 +166,8 @@ host_found xs ys place host x same_list same_host is below =
     let e : x ≡ get_or ys host x = is ∙ ap (λ (zs : List Host). get_or zs place x) same_list ∙ ap (λ (k : ℕ). get_or ys k x) same_host in
     sym (get_or_read ys host x below e no_host_entry)
 
--- what the tries came to is of the hosts
-pub no-host-left : (tried : List Tried) → IsOfHosts (no_host tried)
+-- what the tries came to is neither
+pub no-host-left : (tried : List Tried) → IsNoFetchOrRun (no_host tried)
 no-host-left [] = (λ e. cc, λ e. cc)
 no-host-left (t ∷ tried) = (λ e. cc, λ e. cc)
 
@@ -231,7 +231,7 @@ pub here-as : {h : ℕ} {j : Job} {l : Limits h} {caller number : ℕ} {a b : Se
     (last why : Why5)
     → s ≡ cond j.config.fallback step.Here (step.Failed last) → last ≡ why
     → WentOn j l caller number a b at (or_here j source note (Failed why))
-    → HasEndCause (Failed last) a.kit b.kit → IsOfHosts why → StepIs j l caller number a b at source note s
+    → HasEndCause (Failed last) a.kit b.kit → IsNoFetchOrRun why → StepIs j l caller number a b at source note s
 here-as {j = j} {l = l} {caller = caller} {number = number} {a = a} {b = b} {at = at} source note s last why is same went cause other =
     subst (λ (t : Step). StepIs j l caller number a b at source note t)
     (sym (is ∙ ap (λ (w : Why5). cond j.config.fallback step.Here (step.Failed w)) same))

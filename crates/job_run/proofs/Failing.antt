@@ -68,13 +68,13 @@ not-run-cause bounds (station.TooMuch stream bytes) why old new is over =
 not-run-cause bounds station.Memory why old new is free = subst (λ (w : Why5). HasEndCause (Failed w) old new) (sym is) tt
 
 -- by a run that failed or gave too much just one count of the station rose, and where it wanted memory none did
-pub not-run-stands : (bounds : Bounds) (fault : StationFault) (why : Why5) (old new : StationView) → why ≡ station_failure fault
+pub not-run-station : (bounds : Bounds) (fault : StationFault) (why : Why5) (old new : StationView) → why ≡ station_failure fault
     → RunFault bounds old new fault → StationStands (Failed why) old new
-not-run-stands bounds station.Failed why old new is failed =
+not-run-station bounds station.Failed why old new is failed =
     subst (λ (w : Why5). StationStands (Failed w) old new) (sym is) (inl (failed.rose, failed.calm))
-not-run-stands bounds (station.TooMuch stream bytes) why old new is over =
+not-run-station bounds (station.TooMuch stream bytes) why old new is over =
     subst (λ (w : Why5). StationStands (Failed w) old new) (sym is) (inr (over.calm, over.rose))
-not-run-stands bounds station.Memory why old new is none = subst (λ (w : Why5). StationStands (Failed w) old new) (sym is) none
+not-run-station bounds station.Memory why old new is none = subst (λ (w : Why5). StationStands (Failed w) old new) (sym is) none
 
 -- no run is a fetch
 pub not-run-unfetched : (fault : StationFault) (why : Why5) → why ≡ station_failure fault → why ≢ Fetch
@@ -99,15 +99,15 @@ not-fetched-cause path bound (fetch.TooMuch bytes) why old new is long =
 not-fetched-cause path bound fetch.Memory why old new is free = subst (λ (w : Why5). HasEndCause (Failed w) old new) (sym is) tt
 
 -- by a fetch that failed at most one overrun came in, and where it wanted memory the keeper's counts stand still
-pub not-fetched-stands : (path : List ℕ) (bound : ℕ) (fault : FetchFault) (why : Why5) (acts : List Act) (old new : KeeperView)
+pub not-fetched-keeper : (path : List ℕ) (bound : ℕ) (fault : FetchFault) (why : Why5) (acts : List Act) (old new : KeeperView)
     → why ≡ fetch_failure fault → FetchCause path bound old new fault → KeeperStands (Failed why) acts old new
-not-fetched-stands path bound fetch.Failed why acts old new is failed =
+not-fetched-keeper path bound fetch.Failed why acts old new is failed =
     subst (λ (w : Why5). KeeperStands (Failed w) acts old new) (sym is) (inl failed.calm)
-not-fetched-stands path bound fetch.Absent why acts old new is gone =
+not-fetched-keeper path bound fetch.Absent why acts old new is gone =
     subst (λ (w : Why5). KeeperStands (Failed w) acts old new) (sym is) (inr gone.rose)
-not-fetched-stands path bound (fetch.TooMuch bytes) why acts old new is long =
+not-fetched-keeper path bound (fetch.TooMuch bytes) why acts old new is long =
     subst (λ (w : Why5). KeeperStands (Failed w) acts old new) (sym is) (inr long.rose)
-not-fetched-stands path bound fetch.Memory why acts old new is free =
+not-fetched-keeper path bound fetch.Memory why acts old new is free =
     subst (λ (w : Why5). KeeperStands (Failed w) acts old new) (sym is)
     (record { faults = λ none. let e = free.faults in omega (arith, e); overruns = free.overruns })
 
@@ -129,21 +129,21 @@ not-put edge.Failed why is = inl is
 not-put edge.Memory why is = inr is
 
 -- no put, no fetch and no outcome is a run, so the station stands still there
-pub not-put-ran : (fault : EdgeFault) (why : Why5) (old new : StationView) → why ≡ put_failure fault → StationStill old new
+pub not-put-station : (fault : EdgeFault) (why : Why5) (old new : StationView) → why ≡ put_failure fault → StationStill old new
     → StationStands (Failed why) old new
-not-put-ran edge.Failed why old new is still = subst (λ (w : Why5). StationStands (Failed w) old new) (sym is) still
-not-put-ran edge.Memory why old new is still = subst (λ (w : Why5). StationStands (Failed w) old new) (sym is) still
+not-put-station edge.Failed why old new is still = subst (λ (w : Why5). StationStands (Failed w) old new) (sym is) still
+not-put-station edge.Memory why old new is still = subst (λ (w : Why5). StationStands (Failed w) old new) (sym is) still
 
-pub not-fetched-ran : (fault : FetchFault) (why : Why5) (old new : StationView) → why ≡ fetch_failure fault → StationStill old new
+pub not-fetched-station : (fault : FetchFault) (why : Why5) (old new : StationView) → why ≡ fetch_failure fault → StationStill old new
     → StationStands (Failed why) old new
-not-fetched-ran fetch.Failed why old new is still = subst (λ (w : Why5). StationStands (Failed w) old new) (sym is) still
-not-fetched-ran fetch.Absent why old new is still = subst (λ (w : Why5). StationStands (Failed w) old new) (sym is) still
-not-fetched-ran (fetch.TooMuch bytes) why old new is still = subst (λ (w : Why5). StationStands (Failed w) old new) (sym is) still
-not-fetched-ran fetch.Memory why old new is still = subst (λ (w : Why5). StationStands (Failed w) old new) (sym is) still
+not-fetched-station fetch.Failed why old new is still = subst (λ (w : Why5). StationStands (Failed w) old new) (sym is) still
+not-fetched-station fetch.Absent why old new is still = subst (λ (w : Why5). StationStands (Failed w) old new) (sym is) still
+not-fetched-station (fetch.TooMuch bytes) why old new is still = subst (λ (w : Why5). StationStands (Failed w) old new) (sym is) still
+not-fetched-station fetch.Memory why old new is still = subst (λ (w : Why5). StationStands (Failed w) old new) (sym is) still
 
-pub done-stands : {end : End} {status : ℕ} {note err out : List ℕ} {by : By} (old new : StationView) → end ≡ Done status note err out by
+pub done-station : {end : End} {status : ℕ} {note err out : List ℕ} {by : By} (old new : StationView) → end ≡ Done status note err out by
     → StationStill old new → StationStands end old new
-done-stands old new is still = subst (λ (e : End). StationStands e old new) (sym is) still
+done-station old new is still = subst (λ (e : End). StationStands e old new) (sym is) still
 
 -- no put is a fetch
 pub not-put-unfetched : (fault : EdgeFault) (why : Why5) → why ≡ put_failure fault → why ≢ Fetch
@@ -156,10 +156,10 @@ not-put-cause edge.Failed why old new is rose = subst (λ (w : Why5). HasEndCaus
 not-put-cause edge.Memory why old new is free = subst (λ (w : Why5). HasEndCause (Failed w) old new) (sym is) tt
 
 -- where the put wanted memory, no more than a removal failed, and no put is an overrun
-pub not-put-stands : (fault : EdgeFault) (why : Why5) (acts : List Act) (old new : KeeperView) → why ≡ put_failure fault
+pub not-put-keeper : (fault : EdgeFault) (why : Why5) (acts : List Act) (old new : KeeperView) → why ≡ put_failure fault
     → (fault ≡ edge.Memory → IsRemoval old.faults new.faults) → Still old.overruns new.overruns → KeeperStands (Failed why) acts old new
-not-put-stands edge.Failed why acts old new is removal still = subst (λ (w : Why5). KeeperStands (Failed w) acts old new) (sym is) still
-not-put-stands edge.Memory why acts old new is removal still =
+not-put-keeper edge.Failed why acts old new is removal still = subst (λ (w : Why5). KeeperStands (Failed w) acts old new) (sym is) still
+not-put-keeper edge.Memory why acts old new is removal still =
     subst (λ (w : Why5). KeeperStands (Failed w) acts old new) (sym is) (record { faults = λ none. removal refl; overruns = still })
 
 pub broken-cause : (host : ℕ) (cause : Cause) (old new : KitView) → LandedCause (LandedBroke cause) old.dialer.faults new.dialer.faults

@@ -54,9 +54,9 @@ pub record JobRan {h : ℕ} (peers : Peers) (programs : Programs) (j : Job) (l :
   -- A failure of a device goes with a rise of that device's count, and no count falls.
   pub cause : HasEndCause end old new
   pub later : KitLater old new
-  -- Where the job didn't end by a failed run no count of the station rose. Where it didn't end by a failed fetch the keeper's overruns
-  -- stand still; where it made no exchange and didn't end by a failed put either, its faults do so too, but for one of a removal where
-  -- memory was wanting.
+  -- Where the job didn't end by a failed run no count of the station rose, and where it did just one, by one. Where it didn't end by a
+  -- failed fetch the keeper's overruns stand still, and where it did they rose by one at most; where it made no exchange and didn't end by
+  -- a failed put either, its faults stand still too, but for one of a removal where memory was wanting.
   pub station : StationStands end old.station new.station
   pub keeper : KeeperStands end acts old.keeper new.keeper
   -- where it made no exchange and ended by a failed fetch, that was one of its own source, within the bound

@@ -25,16 +25,16 @@ pub record KeepsOrRemoves (acts : List Act) (old new : KeeperView) : Type 0 wher
   pub faults : HasNoExchange acts → IsRemoval old.faults new.faults
   pub overruns : Still old.overruns new.overruns
 
--- At most one overrun came in.
-abbrev pub OverrunsOnce : KeeperView → KeeperView → Type 0
-OverrunsOnce old new = Still old.overruns new.overruns ⊎ RoseOnce old.overruns new.overruns
+-- the overruns rose by one at most
+abbrev pub OneOverrunAtMost : KeeperView → KeeperView → Type 0
+OneOverrunAtMost old new = Still old.overruns new.overruns ⊎ RoseOnce old.overruns new.overruns
 
 -- Where a job ends otherwise than by a failed fetch, the keeper's overruns stand still: no file was missing or too long. By a failed fetch
--- one came in at most. Where it made no exchange and ends otherwise than by a failed fetch or a failed put, the keeper's faults stand still. At an end for want of memory they
--- rose by one at most: what was being written couldn't be removed. A failed fetch or put may raise the faults by any number, so a body that
--- tells it as want of memory, or makes it again, has no proof over every keeper.
+-- they rose by one at most. Where it made no exchange and ends otherwise than by a failed fetch or a failed put, the keeper's faults stand
+-- still. At an end for want of memory they rose by one at most: what was being written couldn't be removed. A failed fetch or put may raise
+-- the faults by any number, so a body that tells it as want of memory, or makes it again, has no proof over every keeper.
 abbrev pub KeeperStands : End → List Act → KeeperView → KeeperView → Type 0
-KeeperStands (Failed Fetch) acts old new = OverrunsOnce old new
+KeeperStands (Failed Fetch) acts old new = OneOverrunAtMost old new
 KeeperStands (Failed NotPut) acts old new = Still old.overruns new.overruns
 KeeperStands (Failed Memory) acts old new = KeepsOrRemoves acts old new
 KeeperStands end acts old new = KeepsStill acts old new

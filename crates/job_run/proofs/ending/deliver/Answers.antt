@@ -11,7 +11,8 @@ use Rattle.job_run.specs.Seen.{job_in}
 use Rattle.job_run.specs.Stages.{compiled_at}
 use Rattle.job_run.proofs.Composing.{none-rose, keeps-none, keeps-by, unfetched, later-none, later-kept}
 use Rattle.job_run.proofs.Ends.{ends-failed, ends-not-put, next-put}
-use Rattle.job_run.proofs.Failing.{not-put, not-put-cause, not-put-stands, not-put-ran, not-put-unfetched, done-cause, done-stands, done-unfetched}
+use Rattle.job_run.proofs.Failing.{not-put, not-put-cause, not-put-keeper, not-put-station, not-put-unfetched, done-cause, done-station}
+use Rattle.job_run.proofs.Failing.{done-unfetched}
 use Rattle.job_run.proofs.Keeping.{none-pending}
 use Rattle.job_run.proofs.Leaves.{only-deed, no-act, did-nothing, same_peers, same_programs}
 use Rattle.job_run.proofs.Names.{output_not_staged}
@@ -31,7 +32,7 @@ returns-then-outcome-ne0-clause-ended g c = λ h l caller number mine object hel
           (sym (append-nil _), refl) refl;
       ends = ends-failed (job_in c.args.task.now) c.args.by c.args.note o _ c.if-outcome-ne0.true c.done.ensures;
       cause = done-cause _ _ c.done.ensures;
-      station = done-stands _ _ c.done.ensures (none-rose _);
+      station = done-station _ _ c.done.ensures (none-rose _);
       keeper = keeps-by _ _ _ _ (keeps-none _ _);
       fetch = done-unfetched _ _ _ _ c.done.ensures;
     }
@@ -60,7 +61,7 @@ returns-in-Ok-clause-ended g c = λ h l caller number mine object held.
           tt;
       ends = refl;
       cause = done-cause _ _ end;
-      station = done-stands _ _ end (none-rose _);
+      station = done-station _ _ end (none-rose _);
       keeper = keeps-by _ _ _ _ (record { faults = λ none. kept.cause.done; overruns = kept.overruns });
       fetch = done-unfetched _ _ _ _ end;
     }
@@ -88,8 +89,8 @@ returns-in-Err-clause-ended g c = λ h l caller number mine object held.
           (sym (append-nil _), refl) refl;
       ends = ends-not-put (job_in c.args.task.now) c.args.by c.args.note o _ c.if-outcome-ne0.false (not-put fault _ is);
       cause = not-put-cause fault _ _ _ is (λ e. kept.cause.failed (ap (λ f. Err f) e));
-      station = not-put-ran fault _ (g.S.Station.shows c.args.kit.now.station) _ is (none-rose _);
-      keeper = not-put-stands fault _ _ _ _ is (λ e. kept.cause.memory (ap (λ f. Err f) e)) kept.overruns;
+      station = not-put-station fault _ (g.S.Station.shows c.args.kit.now.station) _ is (none-rose _);
+      keeper = not-put-keeper fault _ _ _ _ is (λ e. kept.cause.memory (ap (λ f. Err f) e)) kept.overruns;
       fetch = unfetched _ why _ _ _ (not-put-unfetched fault _ is);
     }
 

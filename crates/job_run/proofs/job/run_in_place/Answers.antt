@@ -7,7 +7,7 @@ use Rattle.farm_machine.specs.Course.{LentInPlace, RanInPlace, Over}
 use Rattle.edge_traits.specs.declared.entries.Run.{Run}
 use Rattle.child_runner.specs.Runs.{texts}
 use Rattle.job_run.proofs.Composing.{keeps-none, keeps-by, unfetched, later-ran}
-use Rattle.job_run.proofs.Failing.{over-not-run, not-run-cause, not-run-stands, not-run-unfetched, done-cause, done-stands, done-unfetched}
+use Rattle.job_run.proofs.Failing.{over-not-run, not-run-cause, not-run-station, not-run-unfetched, done-cause, done-station, done-unfetched}
 use Rattle.job_run.proofs.Failing.{local-given, borrowed-given}
 use Rattle.job_run.proofs.Leaves.{noted-then, did-run, did-nothing, local-ran, local-not-run, same_peers}
 use Rattle.job_run.proofs.Outstanding.{gave-local, spent-two}
@@ -58,7 +58,7 @@ returns-in-Ok-clause-ended g c = λ config stays.
           (stays, refl) ((refl, refl), refl) run.within (inl (ap (λ e. Over e) end));
       ends = refl;
       cause = done-cause _ _ end;
-      station = done-stands _ _ end run.done;
+      station = done-station _ _ end run.done;
       keeper = keeps-by _ _ _ _ (keeps-none _ _);
       fetch = done-unfetched _ _ _ _ end;
     }
@@ -80,7 +80,7 @@ returns-in-Err-clause-ended g c = λ config stays.
           (stays, refl) (over-not-run c.in-Err.fault _ is);
       ends = refl;
       cause = not-run-cause _ c.in-Err.fault _ _ _ is run.cause;
-      station = not-run-stands _ c.in-Err.fault _ _ _ is run.cause;
+      station = not-run-station _ c.in-Err.fault _ _ _ is run.cause;
       keeper = keeps-by (Failed why) _ _ _ (keeps-none _ _);
       fetch = unfetched _ why _ _ _ (not-run-unfetched c.in-Err.fault _ is);
     }

@@ -9,7 +9,7 @@ use Rattle.edge_traits.proofs.ToldLemmas.{Grew-refl}
 use Rattle.arg_strip.specs.Words.{placed_words}
 use Rattle.slot_table.specs.Grants.{host_of}
 use Rattle.job_run.proofs.Composing.{keeps-none, keeps-by, unfetched, later-ran, went-on}
-use Rattle.job_run.proofs.Failing.{over-not-run, not-run-cause, not-run-stands, not-run-unfetched, over-lent, gave-as}
+use Rattle.job_run.proofs.Failing.{over-not-run, not-run-cause, not-run-station, not-run-unfetched, over-lent, gave-as}
 use Rattle.job_run.proofs.Leaves.{noted-then, did-run, did-nothing, lent-ran, given-back, same_peers}
 use Rattle.job_run.proofs.Outstanding.{gave-host, spent-call}
 use Rattle.job_run.proofs.lent.compile_lent.Goals as goal
@@ -60,7 +60,7 @@ returns-in-Err-clause-compiled g c = λ note tried.
           (refl, over-lent _ _ c.requires.here (over-not-run c.in-Err.fault _ is)) tt;
       ends = refl;
       cause = not-run-cause _ c.in-Err.fault _ _ _ is run.cause;
-      station = not-run-stands _ c.in-Err.fault _ _ _ is run.cause;
+      station = not-run-station _ c.in-Err.fault _ _ _ is run.cause;
       keeper = keeps-by (Failed why) _ _ _ (keeps-none _ _);
       fetch = unfetched _ why _ _ _ (not-run-unfetched c.in-Err.fault _ is);
     }

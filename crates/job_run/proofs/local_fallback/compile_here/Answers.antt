@@ -9,7 +9,7 @@ use Rattle.edge_traits.specs.declared.entries.Run.{Run}
 use Rattle.arg_strip.specs.Words.{placed_words}
 use Rattle.job_run.specs.Seen.{job_in}
 use Rattle.job_run.proofs.Composing.{keeps-none, keeps-by, unfetched, later-ran, went-on}
-use Rattle.job_run.proofs.Failing.{over-not-run, not-run-cause, not-run-stands, not-run-unfetched, for-here, local-given, borrowed-given}
+use Rattle.job_run.proofs.Failing.{over-not-run, not-run-cause, not-run-station, not-run-unfetched, for-here, local-given, borrowed-given}
 use Rattle.job_run.proofs.Leaves.{noted-then, did-run, did-nothing, local-ran, local-not-run, same_peers}
 use Rattle.job_run.proofs.Outstanding.{gave-local, spent-two}
 use Rattle.job_run.proofs.local_fallback.compile_here.Goals as goal
@@ -75,7 +75,7 @@ returns-in-Err-clause-compiled g c = λ note at stands.
           (for-here (job_in c.args.task.now) c.args.source.now note at stands) (over-not-run c.in-Err.fault _ is);
       ends = refl;
       cause = not-run-cause _ c.in-Err.fault _ _ _ is run.cause;
-      station = not-run-stands _ c.in-Err.fault _ _ _ is run.cause;
+      station = not-run-station _ c.in-Err.fault _ _ _ is run.cause;
       keeper = keeps-by (Failed why) _ _ _ (keeps-none _ _);
       fetch = unfetched _ why _ _ _ (not-run-unfetched c.in-Err.fault _ is);
     }

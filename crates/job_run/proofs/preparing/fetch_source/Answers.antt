@@ -7,7 +7,7 @@ use Rattle.farm_machine.specs.declared.reports.End.TheVariants.{Failed}
 use Rattle.farm_machine.specs.Course.{Start, Send}
 use Rattle.job_run.proofs.Composing.{none-rose, later-kept}
 use Rattle.job_run.proofs.Ends.{ends-unfetched}
-use Rattle.job_run.proofs.Failing.{not-fetched, not-fetched-cause, not-fetched-stands, not-fetched-ran, fetch-ends}
+use Rattle.job_run.proofs.Failing.{not-fetched, not-fetched-cause, not-fetched-keeper, not-fetched-station, fetch-ends}
 use Rattle.job_run.proofs.Leaves.{only-deed, no-act, same_peers, same_programs}
 use Rattle.job_run.proofs.preparing.fetch_source.Goals as goal
 
@@ -50,8 +50,8 @@ returns-in-Err-clause-prepared g c = λ h l caller number mine j sent ready name
           (sym (append-nil _), refl) refl;
       ends = ends-unfetched j _ sent ready (not-fetched c.in-Err.fault _ c.why_not_fetched.ensures);
       cause = not-fetched-cause _ _ c.in-Err.fault _ _ _ c.why_not_fetched.ensures got.cause;
-      station = not-fetched-ran c.in-Err.fault _ (g.S.Station.shows c.args.kit.now.station) _ c.why_not_fetched.ensures (none-rose _);
-      keeper = not-fetched-stands _ _ c.in-Err.fault _ _ _ _ c.why_not_fetched.ensures got.cause;
+      station = not-fetched-station c.in-Err.fault _ (g.S.Station.shows c.args.kit.now.station) _ c.why_not_fetched.ensures (none-rose _);
+      keeper = not-fetched-keeper _ _ c.in-Err.fault _ _ _ _ c.why_not_fetched.ensures got.cause;
       fetch = fetch-ends _ _ c.in-Err.fault _ _ _ _ named c.why_not_fetched.ensures got.cause;
     }
 

@@ -10,7 +10,7 @@ use Rattle.farm_machine.specs.Course.{Start, Over}
 use Rattle.farm_machine.specs.Jobs.{job_of}
 use Rattle.job_run.proofs.Composing.{keeps-none, keeps-by, unfetched, later-ran}
 use Rattle.job_run.proofs.Ends.{preprocessor-failed, preprocessor-well, ends-unpreprocessed}
-use Rattle.job_run.proofs.Failing.{not-run, not-run-cause, not-run-stands, not-run-unfetched, done-cause, done-stands, done-unfetched}
+use Rattle.job_run.proofs.Failing.{not-run, not-run-cause, not-run-station, not-run-unfetched, done-cause, done-station, done-unfetched}
 use Rattle.job_run.proofs.Leaves.{only-deed, no-act, did-run, did-nothing, same_peers}
 use Rattle.job_run.proofs.Names.{class_unready}
 use Rattle.job_run.proofs.preparing.preprocess_source.Goals as goal
@@ -35,7 +35,7 @@ returns-then-ran-ne0-clause-prepared g c = λ h l caller number mine config.
           ) run.within;
       ends = refl;
       cause = done-cause _ _ c.done_by_preprocessor.ensures;
-      station = done-stands _ _ c.done_by_preprocessor.ensures run.done;
+      station = done-station _ _ c.done_by_preprocessor.ensures run.done;
       keeper = keeps-by _ _ _ _ (keeps-none _ _);
       fetch = done-unfetched _ _ _ _ c.done_by_preprocessor.ensures;
     }
@@ -65,7 +65,7 @@ returns-in-Err-clause-prepared g c = λ h l caller number mine config.
       ends = ends-unpreprocessed (job_of c.args.words.now config) _ c.requires.remote c.requires.source
           (not-run c.in-Err.fault _ c.why_not_run.ensures);
       cause = not-run-cause _ c.in-Err.fault _ _ _ c.why_not_run.ensures run.cause;
-      station = not-run-stands _ c.in-Err.fault _ _ _ c.why_not_run.ensures run.cause;
+      station = not-run-station _ c.in-Err.fault _ _ _ c.why_not_run.ensures run.cause;
       keeper = keeps-by (Failed c.why_not_run.result) _ _ _ (keeps-none _ _);
       fetch = unfetched _ c.why_not_run.result _ _ _ (not-run-unfetched c.in-Err.fault _ c.why_not_run.ensures);
     }
