@@ -57,7 +57,7 @@ abbrev pub count : (Met → Bool) → List Connection → ℕ
 count test [] = 0
 count test (c ∷ cs) = (if test c.what then 1 else 0) + count test cs
 
--- the faults and the overruns rose together by this number
+-- the faults and the overruns together rose by this number at least
 pub record RoseTogether (number : ℕ) (before after : StationView) : Type 0 where
   pub faults : ℕ
   pub overruns : ℕ

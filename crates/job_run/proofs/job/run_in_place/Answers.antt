@@ -7,7 +7,8 @@ use Rattle.farm_machine.specs.Course.{LentInPlace, RanInPlace, Over}
 use Rattle.edge_traits.specs.declared.entries.Run.{Run}
 use Rattle.child_runner.specs.Runs.{texts}
 use Rattle.job_run.proofs.Composing.{keeps-none, keeps-by, unfetched, later-ran}
-use Rattle.job_run.proofs.Failing.{over-not-run, not-run-cause, not-run-station, not-run-unfetched, done-cause, done-station, done-unfetched}
+use Rattle.job_run.proofs.Failing.{over-not-run, not-run-cause, not-run-station, not-run-unfetched, done-cause, done-station}
+use Rattle.job_run.proofs.Failing.{done-unfetched}
 use Rattle.job_run.proofs.Failing.{local-given, borrowed-given}
 use Rattle.job_run.proofs.Leaves.{noted-then, did-run, did-nothing, local-ran, local-not-run, same_peers}
 use Rattle.job_run.proofs.Outstanding.{gave-local, spent-two}
