@@ -1,7 +1,7 @@
 -- Items of a source are right items of an object.
 use Rattle.std.proofs.Common.{◌≡◌, ℕ, suc, ◌+◌, ◌-◌, ◌<◌, ◌^◌, Bool, true, false, cond, eqb, ltb, List, [], ◌∷◌, ◌++◌, length, take, refl}
 use Rattle.std.proofs.Common.{ap, sym, ◌∙◌, subst, append_assoc, arith}
-use Rattle.std.specs.Prelude.{not, codes, MatchBool}
+use Rattle.std.specs.Prelude.{not, MatchBool}
 use Rattle.std.specs.List.{list_all, prefix_len, take_while}
 use Rattle.std.specs.Str.{bytes_eq}
 use Rattle.std.specs.Str.Parse.{digits_value}
@@ -16,7 +16,7 @@ use Rattle.sample_lang.specs.declared.token.Token.TheVariants.{Semicolon, Open, 
 use Rattle.sample_lang.specs.declared.program.Part.{Part}
 use Rattle.sample_lang.specs.declared.program.Part.TheVariants.{Add, Sub, Mul}
 use Rattle.sample_lang.specs.declared.program.Item.{Item}
-use Rattle.sample_lang.specs.Bytes.{begins_name, is_name_byte, name_max}
+use Rattle.sample_lang.specs.Bytes.{begins_name, is_name_byte, name_max, int_word, extern_word}
 use Rattle.sample_lang.specs.Tokens.{Placed, kinds, behind, word_token, number_token, symbol_token, IsRun, BeginsWith, TokensOf}
 use Rattle.sample_lang.specs.Grammar.{Expr, Alone, Sum, Difference, Term, Single, Product, Factor, Literal, Reference, Group, ItemForm}
 use Rattle.sample_lang.specs.Grammar.{Needs, Defines, expr_tokens, term_tokens, factor_tokens, item_tokens, forms_tokens, expr_code}
@@ -66,8 +66,8 @@ name_byte c h = grind (arith, nat_tests)
 right_word : (w : List ℕ) → begins_by begins_name w ≡ true → list_all is_name_byte w ≡ true → IsRightToken (word_token w)
 right_word w h k =
     right_cond (ltb name_max (length w)) LongName _ (λ _. tt) (λ short.
-    right_cond (bytes_eq w (codes "int")) IntWord _ (λ _. tt) (λ no_int.
-    right_cond (bytes_eq w (codes "extern")) ExternWord _ (λ _. tt) (λ no_extern.
+    right_cond (bytes_eq w int_word) IntWord _ (λ _. tt) (λ no_int.
+    right_cond (bytes_eq w extern_word) ExternWord _ (λ _. tt) (λ no_extern.
     and_from _ _ (and_from _ _ (and_from _ _ (and_from _ _ h k) (le-leb (length w) name_max (ltb-false name_max (length w) short))) (ap not no_int))
     (ap not no_extern))))
 
