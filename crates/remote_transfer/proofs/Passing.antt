@@ -12,9 +12,10 @@ use Rattle.edge_traits.specs.Links.{LinkView, IsNew}
 use Rattle.edge_traits.specs.Sends.{SentPart, SendStops}
 use Rattle.edge_traits.specs.declared.sending.SendFault.{SendFault}
 use Rattle.edge_traits.specs.declared.sending.SendFault.TheVariants as sends
-use Rattle.edge_traits.specs.Exchanges.{IsBegun}
+use Rattle.edge_traits.specs.Exchanges.{IsBegun, CutRequest}
 use Rattle.edge_traits.proofs.ToldLemmas.{Grew-join, Grew-still}
 use Rattle.remote_transfer.specs.declared.answers.Attempt.{Attempt}
+use Rattle.remote_transfer.specs.declared.answers.Attempt.TheVariants as attempts
 use Rattle.remote_transfer.specs.declared.answers.Stop.{Stop}
 use Rattle.remote_transfer.specs.declared.answers.Stop.TheVariants.{Broke, Memory}
 use Rattle.remote_transfer.specs.Answers.{answer_of, stop_of}
@@ -41,82 +42,46 @@ module _ (q : Request) (h : Host) (text : List ℕ) (old new : LinkView) (is_for
     prefix = sym is_for.spelled ∙ parts;
   }
 
+  -- what passed, by what was sent and given
+  passed : (answer : Attempt) (sent given : List ℕ) → Grew old.sent new.sent sent → Grew old.given new.given given
+      → ExchangeIs q h answer (entry_of new sent given) → EndsBy answer (entry_of new sent given) → Says q h answer old new
+  passed answer sent given grew_sent grew_given is ends =
+      record { sent = sent; given = given; grew_sent = grew_sent; grew_given = grew_given; is = (is, ends) }
+
+  part_begun : (part : SentPart text old.sent new.sent) → IsBegun (entry_of new part.sent []) q h
+  part_begun part = begun part.sent part.unsent [] part.parts
+
+  part_cut : (part : SentPart text old.sent new.sent) → CutRequest (entry_of new part.sent []) q
+  part_cut part = record {
+    dialed = refl;
+    unsent = part.unsent;
+    prefix = sym is_for.spelled ∙ part.parts;
+    proper = part.proper;
+    given = refl;
+  }
+
   -- the text was not sent whole
   pub not_sent : (fault : SendFault) → SentPart text old.sent new.sent → SendStops old new fault → Grew old.given new.given []
       → new.ended ≡ old.ended
       → Says q h (answer_of (Err (stop_of fault))) old new
-  not_sent sends.Failed part stops none ended = record {
-    sent = part.sent;
-    given = [];
-    grew_sent = part.grew;
-    grew_given = none;
-    is = (
-      record {
-        begun = begun part.sent part.unsent [] part.parts;
-        shown = (
-          record {
-            dialed = refl;
-            unsent = part.unsent;
-            prefix = sym is_for.spelled ∙ part.parts;
-            proper = part.proper;
-            given = refl;
-          },
-          rose_above_none _ _ stops.0,
-        );
-      },
-      record {
-        ended = ended ∙ fresh.ended;
-        stopped = stops.1 ∙ fresh.stopped;
-        faults = λ unlike. failed_not unlike _;
-      },
-    );
-  }
-  not_sent sends.Stopped part stops none ended = record {
-    sent = part.sent;
-    given = [];
-    grew_sent = part.grew;
-    grew_given = none;
-    is = (
-      record {
-        begun = begun part.sent part.unsent [] part.parts;
-        shown = (
-          record {
-            dialed = refl;
-            unsent = part.unsent;
-            prefix = sym is_for.spelled ∙ part.parts;
-            proper = part.proper;
-            given = refl;
-          },
-          stops.0,
-        );
-      },
-      record { ended = ended ∙ fresh.ended; stopped = stops.0; faults = λ none. stops.1 ∙ fresh.faults },
-    );
-  }
-  not_sent sends.Memory part stops none ended = record {
-    sent = part.sent;
-    given = [];
-    grew_sent = part.grew;
-    grew_given = none;
-    is = (
-      (begun part.sent part.unsent [] part.parts, refl),
-      record {
-        ended = ended ∙ fresh.ended;
-        stopped = stops.0 ∙ fresh.stopped;
-        faults = λ none. stops.1 ∙ fresh.faults;
-      },
-    );
-  }
+  not_sent sends.Failed part stops none ended =
+      passed (attempts.Broke Send) part.sent [] part.grew none
+      (record { begun = part_begun part; shown = (part_cut part, rose_above_none _ _ stops.0) })
+      (record { ended = ended ∙ fresh.ended; stopped = stops.1 ∙ fresh.stopped; faults = λ unlike. failed_not unlike _ })
+  not_sent sends.Stopped part stops none ended =
+      passed (attempts.Broke Stopped) part.sent [] part.grew none (record { begun = part_begun part; shown = (part_cut part, stops.0) })
+      (record { ended = ended ∙ fresh.ended; stopped = stops.0; faults = λ none. stops.1 ∙ fresh.faults })
+  not_sent sends.Memory part stops none ended =
+      passed (attempts.Memory true) part.sent [] part.grew none (part_begun part, refl)
+      (record { ended = ended ∙ fresh.ended; stopped = stops.0 ∙ fresh.stopped; faults = λ none. stops.1 ∙ fresh.faults })
 
   -- the whole text was sent, and then these bytes were given
   module _ (mid : LinkView) (sent : Grew old.sent mid.sent text) (no_more : Grew mid.sent new.sent []) (none : Grew old.given mid.given [])
       (running : mid.stopped ≡ old.stopped) (stopped : new.stopped ≡ mid.stopped) (open_still : mid.ended ≡ old.ended)
       (calm : Still old.faults mid.faults) where
-    all_sent : Grew old.sent new.sent text
-    all_sent = Grew-still sent no_more
-
-    all_given : (bytes : List ℕ) → Grew mid.given new.given bytes → Grew old.given new.given bytes
-    all_given bytes grew = Grew-join none grew refl
+    whole_passed : (answer : Attempt) (bytes : List ℕ) → Grew mid.given new.given bytes → ExchangeIs q h answer (entry_of new text bytes)
+        → EndsBy answer (entry_of new text bytes) → Says q h answer old new
+    whole_passed answer bytes grew = passed answer text bytes (Grew-still sent no_more) (Grew-join none grew refl)
 
     whole_begun : (bytes : List ℕ) → IsBegun (entry_of new text bytes) q h
     whole_begun bytes = begun text [] bytes (sym (append-nil text))
@@ -131,72 +96,37 @@ module _ (q : Request) (h : Host) (text : List ℕ) (old new : LinkView) (is_for
     never_ended same = same ∙ open_still ∙ fresh.ended
 
     pub replied : (result : Result Outcome Stop) → Given (ReplyIs result mid new) mid.given new.given → Says q h (answer_of result) old new
-    replied (Ok outcome) given = record {
-      sent = text;
-      given = given.bytes;
-      grew_sent = all_sent;
-      grew_given = all_given given.bytes given.grew;
-      is = (
-        record {
+    replied (Ok outcome) given =
+        whole_passed (attempts.Whole outcome) given.bytes given.grew
+        (record {
           begun = whole_begun given.bytes;
           dialed = refl;
           sent = is_for.spelled;
           used = given.is.0.0;
           spelled = given.is.0.1;
-        },
-        record { ended = never_ended given.is.1; stopped = never_stopped; faults = λ none. never_failed given.is.2 },
-      );
-    }
+        })
+        (record { ended = never_ended given.is.1; stopped = never_stopped; faults = λ none. never_failed given.is.2 })
     replied (Err (Broke Dial)) given = absurd given.is
     replied (Err (Broke Send)) given = absurd given.is
-    replied (Err (Broke Recv)) given = record {
-      sent = text;
-      given = given.bytes;
-      grew_sent = all_sent;
-      grew_given = all_given given.bytes given.grew;
-      is = (
-        record {
+    replied (Err (Broke Recv)) given =
+        whole_passed (attempts.Broke Recv) given.bytes given.grew
+        (record {
           begun = whole_begun given.bytes;
           shown = (record { sent = is_for.spelled; short = given.is.0 }, rose_above_none _ _ given.is.1);
-        },
-        record { ended = never_ended given.is.2; stopped = never_stopped; faults = λ unlike. failed_not unlike _ },
-      );
-    }
-    replied (Err (Broke (Truncated have))) given = record {
-      sent = text;
-      given = given.bytes;
-      grew_sent = all_sent;
-      grew_given = all_given given.bytes given.grew;
-      is = (
-        record {
+        })
+        (record { ended = never_ended given.is.2; stopped = never_stopped; faults = λ unlike. failed_not unlike _ })
+    replied (Err (Broke (Truncated have))) given =
+        whole_passed (attempts.Broke (Truncated have)) given.bytes given.grew
+        (record {
           begun = whole_begun given.bytes;
           shown = (record { sent = is_for.spelled; short = given.is.0 }, given.is.1, given.is.2);
-        },
-        record { ended = given.is.2; stopped = never_stopped; faults = λ none. never_failed given.is.3 },
-      );
-    }
-    replied (Err (Broke (BadReply at fault))) given = record {
-      sent = text;
-      given = given.bytes;
-      grew_sent = all_sent;
-      grew_given = all_given given.bytes given.grew;
-      is = (
-        record { begun = whole_begun given.bytes; shown = (is_for.spelled, given.is.0) },
-        record { ended = never_ended given.is.1; stopped = never_stopped; faults = λ none. never_failed given.is.2 },
-      );
-    }
+        })
+        (record { ended = given.is.2; stopped = never_stopped; faults = λ none. never_failed given.is.3 })
+    replied (Err (Broke (BadReply at fault))) given =
+        whole_passed (attempts.Broke (BadReply at fault)) given.bytes given.grew
+        (record { begun = whole_begun given.bytes; shown = (is_for.spelled, given.is.0) })
+        (record { ended = never_ended given.is.1; stopped = never_stopped; faults = λ none. never_failed given.is.2 })
     replied (Err (Broke Stopped)) given = absurd given.is
-    replied (Err Memory) given = record {
-      sent = text;
-      given = given.bytes;
-      grew_sent = all_sent;
-      grew_given = all_given given.bytes given.grew;
-      is = (
-        (whole_begun given.bytes, refl),
-        record {
-          ended = never_ended given.is.0;
-          stopped = never_stopped;
-          faults = λ none. never_failed given.is.1;
-        },
-      );
-    }
+    replied (Err Memory) given =
+        whole_passed (attempts.Memory true) given.bytes given.grew (whole_begun given.bytes, refl)
+        (record { ended = never_ended given.is.0; stopped = never_stopped; faults = λ none. never_failed given.is.1 })
