@@ -1,7 +1,7 @@
 -- How printing ends.
 use Rattle.std.proofs.Common.{◌≡◌, ◌≢◌, ℕ, suc, ◌+◌, ◌<◌, ◌≤◌, List, [], ◌∷◌, ◌++◌, length, take, drop, get_or, ◌-◌, inl, inr, refl, sym}
 use Rattle.std.proofs.Common.{◌∙◌, ap, subst, append_assoc, length-drop, arith}
-use Rattle.std.specs.Prelude.{Result, Ok, Err, OnOk, OnErr}
+use Rattle.std.specs.Prelude.{Result, Ok, Err, OnOk, OnErr, IsErrOf}
 use Rattle.std.proofs.Math.Seq.{take-length}
 use Rattle.std.proofs.lemmas.List.{take-append-drop, append-nil}
 use Rattle.farm_types.specs.Exits.{stopped_status, memory_status}
@@ -10,13 +10,14 @@ use Rattle.edge_traits.specs.Causes.{Rose}
 use Rattle.edge_traits.specs.Sinks.{SinkView}
 use Rattle.edge_traits.proofs.ToldLemmas.{Grew-join}
 use Rattle.stream_print.specs.declared.one.PrintStop.{PrintStop}
+use Rattle.stream_print.specs.declared.one.PrintStop.TheVariants.{Stopped, Memory}
 use Rattle.stream_print.specs.Prints.{GoesOn, DidStop}
 use Rattle.daemon_service.specs.declared.served.Served.TheVariants as served
 use Rattle.daemon_worker.specs.declared.log.Met.TheVariants as met
 use Rattle.daemon_worker.specs.declared.log.Entry.{Entry}
 use Rattle.object_cache.specs.declared.book.Stats.{Stats}
 use Rattle.daemon_program.specs.Texts.{book_line, books_text, no_memory_text}
-use Rattle.daemon_program.specs.Endings.{IsPart, Noticed, told_whole, told_stopped, told_wanted, WantsAfter, Ends, wanted}
+use Rattle.daemon_program.specs.Endings.{IsPart, PrintEnded, Noticed, told_whole, told_stopped, told_wanted, WantsAfter, Ends, wanted}
 
 rest_left : (n : ℕ) (text : List ℕ) → n < length text → drop n text ≢ []
 rest_left n text less none = omega (arith, less, length-drop n text, ap length none)
@@ -31,11 +32,17 @@ part_of text n old new less grew = record {
   grew = grew;
 }
 
--- the same of a print that didn't end, of a text that is this one
-pub part_on : {A : Type 0} (text bytes : List ℕ) (old new : SinkView) (result : Result A PrintStop) → bytes ≡ text
-    → OnErr result ((n : ℕ) × (n < length bytes) × Grew old.written new.written (take n bytes)) → OnErr result (IsPart text old new)
-part_on text bytes old new (Ok done) is part = tt
-part_on text bytes old new (Err stop) is part = subst (λ t. IsPart t old new) is (part_of bytes part.0 old new part.1 part.2)
+-- how the print of some bytes ended, said of the text that they are
+pub print_ended : (text bytes : List ℕ) (old new : SinkView) (result : Result Unit PrintStop) → bytes ≡ text
+    → OnOk result (Grew old.written new.written bytes)
+    → OnErr result ((n : ℕ) × (n < length bytes) × Grew old.written new.written (take n bytes))
+    → (IsErrOf result Stopped → DidStop old new) → OnOk result (GoesOn old new) → (IsErrOf result Memory → GoesOn old new)
+    → PrintEnded text result old new
+print_ended text bytes old new (Ok done) is all part stopped on memory = (subst (λ t. Grew old.written new.written t) is all, on)
+print_ended text bytes old new (Err Stopped) is all part stopped on memory =
+    (subst (λ t. IsPart t old new) is (part_of bytes part.0 old new part.1 part.2), stopped refl)
+print_ended text bytes old new (Err Memory) is all part stopped on memory =
+    (subst (λ t. IsPart t old new) is (part_of bytes part.0 old new part.1 part.2), memory refl)
 
 -- ---- one sink after another moment
 
@@ -101,7 +108,7 @@ module _ (all left line more : List ℕ) (old mid : SinkView) (so_far : SoFar al
     on = goes_then so_far.on on;
   }
 
-  pub failed_line : (new : SinkView) → IsPart line mid new → IsPart all old new
+  failed_line : (new : SinkView) → IsPart line mid new → IsPart all old new
   failed_line new part = record {
     front = so_far.done ++ part.front;
     rest = part.rest ++ more;
@@ -111,6 +118,11 @@ module _ (all left line more : List ℕ) (old mid : SinkView) (so_far : SoFar al
     left = more_left part.rest more part.left;
     grew = Grew-join so_far.grew part.grew refl;
   }
+
+  -- the printing ended in this line
+  pub ended_line : (stop : PrintStop) (new : SinkView) → PrintEnded line (Err stop) mid new → PrintEnded all (Err stop) old new
+  ended_line Stopped new ended = (failed_line new ended.0, stop_then old mid new so_far.on ended.1)
+  ended_line Memory new ended = (failed_line new ended.0, goes_then so_far.on ended.1)
 
 -- nothing is left
 pub all_lines : (all left : List ℕ) (old now : SinkView) → SoFar all left old now → left ≡ [] → Grew old.written now.written all
@@ -136,7 +148,7 @@ one_part other (x ∷ more) some =
 -- ---- two texts
 
 -- a part of the first of two texts
-pub part_first : (text more : List ℕ) (old new : SinkView) → IsPart text old new → IsPart (text ++ more) old new
+part_first : (text more : List ℕ) (old new : SinkView) → IsPart text old new → IsPart (text ++ more) old new
 part_first text more old new part = record {
   front = part.front;
   rest = part.rest ++ more;
@@ -146,7 +158,7 @@ part_first text more old new part = record {
 }
 
 -- the first, and a part of the second
-pub part_second : (text more : List ℕ) (old mid new : SinkView) → Grew old.written mid.written text → IsPart more mid new
+part_second : (text more : List ℕ) (old mid new : SinkView) → Grew old.written mid.written text → IsPart more mid new
     → IsPart (text ++ more) old new
 part_second text more old mid new grew part = record {
   front = text ++ part.front;
@@ -156,22 +168,20 @@ part_second text more old mid new grew part = record {
   grew = Grew-join grew part.grew refl;
 }
 
--- the first, and then what became of the second
-pub second_part : {A : Type 0} (text more : List ℕ) (old mid new : SinkView) (result : Result A PrintStop)
-    → Grew old.written mid.written text → OnErr result (IsPart more mid new) → OnErr result (IsPart (text ++ more) old new)
-second_part text more old mid new (Ok done) grew part = tt
-second_part text more old mid new (Err stop) grew part = part_second text more old mid new grew part
+-- the printing ended in the first
+pub first_ended : (text more : List ℕ) (stop : PrintStop) (old new : SinkView) → PrintEnded text (Err stop) old new
+    → PrintEnded (text ++ more) (Err stop) old new
+first_ended text more Stopped old new ended = (part_first text more old new ended.0, ended.1)
+first_ended text more Memory old new ended = (part_first text more old new ended.0, ended.1)
 
-pub second_all : {A : Type 0} (text more : List ℕ) (old mid new : SinkView) (result : Result A PrintStop)
-    → Grew old.written mid.written text → OnOk result (Grew mid.written new.written more)
-    → OnOk result (Grew old.written new.written (text ++ more))
-second_all text more old mid new (Ok done) grew all = Grew-join grew all refl
-second_all text more old mid new (Err stop) grew all = tt
-
-pub second_on : {A : Type 0} (old mid new : SinkView) (result : Result A PrintStop) → GoesOn old mid → OnOk result (GoesOn mid new)
-    → OnOk result (GoesOn old new)
-second_on old mid new (Ok done) on more = goes_then on more
-second_on old mid new (Err stop) on more = tt
+-- the first, and then how the printing of the second ended
+pub second_ended : (text more : List ℕ) (old mid new : SinkView) (result : Result Unit PrintStop)
+    → PrintEnded text (Ok tt) old mid → PrintEnded more result mid new → PrintEnded (text ++ more) result old new
+second_ended text more old mid new (Ok done) first ended = (Grew-join first.0 ended.0 refl, goes_then first.1 ended.1)
+second_ended text more old mid new (Err Stopped) first ended =
+    (part_second text more old mid new first.0 ended.0, stop_then old mid new first.1 ended.1)
+second_ended text more old mid new (Err Memory) first ended =
+    (part_second text more old mid new first.0 ended.0, goes_then first.1 ended.1)
 
 -- the entry that stands for one behind a list's end
 abbrev pub blank : Entry

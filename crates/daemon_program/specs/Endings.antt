@@ -1,8 +1,10 @@
 -- How printing on the one sink ended, and the exit status that was answered.
-use Rattle.std.specs.Prelude.{◌≡◌, ◌≢◌, ℕ, List, [], ◌++◌}
+use Rattle.std.specs.Prelude.{◌≡◌, ◌≢◌, ℕ, List, [], ◌++◌, Result, Ok, Err}
 use Rattle.farm_types.specs.Exits.{stopped_status, memory_status}
 use Rattle.edge_traits.specs.Told.{Grew}
 use Rattle.edge_traits.specs.Sinks.{SinkView}
+use Rattle.stream_print.specs.declared.one.PrintStop.{PrintStop}
+use Rattle.stream_print.specs.declared.one.PrintStop.TheVariants.{Stopped, Memory}
 use Rattle.stream_print.specs.Prints.{GoesOn, DidStop}
 use Rattle.daemon_program.specs.Texts.{no_memory_text}
 
@@ -13,6 +15,13 @@ pub record IsPart (text : List ℕ) (old new : SinkView) : Type 0 where
   pub parts : text ≡ front ++ rest
   pub left : rest ≢ []
   pub grew : Grew old.written new.written front
+
+-- The text was printed whole, and the sink goes on; or a part of it was, and the sink stopped; or a part, and the sink goes on, but
+-- memory was wanting.
+abbrev pub PrintEnded : List ℕ → Result Unit PrintStop → SinkView → SinkView → Type 0
+PrintEnded text (Ok done) old new = Grew old.written new.written text × GoesOn old new
+PrintEnded text (Err Stopped) old new = IsPart text old new × DidStop old new
+PrintEnded text (Err Memory) old new = IsPart text old new × GoesOn old new
 
 -- Of the notice for want of memory this was told: the whole, or a part, since the sink stopped, or a part, since it wanted memory.
 pub data Noticed (old new : SinkView) (answer : ℕ) (told : List ℕ) : Type 0 where

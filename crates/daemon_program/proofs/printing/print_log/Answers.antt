@@ -5,7 +5,7 @@ use Rattle.daemon_program.proofs.printing.print_log.Goals as goal
 
 pub returns-in-Err-Memory : goal.returns-in-Err-Memory
 returns-in-Err-Memory g c =
-    let print = c.in-Err-Memory.ensures in
+    let ended = rw c.in-Err-Memory.field-0-is at c.in-Err-Memory.ensures in
     part_wanted (log_text c.args.log.now ++ books_text 1 c.args.books.now) c.args.status (g.O.Sink.shows c.args.out.now)
     (g.O.Sink.shows c.print_all.new.out) (g.O.Sink.shows c.want_memory.new.out) c.want_memory.result
-    print.part (print.memory (cc c.in-Err-Memory.field-0-is)) c.want_memory.ensures
+    ended.0 ended.1 c.want_memory.ensures
