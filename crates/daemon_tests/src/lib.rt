@@ -4,6 +4,7 @@
 #[cfg(test)]
 mod connections;
 pub mod devices;
+pub mod lines;
 #[cfg(test)]
 mod loops;
 #[cfg(test)]

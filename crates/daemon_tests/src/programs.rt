@@ -4,6 +4,7 @@ ghost use Rattle.std.specs.Prelude.{◌≡◌, false};
 ghost use Rattle.edge_memory.specs.Sinks.{sink_state, sink_shows};
 
 use crate::devices::{numbers, sink};
+use crate::lines::words_of;
 use crate::scripts::{REPLY, REQUEST, door};
 use daemon_program::farmd;
 use daemon_worker::DoorKit;
@@ -30,7 +31,7 @@ const HERE: u32 = 2_130_706_433;
 // output take nothing; what is printed.
 #[derive(Drop)]
 struct Row {
-    words: &'static [&'static str],
+    words: &'static str,
     doors: &'static [&'static [&'static [u8]]],
     peers: &'static [u32],
     accepts_fail: &'static [u64],
@@ -41,7 +42,7 @@ struct Row {
 }
 
 const ONE: Row = Row {
-    words: &["--compiler", "scc=scc", "--jobs", "1", "--serve", "1"],
+    words: "--compiler scc=scc --jobs 1 --serve 1",
     doors: &[&[REQUEST]],
     peers: &[],
     accepts_fail: &[],
@@ -53,14 +54,14 @@ const ONE: Row = Row {
 
 // Fewer doors than jobs.
 const TWO_DOORS: Row = Row {
-    words: &["--compiler", "scc=scc", "--serve", "2"],
+    words: "--compiler scc=scc --serve 2",
     doors: &[&[REQUEST, CUT], &[CUT, REQUEST]],
     out: "door 1 conn 1 answered 00000000\ndoor 1 conn 2 cut 38\ndoor 2 conn 1 cut 38\ndoor 2 conn 2 answered 00000000\n",
     ..ONE
 };
 
 const NO_NUMBER: Row = Row {
-    words: &["--jobs"],
+    words: "--jobs",
     out: "farmd: bad words at word 1\n",
     status: 101,
     ..ONE
@@ -101,16 +102,7 @@ const ROWS: &[Row] = &[
     },
     // the same compile twice, beside a book: 7 bytes of words and 11 of source
     Row {
-        words: &[
-            "--compiler",
-            "scc=scc",
-            "--jobs",
-            "1",
-            "--serve",
-            "2",
-            "--cache",
-            "1",
-        ],
+        words: "--compiler scc=scc --jobs 1 --serve 2 --cache 1",
         doors: &[&[REQUEST, REQUEST]],
         out: "door 1 conn 1 answered 00000000\ndoor 1 conn 2 answered 00000000\ncache door 1 hits 1 misses 1 unkept 0 bytes 18\n",
         ..ONE
@@ -123,60 +115,32 @@ const ROWS: &[Row] = &[
     },
     // who may use the daemon
     Row {
-        words: &[
-            "--compiler",
-            "scc=scc",
-            "--jobs",
-            "1",
-            "--serve",
-            "2",
-            "--allow",
-            "10.0.0.0/8",
-            "--deny",
-            "0.0.0.0/0",
-        ],
+        words: "--compiler scc=scc --jobs 1 --serve 2 --allow 10.0.0.0/8 --deny 0.0.0.0/0",
         doors: &[&[REQUEST, REQUEST]],
         peers: &[NEAR, HERE],
         out: "door 1 conn 1 answered 00000000\ndoor 1 conn 2 denied by rule 2\n",
         ..ONE
     },
     Row {
-        words: &[
-            "--compiler",
-            "scc=scc",
-            "--jobs",
-            "1",
-            "--serve",
-            "1",
-            "--allow",
-            "10.0.0.0/8",
-        ],
+        words: "--compiler scc=scc --jobs 1 --serve 1 --allow 10.0.0.0/8",
         peers: &[HERE],
         out: "door 1 conn 1 denied by no rule\n",
         ..ONE
     },
     // words that aren't right, and those that don't serve
     Row {
-        words: &["--allow", "10.0.0.0/33"],
+        words: "--allow 10.0.0.0/33",
         out: "farmd: bad words at word 1\n",
         status: 101,
         ..ONE
     },
     NO_NUMBER,
     Row {
-        words: &["--version"],
+        words: "--version",
         out: "farmd 0.1, distcc protocol 1\n",
         ..ONE
     },
 ];
-
-fn strings(alloc: Global, words: &[&str]) -> Result<Vec<String>, AllocError> {
-    let mut list = Vec::new(alloc);
-    for word in words {
-        list.push(String::from_str(alloc, word)?)?;
-    }
-    Ok(list)
-}
 
 fn station(alloc: Global, fails: &[u64]) -> Result<MemStation, AllocError> {
     let fails = numbers(alloc, fails)?;
@@ -225,7 +189,7 @@ fn expect<R: Abort + Threads + Sync, S: Station + Send + Drop>(
     row: &Row,
     doors: &mut Vec<DoorKit<MemDoor, S>>,
 ) -> Result<(), Fail> {
-    let words = strings(alloc, row.words)?;
+    let words = words_of(alloc, row.words)?;
     let mut out = sink(alloc, row.zeros)?;
     let status = run(rt, alloc, words.as_slice(), doors, &mut out)?;
     assert_eq!(rt; out.written(), row.out.as_bytes());
@@ -268,16 +232,7 @@ fn a_sink_that_stops(rt: HostRuntime) -> Result<(), Fail> {
 }
 
 const CACHED: Row = Row {
-    words: &[
-        "--compiler",
-        "scc=scc",
-        "--jobs",
-        "1",
-        "--serve",
-        "2",
-        "--cache",
-        "1",
-    ],
+    words: "--compiler scc=scc --jobs 1 --serve 2 --cache 1",
     doors: &[&[REQUEST, REQUEST]],
     out: "door 1 conn 1 answered 00000000\ndoor 1 conn 2 answered 00000000\ncache door 1 hits 1 misses 1 unkept 0 bytes 31\n",
     ..ONE
@@ -328,7 +283,7 @@ fn a_cache(rt: HostRuntime) -> Result<(), Fail> {
 }
 
 const SIDE_BY_SIDE: Row = Row {
-    words: &["--compiler", "scc=scc", "--jobs", "2", "--serve", "1"],
+    words: "--compiler scc=scc --jobs 2 --serve 1",
     doors: &[&[REQUEST], &[REQUEST]],
     out: "door 1 conn 1 answered 00000000\ndoor 2 conn 1 answered 00000000\n",
     ..ONE
