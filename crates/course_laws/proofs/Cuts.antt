@@ -146,7 +146,7 @@ goes-send j source note tried =
       }
     ]
 
-pub fin-broken : (j : Job) (host : ℕ) (cause : Cause) (source note : List ℕ) (tried : List Tried)
+fin-broken : (j : Job) (host : ℕ) (cause : Cause) (source note : List ℕ) (tried : List Tried)
     → Fins j (after_broken j host cause source note tried)
 fin-broken j host cause source note tried = go (nat_lt (length tried + 1) j.config.tries)
   where
@@ -168,39 +168,33 @@ dial j host = record {
   faults = 0;
 }
 
-pub dial-broken : (j : Job) (host : ℕ) (source : List ℕ) → IsBrokenWith j (dial j host) source host Dial
+dial-broken : (j : Job) (host : ℕ) (source : List ℕ) → IsBrokenWith j (dial j host) source host Dial
 unfolding dial
 dial-broken j host source = record {
   begun = record { host = refl; port = refl; unsent = request_text (request_for j source); prefix = refl };
   shown = record { undialed = refl; sent = refl; given = refl };
 }
 
-pub small : 0 < 2 ^ 64
+small : 0 < 2 ^ 64
 small = omega arith
 
-pub above : (n : ℕ) → n ≢ 0 → 0 < n
+above : (n : ℕ) → n ≢ 0 → 0 < n
 above n h = omega arith
 
-pub goes-lent : (j : Job) (host : ℕ) (source note : List ℕ) (tried : List Tried) → Goes j (Lent host source note tried)
-goes-lent j host source note tried = go (is_local_host j host) refl
-  where
-    f : Fins j (after_broken j host Dial source note tried)
-    f = fin-broken j host Dial source note tried
+-- from a host's grant a job can go on by an exchange whose dial failed
+pub record Dials (j : Job) (host : ℕ) (source note : List ℕ) (tried : List Tried) : Type 0 where
+  pub rest : List Act
+  pub end : End
+  pub whole : end ≢ Failed Memory
+  pub from : From j (Lent host source note tried) (Did (exchanged (dial j host)) ∷ rest) end
 
-    x : Exchange
-    x = dial j host
-
-    go : (b : Bool) → is_local_host j host ≡ b → Goes j (Lent host source note tried)
-    go true e = record {
-      next = Met (Gives host);
-      rest = [];
-      end = Failed Station;
-      whole = λ k. cc;
-      from = (Over (Failed Station), (refl, inl (e, refl)), refl);
-    }
-    go false e = elim (cases_eq j.config.period 0) [
+pub dials : (j : Job) (host : ℕ) (source note : List ℕ) (tried : List Tried) → is_local_host j host ≡ false
+    → Dials j host source note tried
+dials j host source note tried e =
+    let f = fin-broken j host Dial source note tried in
+    let x = dial j host in
+    elim (cases_eq j.config.period 0) [
       | inl zero_ ↦ record {
-        next = Did (exchanged x);
         rest = Met (Gives host) ∷ f.acts;
         end = f.end;
         whole = f.whole;
@@ -211,7 +205,6 @@ goes-lent j host source note tried = go (is_local_host j host) refl
         );
       }
       | inr more ↦ record {
-        next = Did (exchanged x);
         rest = Met (GivesBad host (bad_until 0 j.config.period)) ∷ f.acts;
         end = f.end;
         whole = f.whole;
@@ -226,6 +219,20 @@ goes-lent j host source note tried = go (is_local_host j host) refl
         );
       }
     ]
+
+pub goes-lent : (j : Job) (host : ℕ) (source note : List ℕ) (tried : List Tried) → Goes j (Lent host source note tried)
+goes-lent j host source note tried = go (is_local_host j host) refl
+  where
+    go : (b : Bool) → is_local_host j host ≡ b → Goes j (Lent host source note tried)
+    go true e = record {
+      next = Met (Gives host);
+      rest = [];
+      end = Failed Station;
+      whole = λ k. cc;
+      from = (Over (Failed Station), (refl, inl (e, refl)), refl);
+    }
+    go false e = let d = dials j host source note tried e in
+        record { next = Did (exchanged (dial j host)); rest = d.rest; end = d.end; whole = d.whole; from = d.from }
 
 pub goes-start : (j : Job) → Goes j Start
 goes-start j = go (may_be_sent j) refl (is_source_ready j) refl

@@ -1,26 +1,22 @@
 -- Which courses end for want of memory, and how a job goes on where another stops.
-use Rattle.std.proofs.Common.{◌≡◌, ◌≢◌, ◌⊎◌, inl, inr, ℕ, ◌+◌, true, false, List, [], ◌∷◌, ◌++◌, Some, None}
+use Rattle.std.proofs.Common.{◌≡◌, ◌≢◌, ◌⊎◌, inl, inr, ℕ, ◌+◌, List, [], ◌∷◌, ◌++◌, Some, None}
 use Rattle.std.proofs.Common.{refl, sym, ap, ◌∙◌}
-use Rattle.std.proofs.lemmas.Bool.{cases_eq}
-use Rattle.edge_traits.specs.declared.cause.Cause.TheVariants.{Dial}
 use Rattle.edge_traits.specs.Deeds.{ran, fetched, exchanged, put}
-use Rattle.slot_table.specs.Backoff.{bad_until}
 use Rattle.farm_machine.specs.declared.reports.By.TheVariants.{Here, InPlace}
 use Rattle.farm_machine.specs.declared.reports.Why5.TheVariants.{Station, Memory}
 use Rattle.farm_machine.specs.declared.reports.End.{End}
 use Rattle.farm_machine.specs.declared.reports.End.TheVariants.{Done, Failed}
 use Rattle.farm_machine.specs.Acts.{Takes, Gives, GivesBad, FindsDown, TakesLocal, GivesLocal, Act, Did, Met, Loan}
 use Rattle.farm_machine.specs.Jobs.{Job, output_name}
-use Rattle.farm_machine.specs.Jobs.{is_local_host}
 use Rattle.farm_machine.specs.Course.{At, Start, LentInPlace, RanInPlace, Send, Lent, RanThere, Sent, Locally}
 use Rattle.farm_machine.specs.Course.{LentHere, RanHere, Finish, Over, outcome_of, after_preprocessor, or_here, after_broken, after_whole}
-use Rattle.farm_machine.specs.Course.{Tried, no_host, Next, From, Course}
+use Rattle.farm_machine.specs.Course.{no_host, Next, From, Course}
 use Rattle.farm_machine.specs.Table.{gives_back, IsCut, IsCutInExchange, MemoryLaw}
 use Rattle.course_laws.proofs.Courses.{has_out}
 use Rattle.course_laws.proofs.Sources.{join, reach-loan, reach-source}
 use Rattle.course_laws.proofs.Tables.{forth, along, over}
-use Rattle.course_laws.proofs.Cuts.{cut-back, exchange-back, Goes, fin-finish, goes-locally, no_host-other, goes-send, fin-broken, dial}
-use Rattle.course_laws.proofs.Cuts.{dial-broken, small, above, goes-lent, goes-start, Stops, prepend, here, Fine, fine-or_here}
+use Rattle.course_laws.proofs.Cuts.{cut-back, exchange-back, Goes, fin-finish, goes-locally, no_host-other, goes-send, dial, dials}
+use Rattle.course_laws.proofs.Cuts.{goes-lent, goes-start, Stops, prepend, here, Fine, fine-or_here}
 use Rattle.course_laws.proofs.Cuts.{fine-broken, fine-whole, fine-cpp, fine-at}
 
 -- no other end is that for want of memory
@@ -197,44 +193,6 @@ stops j (Did (put x) ∷ acts) (Finish by note o) fine (c, next, from) = other j
 stops j [] (Over e) fine h = absurd (fine (sym h))
 stops j [] at fine h = absurd h
 stops j (a ∷ acts) at fine (c, next, from) = absurd next
-
--- from a host's grant a job can go on by an exchange whose dial failed
-record Dials (j : Job) (host : ℕ) (source note : List ℕ) (tried : List Tried) : Type 0 where
-  rest : List Act
-  end : End
-  whole : end ≢ Failed Memory
-  from : From j (Lent host source note tried) (Did (exchanged (dial j host)) ∷ rest) end
-
-dials : (j : Job) (host : ℕ) (source note : List ℕ) (tried : List Tried) → is_local_host j host ≡ false → Dials j host source note tried
-dials j host source note tried e =
-    let f = fin-broken j host Dial source note tried in
-    let x = dial j host in
-    elim (cases_eq j.config.period 0) [
-      | inl zero_ ↦ record {
-        rest = Met (Gives host) ∷ f.acts;
-        end = f.end;
-        whole = f.whole;
-        from = (
-          Sent host source note tried x,
-          (e, (dial-broken j host source).begun, refl),
-          (after_broken j host Dial source note tried, (refl, inr (inl (Dial, dial-broken j host source, zero_, refl))), f.from),
-        );
-      }
-      | inr more ↦ record {
-        rest = Met (GivesBad host (bad_until 0 j.config.period)) ∷ f.acts;
-        end = f.end;
-        whole = f.whole;
-        from = (
-          Sent host source note tried x,
-          (e, (dial-broken j host source).begun, refl),
-          (
-            after_broken j host Dial source note tried,
-            (refl, e, (Dial, dial-broken j host source, above j.config.period more, (0, small, refl), refl)),
-            f.from,
-          ),
-        );
-      }
-    ]
 
 memory : (j : Job) (acts : List Act) → Course j acts (Failed Memory) → IsCut j acts ⊎ IsCutInExchange j acts
 memory j acts h =
