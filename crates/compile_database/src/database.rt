@@ -66,14 +66,8 @@ fn list_of_entries(
     ensures fault { IfErr result (IsError (EntriesFault (choice_of selection.now) (map view entries.now))) }
 {
     let places = places_of(alloc, selection, entries)?;
-    let jobs = match jobs_at(alloc, entries, places.as_slice()) {
-        Ok(jobs) => jobs,
-        Err(error) => return Err(error),
-    };
-    match list_of(alloc, &jobs) {
-        Ok(list) => Ok(list),
-        Err(error) => Err(error),
-    }
+    let jobs = jobs_at(alloc, entries, places.as_slice())?;
+    list_of(alloc, &jobs)
 }
 
 /// The job list of the entries of a compile database that a selection takes: one line an entry, in their order, whose words

@@ -99,10 +99,8 @@ pub(crate) fn jobs_at(
 {
     let mut jobs = Jobs::new(alloc);
     'each: for place in places {
-        match job_at(alloc, entries, *place) {
-            Ok(job) => jobs.try_push(job)?,
-            Err(error) => return Err(error),
-        }
+        let job = job_at(alloc, entries, *place)?;
+        jobs.try_push(job)?;
     }
     Ok(jobs)
 }
