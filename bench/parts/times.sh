@@ -40,10 +40,18 @@ file_by_farm() { "$FARM" cc gcc -c "$1.c" -o "$1.o"; }
 # list_by_farm LIST HOSTS WORKERS: builds a job list
 list_by_farm() { "$FARM" build --hosts "$2" --workers "$3" --no-fallback <"$1" >/dev/null; }
 
+# keep FILE TEXT: makes a file in the folder that FIGURES names, whole or not at all
+keep() {
+  local file=$figures/$1
+  printf '%s\n' "$2" >"$file.part" && mv -f "$file.part" "$file" && return
+  rm -f "$file.part"
+  stop "what was measured can't be kept in $figures"
+}
+
 # record NAME WORD..: where FIGURES names a folder, the script is begun anew with these words. If it succeeds, what it printed goes into the file NAME.txt
 # there, but for the lines of single rounds.
 record() {
-  local name=$1 printed ends
+  local name=$1 printed ends text
   shift
   if [ -z "$figures" ] || [ -n "${RECORDED:-}" ]; then return; fi
   printed=$(mktemp)
@@ -51,6 +59,7 @@ record() {
   { echo "$(nproc) processors, load $(load), $(date +%F)"; RECORDED=yes "$TOP/bench/$(basename "$0")" "$@"; } | tee "$printed"
   ends=("${PIPESTATUS[@]}")
   [ "${ends[0]}" = 0 ] || exit "${ends[0]}"
-  [ "${ends[1]}" = 0 ] && grep -v '^round ' "$printed" >"$figures/$name.txt" || stop "what was printed can't be kept in $figures"
+  [ "${ends[1]}" = 0 ] && text=$(grep -v '^round ' "$printed") || stop "what was printed can't be kept"
+  keep "$name.txt" "$text"
   exit 0
 }

@@ -52,7 +52,7 @@ for _ in $(seq 100); do
   sleep 0.05
 done
 # its whole group at once, since it starts others in place of those that are gone
-kill -9 -- "-$DAEMON"
+kill -9 -- "-$DAEMON" || { fail 'killed: the second host'; kill -9 "$DAEMON"; }
 ends_within 600 "$building" || fail 'killed: the status'
 wait "$DAEMON" 2>/dev/null
 lines killed 200 "remote 127.0.0.1:($FIRST_PORT|$SECOND_PORT)|here"

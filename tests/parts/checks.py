@@ -34,7 +34,9 @@ def verdict(check, text=""):
 @contextlib.contextmanager
 def work_folder():
     """A folder for the files of a check and for temporary ones. It is gone at the end, also where the check is ended from outside."""
-    signal.signal(signal.SIGTERM, lambda *_: sys.exit(143))
+    for number in (signal.SIGHUP, signal.SIGTERM):
+        if signal.getsignal(number) != signal.SIG_IGN:  # nohup has a hang-up ignored
+            signal.signal(number, lambda taken, _: sys.exit(128 + taken))
     folder = tempfile.mkdtemp()
     try:
         os.environ["TMPDIR"] = folder

@@ -86,7 +86,7 @@ comes_up() {
 ends_within() {
   local process=$2
   for _ in $(seq $(($1 * 10))); do
-    kill -0 "$process" 2>/dev/null || break
+    kill -0 "$process" 2>/dev/null || { wait "$process" 2>/dev/null; return; }
     sleep 0.1
   done
   kill -9 "$process" 2>/dev/null
