@@ -104,6 +104,6 @@ bench:
 bench-wire:
 	bench/text wire
 
-# How many times as long reading a job list of 16 MiB takes as a plain copy of it.
+# How many times as long reading job lists of 4 and of 16 MiB takes as plain copies of them.
 bench-jobs:
 	bench/text jobs
