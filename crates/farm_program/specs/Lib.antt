@@ -1,5 +1,6 @@
 pub mod Worlds
 pub mod Builds
+pub mod Endings
 pub mod Outcomes
 pub mod Levels
 pub mod GraphBuilds

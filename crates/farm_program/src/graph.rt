@@ -41,7 +41,8 @@ where
     D::Link: Send,
     requires plan { IsPlan plan.graph.now plan.config.now plan.most }
     requires kits { AreReady 1 (λ kit. IsIdle (K.shows kit.keeper)) kits.old.items }
-    ensures { LevelsEnd (devices D.shows S.shows K.shows C.shows D.may_give S.ran) plan.entry.config.now plan.entry.most plan.entry.graph.now
+    ensures { LevelsEnd (devices D.shows S.shows K.shows C.shows D.may_give S.ran)
+        plan.entry.config.now plan.entry.most plan.entry.graph.now
         kits.old.items kits.new.items result.built
         (sinks_view O.shows E.shows out.old err.old)
         (sinks_view O.shows E.shows out.new err.new) result.status }

@@ -59,10 +59,7 @@ pub fn read_jobs<R: Source>(alloc: Global, input: &mut R) -> Result<Jobs, InputE
         (R.shows input.old) (R.shows input.new)) }
     ensures some { HasReadSome input_limit (R.shows input.old) (R.shows input.new) }
 {
-    let text = match read_text(alloc, input) {
-        Ok(text) => text,
-        Err(error) => return Err(error),
-    };
+    let text = read_text(alloc, input)?;
     match parse(alloc, text.as_slice()) {
         Ok(jobs) => Ok(jobs),
         Err(JobError::Fault { line, fault }) => Err(InputError::Jobs { line, fault }),

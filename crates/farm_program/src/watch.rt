@@ -166,7 +166,8 @@ where
     requires lines { plan.lines ≤ lines_max }
     requires input { (R.shows input.old).ended ≡ false }
     requires kits { AreReady 2 (λ kit. IsIdle (K.shows kit.keeper)) kits.old.items }
-    ensures { BuildsWatched (devices D.shows S.shows K.shows C.shows D.may_give S.ran) plan.entry.config.now plan.entry.most plan.entry.lines
+    ensures { BuildsWatched (devices D.shows S.shows K.shows C.shows D.may_give S.ran)
+        plan.entry.config.now plan.entry.most plan.entry.lines
         (world R.shows O.shows E.shows input.old kits.old.items out.old err.old [])
         (world R.shows O.shows E.shows input.new kits.new.items out.new err.new result.built) result.status }
 {
