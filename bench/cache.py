@@ -1,5 +1,6 @@
 """Requests for bench/cache: `hit PORT FILE`, a source of 8 MiB that is in the cache; `fill PORT COUNT PROCESS BOUND SIZES FILE`, sources that
-are all others, of so many KiB each, or of LEAST-MOST KiB by chance; and `compare COUNT FILE` of what `fill` left there."""
+are all others, of so many KiB each, or of LEAST-MOST KiB by chance; `pages PORT COUNT PROCESS BOUND FILE`, the same of 4 KiB after a start; and
+`compare COUNT FILE PAGES` of what these two left."""
 import random
 import statistics
 import subprocess
@@ -31,25 +32,43 @@ def hit(port, path):
     print(f"a hit on a source of 8 MiB, with its transfer: {cached:.1f} ms; sha256sum of it, with its start: {summed:.1f} ms; ratio {cached / summed:.2f}")
 
 
+def send(port, number, size):
+    """Sends a source of about so many bytes that is like no other."""
+    body = b"int a;\n" * (size // 7)
+    assert exchange(port, compile_request(b"probe", b"// %d\n" % number + body)).startswith(b"DONE00000001STAT00000000")
+
+
 def fill(port, count, process, bound, sizes, path):
-    """Sends sources that are all others, and adds to a file what is resident behind each tenth one of their second half: the median and the largest, of all and
-    of what isn't of files."""
+    """Adds to a file what is resident, but for pages of files, behind each tenth source of the second half: the median and the largest."""
     least, most = (int(size) * 1024 for size in (sizes.split("-") * 2)[:2])
     choice = random.Random(7)
-    seen, own = [], []
+    seen = []
     for number in range(count):
-        body = b"int a;\n" * (choice.randint(least, most) // 7)
-        assert exchange(port, compile_request(b"probe", b"// %d\n" % number + body)).startswith(b"DONE00000001STAT00000000")
+        send(port, number, choice.randint(least, most))
         if number >= count // 2 and number % 10 == 0:
-            seen.append(resident(process))
-            own.append(resident(process, "RssAnon"))
+            seen.append(resident(process, "RssAnon"))
     with open(path, "a", encoding="ascii") as file:
-        print(sizes, bound, int(statistics.median(seen)), max(seen), int(statistics.median(own)), max(own), file=file)
+        print(sizes, bound, int(statistics.median(seen)), max(seen), file=file)
 
 
-def compare(count, path):
+def pages(port, count, process, bound, path):
+    """Adds to a file how much of the program's files is resident behind so many sources, which differs from start to start."""
+    for number in range(count):
+        send(port, number, 4096)
+    with open(path, "a", encoding="ascii") as file:
+        print(bound, resident(process, "RssFile"), file=file)
+
+
+def compare(count, path, path_of_pages):
     """What each bound takes beside a farmd without a cache."""
-    print(f"resident beside a farmd without a cache, in KiB, behind {count // 2} to {count} sources: the median and the largest; and so without pages of files")
+    of_files = {}
+    with open(path_of_pages, encoding="ascii") as file:
+        for line in file:
+            bound, size = line.split()
+            of_files.setdefault(bound, []).append(int(size))
+    starts = len(of_files["0"])
+    print(f"resident beside a farmd without a cache, in KiB: what isn't of files, behind {count // 2} to {count} sources, the median and the largest;")
+    print(f"  pages of files, the medians of {starts} starts; and the largest with these:")
     without = {}
     with open(path, encoding="ascii") as file:
         for line in file:
@@ -59,8 +78,9 @@ def compare(count, path):
                 without[sizes] = numbers
                 continue
             more = [number - other for number, other in zip(numbers, without[sizes])]
+            more_pages = int(statistics.median(of_files[bound]) - statistics.median(of_files["0"]))
             limit = int(bound) * 1024 * 11 // 10
-            print(f"  sources of {sizes:>5} KiB, --cache {bound:>2}, limit {limit:>6}: {more[0]:>6} {more[1]:>6}   {more[2]:>6} {more[3]:>6}")
+            print(f"  sources of {sizes:>5} KiB, --cache {bound:>2}, limit {limit:>6}: {more[0]:>6} {more[1]:>6} {more_pages:>5} {more[1] + more_pages:>6}")
 
 
 def main():
@@ -69,8 +89,10 @@ def main():
         hit(int(words[0]), words[1])
     elif what == "fill":
         fill(int(words[0]), int(words[1]), int(words[2]), *words[3:])
+    elif what == "pages":
+        pages(int(words[0]), int(words[1]), int(words[2]), *words[3:])
     else:
-        compare(int(words[0]), words[1])
+        compare(int(words[0]), *words[1:])
 
 
 main()
