@@ -98,8 +98,8 @@ pub record RoseUpTo (number before now : ℕ) : Type 0 where
   pub rose : RoseJust by before now
 
 -- As many runs failed or gave too much as jobs failed by the station: its counts rose by just that number. Which jobs' runs these were
--- isn't said. The keeper's overruns rose by no more than the jobs that failed by a fetch. No more jobs failed by the keeper or the dialer than
--- their counts rose together. Puts have a bound of their own, since no overrun fails one.
+-- isn't said. The keeper's overruns rose by no more than the jobs that failed by a fetch. No more jobs failed by the keeper or the
+-- dialer than their counts rose together. Puts have a bound of their own, since no overrun fails one.
 pub record AreCaused (reports : List Report) (old new : KitView) : Type 0 where
   pub station : RoseInAll (ends_so is_station_failure reports) old.station.faults new.station.faults old.station.overruns
       new.station.overruns

@@ -68,7 +68,8 @@ right_word w h k =
     right_cond (ltb name_max (length w)) LongName _ (λ _. tt) (λ short.
     right_cond (bytes_eq w int_word) IntWord _ (λ _. tt) (λ no_int.
     right_cond (bytes_eq w extern_word) ExternWord _ (λ _. tt) (λ no_extern.
-    and_from _ _ (and_from _ _ (and_from _ _ (and_from _ _ h k) (le-leb (length w) name_max (ltb-false name_max (length w) short))) (ap not no_int))
+    and_from _ _ (and_from _ _ (and_from _ _ (and_from _ _ h k) (le-leb (length w) name_max (ltb-false name_max (length w) short)))
+    (ap not no_int))
     (ap not no_extern))))
 
 right_number : (ds : List ℕ) → IsRightToken (number_token ds)
