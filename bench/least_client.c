@@ -1,5 +1,6 @@
 /* The least that a client of distccd does for a job, in C, for measures of clients: it runs the preprocessor, sends the request in one write, reads the reply
-   and puts the object into its file under a new name, which it renames. Its words are PORT SOURCE OBJECT; the compiler is gcc, at 127.0.0.1. */
+   and puts the object into its file under a new name, which it renames. Its words are the port at 127.0.0.1 and SOURCE OBJECT for each job, one after the
+   other; the compiler is gcc. */
 #define _GNU_SOURCE
 #include <arpa/inet.h>
 #include <fcntl.h>
@@ -32,7 +33,9 @@ static size_t preprocess(char *file) {
     size_t length = 0;
     ssize_t took;
     while ((took = read(ends[0], source + length, sizeof source - length)) > 0) length += took;
+    close(ends[0]);
     if (waitpid(child, &status, 0) < 0 || status) exit(3);
+    posix_spawn_file_actions_destroy(&actions);
     return length;
 }
 
@@ -55,26 +58,39 @@ static size_t number(const char *name) {
     return strtoul(digits, NULL, 16);
 }
 
-int main(int count, char **words) {
-    if (count != 4) return 6;
-    size_t length = preprocess(words[2]);
-    struct sockaddr_in address = {.sin_family = AF_INET, .sin_port = htons(atoi(words[1])), .sin_addr.s_addr = htonl(INADDR_LOOPBACK)};
+/* Sends the request whose preprocessed source has this length. */
+static void ask(int port, const char *file, const char *object, size_t length) {
+    struct sockaddr_in address = {.sin_family = AF_INET, .sin_port = htons(port), .sin_addr.s_addr = htonl(INADDR_LOOPBACK)};
     peer = socket(AF_INET, SOCK_STREAM | SOCK_CLOEXEC, 0);
     int one = 1;
     setsockopt(peer, IPPROTO_TCP, TCP_NODELAY, &one, sizeof one);
-    if (connect(peer, (struct sockaddr *)&address, sizeof address)) return 7;
+    if (connect(peer, (struct sockaddr *)&address, sizeof address)) exit(6);
     char head[4096];
-    int heads = sprintf(head, "DIST00000001ARGC00000005ARGV00000003gccARGV00000002-cARGV%08zx%sARGV00000002-oARGV%08zx%sDOTI%08zx", strlen(words[2]), words[2],
-                        strlen(words[3]), words[3], length);
+    int heads = sprintf(head, "DIST00000001ARGC00000005ARGV00000003gccARGV00000002-cARGV%08zx%sARGV00000002-oARGV%08zx%sDOTI%08zx", strlen(file), file,
+                        strlen(object), object, length);
     struct iovec parts[] = {{head, heads}, {source, length}};
-    if (writev(peer, parts, 2) != (ssize_t)(heads + length)) return 8;
-    if (number("DONE") != 1 || number("STAT") != 0) return 9;
+    if (writev(peer, parts, 2) != (ssize_t)(heads + length)) exit(7);
+    have = at = 0;
+}
+
+/* Reads the reply, and puts its object into the file. */
+static void take(const char *object) {
+    if (number("DONE") != 1 || number("STAT") != 0) exit(8);
     next(number("SERR"));
     next(number("SOUT"));
     size_t size = number("DOTO");
-    char *object = next(size), staged[4096];
+    const char *bytes = next(size);
+    char staged[64];
     sprintf(staged, "least-%d~", getpid());
     int file = open(staged, O_WRONLY | O_CREAT | O_EXCL | O_CLOEXEC, 0666);
-    if (file < 0 || write(file, object, size) != (ssize_t)size || close(file) || rename(staged, words[3])) return 10;
+    if (file < 0 || write(file, bytes, size) != (ssize_t)size || close(file) || rename(staged, object)) exit(9);
+    close(peer);
+}
+
+int main(int count, char **words) {
+    for (int job = 2; job + 1 < count; job += 2) {
+        ask(atoi(words[1]), words[job], words[job + 1], preprocess(words[job]));
+        take(words[job + 1]);
+    }
     return 0;
 }

@@ -14,6 +14,11 @@ NAMES = {
     "least": "the least client",
     "served": "farm cc to farmd",
 }
+LISTS = {
+    "list": "a list to distccd",
+    "least list": "a list, least client",
+    "served list": "a list to farmd",
+}
 
 
 def commands(way, name):
@@ -51,10 +56,13 @@ def compile_by(way, name):
     return sum(took for took, _ in runs), runs[0][1]
 
 
-def list_by(port):
-    """What a job of a list of all files took with one worker, and of the processor."""
-    jobs = "".join(f"gcc -c f{k}.c -o f{k}.o\n" for k in range(1, COUNT + 1))
-    words = [FARM, "build", "--hosts", f"127.0.0.1:{port}", "--workers", "1", "--no-fallback"]
+def list_by(way):
+    """What a job of a list of all files took by one process, and of the processor."""
+    names = [f"f{k}" for k in range(1, COUNT + 1)]
+    jobs = "".join(f"gcc -c {name}.c -o {name}.o\n" for name in names)
+    words = [FARM, "build", "--hosts", f"127.0.0.1:{FARMD if way == 'served list' else DISTCCD}", "--workers", "1", "--no-fallback"]
+    if way == "least list":
+        words = [LEAST, DISTCCD, *(f"{name}{end}" for name in names for end in (".c", ".o"))]
     before, begin = own(resource.getrusage(resource.RUSAGE_CHILDREN)), time.perf_counter()
     subprocess.run(words, input=jobs.encode(), stdout=subprocess.DEVNULL, check=True)
     return (time.perf_counter() - begin) / COUNT, (own(resource.getrusage(resource.RUSAGE_CHILDREN)) - before) / COUNT
@@ -75,8 +83,8 @@ def main():
                 whole[way] = tuple(map(sum, zip(whole[way], pair)))
         for way, pair in whole.items():
             keep_least(rounds, way, [it / COUNT for it in pair])
-        for way, port in ("list", DISTCCD), ("served list", FARMD):
-            keep_least(rounds, way, list_by(port))
+        for way in LISTS:
+            keep_least(rounds, way, list_by(way))
         with open("/proc/loadavg", encoding="ascii") as load:
             print(f"round {turn + 1}, ms per job:", ", ".join(f"{way} {whole[way][0] / COUNT * 1000:.2f}" for way in NAMES), "load", load.read().split()[0])
 
@@ -85,15 +93,14 @@ def main():
     print(f"{COUNT} files, the least of {ROUNDS} rounds for each file, mean per job in ms: by the clock, and of the processor without the server's")
     tell(mean, [])
     print("the least whole round in each way, per job in ms:")
-    tell(least, ["list", "served list"])
+    tell(least, LISTS.items())
 
 
 def tell(times, lists):
     """What each way took and what it adds to the split, by the clock and of the processor, and in what distcc adds."""
     added = {way: (times[way][0] - times["split"][0], times[way][1] - times["split"][1]) for way in times if way != "gcc"}
-    labels = {**NAMES, "list": "a list to distccd", "served list": "a list to farmd"}
-    for way in [*NAMES, *lists]:
-        line = f"  {labels[way]:20} {times[way][0]:7.2f} {times[way][1]:7.2f}"
+    for way, label in [*NAMES.items(), *lists]:
+        line = f"  {label:20} {times[way][0]:7.2f} {times[way][1]:7.2f}"
         if way not in ("gcc", "split"):
             line += f"   adds {added[way][0]:6.2f} {added[way][1]:6.2f}"
             line += "".join(f"  {mine / other:5.2f}" if other > 0 else "      -" for mine, other in zip(added[way], added["distcc"]))
