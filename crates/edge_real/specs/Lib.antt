@@ -10,3 +10,4 @@ pub mod Staging
 pub mod Views
 pub mod Kits
 pub mod Environment
+pub mod Streams

@@ -8,7 +8,8 @@ use command::{
     add_dependencies, bytes_of, compile_command, is_watched, replaces_source, tell_input,
 };
 use edge_real::{
-    Notices, PAUSE_MILLIS, StdSink, StdSource, command_words, own_folder, variable, watch_kits,
+    HeldStreams, Notices, PAUSE_MILLIS, StdSink, StdSource, command_words, own_folder, variable,
+    watch_kits,
 };
 use farm_program::farm;
 use farm_types::exits::{BAD_HOSTS, BAD_TEXT, BAD_WORDS, NO_MEMORY};
@@ -151,6 +152,7 @@ fn serve<W: Threads + Wait + Sync>(waits: &W, rt: &HostRuntime) -> Result<u8, Al
 }
 
 fn main(rt: HostRuntime) -> ExitCode {
+    let _held = HeldStreams::take(&rt);
     if let Ok(status) = serve(&rt, &rt) {
         return ExitCode::from(status);
     }

@@ -14,8 +14,8 @@ use daemon_program::{DoorPlace, door_place, farmd};
 use daemon_words::{Command, Options, parse_words, rules_of, settings_of, trusts_options};
 use daemon_worker::DoorKit;
 use edge_real::{
-    ChildStation, PendingRemoval, SharedRemoval, StdSink, TcpDoor, WordPolicy, command_words,
-    current_folder, own_folder,
+    ChildStation, HeldStreams, PendingRemoval, SharedRemoval, StdSink, TcpDoor, WordPolicy,
+    command_words, current_folder, own_folder,
 };
 use farm_types::exits::NO_MEMORY;
 use log::warn;
@@ -166,6 +166,7 @@ fn doors_of(rt: &HostRuntime) -> Result<(Vec<String>, Vec<SystemDoor>), AllocErr
 
 // Runs `farmd` on the program's words and standard output, and ends with its status.
 fn main(rt: HostRuntime) -> ExitCode {
+    let _held = HeldStreams::take(&rt);
     let Ok((words, mut doors)) = doors_of(&rt) else {
         let _ = println!(rt; "farmd: no memory");
         return ExitCode::from(NO_MEMORY);

@@ -1,7 +1,7 @@
 //! The program `scc`: the call `scc` over the files and the standard streams of the system.
 #![tactic(auto)]
 
-use edge_real::{DiskFiles, StdSink, command_words, own_folder};
+use edge_real::{DiskFiles, HeldStreams, StdSink, command_words, own_folder};
 use farm_types::exits::NO_MEMORY;
 use object_delivery::FileKeeper;
 use sample_program::scc;
@@ -34,6 +34,7 @@ fn run(rt: &HostRuntime) -> Result<u8, AllocError> {
 }
 
 fn main(rt: HostRuntime) -> ExitCode {
+    let _held = HeldStreams::take(&rt);
     if let Ok(status) = run(&rt) {
         return ExitCode::from(status);
     }
