@@ -11,7 +11,7 @@ import subprocess
 import threading
 import time
 
-from checks import expect, verdict, work_folder, write
+from checks import expect, verdict, work_folder, write, write_program
 from farm import FARM, content, file_limit, job, leftovers, make_folder, remove_leftovers, run_farm, start_farm
 from wire import read_request, reply_head, start_host
 
@@ -142,6 +142,20 @@ def unprinted(folder):
     status, _ = run_farm(folder, job("x.i", "x.o"), PORT, "--no-fallback", stdout=starts, stderr=None)
     os.close(starts)
     expect("an output that no one reads", status == 100, status)
+
+
+def blocked(folder):
+    """A pipe that another process made non-blocking is waited for while it is full."""
+    write_program(f"{folder}/noisy", "#!/bin/sh\nyes 'a line of messages' | head -c 300000 >&2\n")
+    ends, starts = os.pipe()
+    os.set_blocking(starts, False)
+    child = subprocess.Popen([FARM, "cc", "./noisy", "-E", "x.i"], cwd=folder, stderr=starts)
+    os.close(starts)
+    time.sleep(0.5)
+    with os.fdopen(ends, "rb") as pipe:
+        said = len(pipe.read())
+    status = child.wait()
+    expect("a full pipe that isn't blocking", status == 0 and said == 300000, (status, said))
 
 
 # kills
@@ -276,6 +290,6 @@ def two_addresses(folder):
 PORT = start_host(answer)
 with work_folder() as work:
     make_folder(work, COMPILER, SOURCES)
-    for check in (full_disk, limited, unwritable, unprinted, killed, resets, hangs, killed_host, mute_host, silent_host, two_addresses):
+    for check in (full_disk, limited, unwritable, unprinted, blocked, killed, resets, hangs, killed_host, mute_host, silent_host, two_addresses):
         check(work)
 verdict("tests/faults")

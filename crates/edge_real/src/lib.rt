@@ -26,6 +26,7 @@ mod staging;
 mod stream;
 mod tcp;
 mod waiting_room;
+mod waiting_stream;
 
 pub use child::{ChildStation, WordPolicy};
 pub use clock::{PAUSE_MILLIS, WallClock};
@@ -39,3 +40,4 @@ pub use notices::Notices;
 pub use run_folder::{PendingRemoval, SharedRemoval};
 pub use stream::{StdSink, StdSource};
 pub use tcp::{TcpDialer, TcpLink};
+pub use waiting_stream::WaitingStream;

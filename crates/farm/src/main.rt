@@ -8,8 +8,8 @@ use command::{
     add_dependencies, bytes_of, compile_command, is_watched, replaces_source, tell_input,
 };
 use edge_real::{
-    HeldStreams, Notices, PAUSE_MILLIS, StdSink, StdSource, command_words, own_folder, variable,
-    watch_kits,
+    HeldStreams, Notices, PAUSE_MILLIS, StdSink, StdSource, WaitingStream, command_words,
+    own_folder, variable, watch_kits,
 };
 use farm_program::farm;
 use farm_types::exits::{BAD_HOSTS, BAD_TEXT, BAD_WORDS, NO_MEMORY};
@@ -108,9 +108,9 @@ fn run<W: Threads + Wait + Sync>(
         WORKERS_MAX - 1,
         pause,
     )?;
-    let mut input = KeptSource::new(alloc, StdSource::new(rt.stdin()));
-    let mut out = StdSink::new(rt.stdout());
-    let mut err = StdSink::new(rt.stderr());
+    let mut input = KeptSource::new(alloc, StdSource::new(WaitingStream::new(*rt, rt.stdin())));
+    let mut out = StdSink::new(WaitingStream::new(*rt, rt.stdout()));
+    let mut err = StdSink::new(WaitingStream::new(*rt, rt.stderr()));
     let ended = farm(
         waits,
         alloc,

@@ -2,7 +2,7 @@
 #![tactic(auto)]
 
 use compile_database::farm_jobs;
-use edge_real::{StdSink, StdSource};
+use edge_real::{StdSink, StdSource, WaitingStream};
 use farm_types::exits::NO_MEMORY;
 use kept_input::KeptSource;
 use std::alloc::AllocError;
@@ -41,9 +41,12 @@ fn tell_carriage_return<R: Eprint>(rt: &R, database: &[u8]) {
 
 // Runs `farm_jobs` on these words and the standard streams, and answers its exit status.
 fn run(rt: &HostRuntime, words: &[String]) -> u8 {
-    let mut input = KeptSource::new(rt.alloc(), StdSource::new(rt.stdin()));
-    let mut out = StdSink::new(rt.stdout());
-    let mut err = StdSink::new(rt.stderr());
+    let mut input = KeptSource::new(
+        rt.alloc(),
+        StdSource::new(WaitingStream::new(*rt, rt.stdin())),
+    );
+    let mut out = StdSink::new(WaitingStream::new(*rt, rt.stdout()));
+    let mut err = StdSink::new(WaitingStream::new(*rt, rt.stderr()));
     let status = farm_jobs(rt.alloc(), words, &mut input, &mut out, &mut err);
     tell_carriage_return(rt, input.kept().unwrap_or(&[]));
     status

@@ -14,8 +14,8 @@ use daemon_program::{DoorPlace, door_place, farmd};
 use daemon_words::{Command, Options, parse_words, rules_of, settings_of, trusts_options};
 use daemon_worker::DoorKit;
 use edge_real::{
-    ChildStation, HeldStreams, PendingRemoval, SharedRemoval, StdSink, TcpDoor, WordPolicy,
-    command_words, current_folder, own_folder,
+    ChildStation, HeldStreams, PendingRemoval, SharedRemoval, StdSink, TcpDoor, WaitingStream,
+    WordPolicy, command_words, current_folder, own_folder,
 };
 use farm_types::exits::NO_MEMORY;
 use log::warn;
@@ -171,6 +171,6 @@ fn main(rt: HostRuntime) -> ExitCode {
         let _ = println!(rt; "farmd: no memory");
         return ExitCode::from(NO_MEMORY);
     };
-    let mut out = StdSink::new(rt.stdout());
+    let mut out = StdSink::new(WaitingStream::new(rt, rt.stdout()));
     ExitCode::from(farmd(&rt, rt.alloc(), words.as_slice(), &mut doors, &mut out))
 }

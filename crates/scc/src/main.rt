@@ -1,7 +1,7 @@
 //! The program `scc`: the call `scc` over the files and the standard streams of the system.
 #![tactic(auto)]
 
-use edge_real::{DiskFiles, HeldStreams, StdSink, command_words, own_folder};
+use edge_real::{DiskFiles, HeldStreams, StdSink, WaitingStream, command_words, own_folder};
 use farm_types::exits::NO_MEMORY;
 use object_delivery::FileKeeper;
 use sample_program::scc;
@@ -21,8 +21,8 @@ fn run(rt: &HostRuntime) -> Result<u8, AllocError> {
     let words = words_of(rt)?;
     let files = DiskFiles::new(*rt, own_folder(rt)?, process::id(rt.process()));
     let mut keeper = FileKeeper::new(files);
-    let mut out = StdSink::new(rt.stdout());
-    let mut err = StdSink::new(rt.stderr());
+    let mut out = StdSink::new(WaitingStream::new(*rt, rt.stdout()));
+    let mut err = StdSink::new(WaitingStream::new(*rt, rt.stderr()));
     let status = scc(
         rt.alloc(),
         words.as_slice(),
