@@ -5,7 +5,7 @@ use std::alloc::AllocError;
 use std::env::{self, Env};
 use std::io::Eprint;
 use std::net::Ipv4Addr;
-use std::os::unix::fs::PermissionsExt;
+use std::os::unix::fs::{MetadataExt, PermissionsExt};
 use std::rt::Files;
 use std::{fs, str};
 
@@ -33,6 +33,11 @@ pub fn tell_beginning<R: Eprint + Env + Files + AllocGlobal>(
         let _ = eprintln!(rt; "farmd: {name} is {program}{found}");
     }
     Ok(())
+}
+
+/// Whether this process has all rights: it is its user who owns its folder in `/proc`.
+pub fn is_root<R: Files>(rt: &R) -> bool {
+    fs::metadata(rt, "/proc/self").is_ok_and(|found| found.uid() == 0)
 }
 
 // Whether a program is there, by its path or in a folder of `PATH`.

@@ -9,7 +9,7 @@ ghost use Rattle.daemon_words.specs.Commands.{trusts};
 ghost use Rattle.edge_real.specs.Views.{policy_of as station_policy};
 
 use access_list::AccessList;
-use beginning::tell_beginning;
+use beginning::{is_root, tell_beginning};
 use daemon_program::{DoorPlace, door_place, farmd};
 use daemon_words::{Command, Options, parse_words, rules_of, settings_of, trusts_options};
 use daemon_worker::DoorKit;
@@ -150,8 +150,12 @@ fn doors_of(rt: &HostRuntime) -> Result<(Vec<String>, Vec<SystemDoor>), AllocErr
 {
     let words = words_of(rt)?;
     let place = door_place(words.as_slice());
-    if lets_all_in(&options_of(words.as_slice())) {
+    let options = options_of(words.as_slice());
+    if lets_all_in(&options) {
         warn!(rt; "every peer is let in, since no rule says who is");
+    }
+    if options.is_some() && is_root(rt) {
+        warn!(rt; "the compilers run as root, since farmd does");
     }
     let access = access_of(rt, words.as_slice())?;
     let doors = doors_at(
