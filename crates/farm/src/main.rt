@@ -12,7 +12,7 @@ use edge_real::{
     own_folder, variable, watch_kits,
 };
 use farm_program::farm;
-use farm_types::exits::{BAD_HOSTS, BAD_TEXT, BAD_WORDS, NO_MEMORY};
+use farm_types::exits::{BAD_HOSTS, BAD_TEXT, BAD_WORDS, FAULT, NO_MEMORY};
 use farm_types::limits::WORKERS_MAX;
 use host_turns::{spread, turned};
 use kept_input::KeptSource;
@@ -152,7 +152,10 @@ fn serve<W: Threads + Wait + Sync>(waits: &W, rt: &HostRuntime) -> Result<u8, Al
 }
 
 fn main(rt: HostRuntime) -> ExitCode {
-    let _held = HeldStreams::take(&rt);
+    let Ok(_held) = HeldStreams::take(&rt) else {
+        let _ = eprintln!(rt; "farm: neither / nor /dev/null can be opened");
+        return ExitCode::from(FAULT);
+    };
     if let Ok(status) = serve(&rt, &rt) {
         return ExitCode::from(status);
     }

@@ -35,7 +35,7 @@ pub fn tell_beginning<R: Eprint + Env + Files + AllocGlobal>(
     Ok(())
 }
 
-/// Whether this process has all rights: it is its user who owns its folder in `/proc`.
+/// Whether the user of this process is root. Where there is no `/proc` that isn't known.
 pub fn is_root<R: Files>(rt: &R) -> bool {
     fs::metadata(rt, "/proc/self").is_ok_and(|found| found.uid() == 0)
 }

@@ -17,7 +17,7 @@ use edge_real::{
     ChildStation, HeldStreams, PendingRemoval, SharedRemoval, StdSink, TcpDoor, WaitingStream,
     WordPolicy, command_words, current_folder, own_folder,
 };
-use farm_types::exits::NO_MEMORY;
+use farm_types::exits::{FAULT, NO_MEMORY};
 use log::warn;
 use std::alloc::AllocError;
 use std::net::{TcpListener, TcpStream};
@@ -170,7 +170,10 @@ fn doors_of(rt: &HostRuntime) -> Result<(Vec<String>, Vec<SystemDoor>), AllocErr
 
 // Runs `farmd` on the program's words and standard output, and ends with its status.
 fn main(rt: HostRuntime) -> ExitCode {
-    let _held = HeldStreams::take(&rt);
+    let Ok(_held) = HeldStreams::take(&rt) else {
+        let _ = eprintln!(rt; "farmd: neither / nor /dev/null can be opened");
+        return ExitCode::from(FAULT);
+    };
     let Ok((words, mut doors)) = doors_of(&rt) else {
         let _ = println!(rt; "farmd: no memory");
         return ExitCode::from(NO_MEMORY);

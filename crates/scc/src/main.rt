@@ -2,7 +2,7 @@
 #![tactic(auto)]
 
 use edge_real::{DiskFiles, HeldStreams, StdSink, WaitingStream, command_words, own_folder};
-use farm_types::exits::NO_MEMORY;
+use farm_types::exits::{FAULT, NO_MEMORY};
 use object_delivery::FileKeeper;
 use sample_program::scc;
 use std::alloc::AllocError;
@@ -34,7 +34,10 @@ fn run(rt: &HostRuntime) -> Result<u8, AllocError> {
 }
 
 fn main(rt: HostRuntime) -> ExitCode {
-    let _held = HeldStreams::take(&rt);
+    let Ok(_held) = HeldStreams::take(&rt) else {
+        let _ = eprintln!(rt; "scc: neither / nor /dev/null can be opened");
+        return ExitCode::from(FAULT);
+    };
     if let Ok(status) = run(&rt) {
         return ExitCode::from(status);
     }
