@@ -2,12 +2,14 @@
 
 A source is a number and a letter, as `65536 B`: its object has so many bytes of this letter, whoever compiles it. FARM names the program.
 """
+import fcntl
 import os
 import random
 import signal
 import socket
 import struct
 import subprocess
+import termios
 import threading
 import time
 
@@ -145,17 +147,29 @@ def unprinted(folder):
 
 
 def blocked(folder):
-    """A pipe that another process made non-blocking is waited for while it is full."""
+    """A pipe that another process made non-blocking is waited for while it is full, and while it is empty."""
     write_program(f"{folder}/noisy", "#!/bin/sh\nyes 'a line of messages' | head -c 300000 >&2\n")
     ends, starts = os.pipe()
     os.set_blocking(starts, False)
     child = subprocess.Popen([FARM, "cc", "./noisy", "-E", "x.i"], cwd=folder, stderr=starts)
     os.close(starts)
-    time.sleep(0.5)
+    held, before = -1, -2
+    while held <= 0 or held != before:
+        time.sleep(0.2)
+        held, before = struct.unpack("i", fcntl.ioctl(ends, termios.FIONREAD, b"\0" * 4))[0], held
     with os.fdopen(ends, "rb") as pipe:
         said = len(pipe.read())
     status = child.wait()
-    expect("a full pipe that isn't blocking", status == 0 and said == 300000, (status, said))
+    expect("a full pipe that isn't blocking", held < 300000 and status == 0 and said == 300000, (held, status, said))
+    ends, starts = os.pipe()
+    os.set_blocking(ends, False)
+    child = subprocess.Popen([FARM, "build", "--hosts", f"127.0.0.1:{PORT}/4"], cwd=folder, stdin=ends, stdout=subprocess.DEVNULL)
+    os.close(ends)
+    time.sleep(0.5)
+    os.write(starts, job("small.i", "late.o").encode())
+    os.close(starts)
+    status = child.wait()
+    expect("an empty pipe that isn't blocking", status == 0 and content(f"{folder}/late.o") == ("S", 1), status)
 
 
 # kills

@@ -1,4 +1,4 @@
-/* The least that a client of distccd does for a job, in C, for measures of clients: it runs the preprocessor, sends the request in one write, reads the reply
+/* A small client of distccd in C, for measures of clients. For each job it runs the preprocessor, sends the request in one write, reads the reply
    and puts the object into its file under a new name, which it renames. Its words are the port at 127.0.0.1 and SOURCE OBJECT for each job, one after the
    other; the compiler is gcc. */
 #define _GNU_SOURCE
@@ -88,6 +88,7 @@ static void take(const char *object) {
 }
 
 int main(int count, char **words) {
+    if (count < 4 || count % 2) return 10;
     for (int job = 2; job + 1 < count; job += 2) {
         ask(atoi(words[1]), words[job], words[job + 1], preprocess(words[job]));
         take(words[job + 1]);
