@@ -30,7 +30,7 @@ enum Task {
     FeedReply(Piece),
 }
 
-const TASKS: [(&str, Task); 9] = [
+const TASKS: &[(&str, Task)] = &[
     ("encode a request", Task::EncodeRequest),
     ("encode a reply", Task::EncodeReply),
     ("decode a reply", Task::Decode),
@@ -129,15 +129,21 @@ impl<'a> Measured for WireTask<'a> {
     }
 }
 
+fn measure_each<R: Runtime>(
+    rt: &R,
+    alloc: Global,
+    sample: &Sample,
+    tasks: &[(&str, Task)],
+) -> anyhow::Result<()> {
+    for (name, task) in tasks {
+        let task = *task;
+        report(rt, alloc, name, &WireTask { task, sample })?;
+    }
+    Ok(())
+}
+
 /// Prints a line for each task.
 pub fn measure_wire<R: Runtime>(rt: &R, alloc: Global) -> anyhow::Result<()> {
     let sample = Sample::new(alloc)?;
-    for (name, task) in TASKS {
-        let measured = WireTask {
-            task,
-            sample: &sample,
-        };
-        report(rt, alloc, name, &measured)?;
-    }
-    Ok(())
+    measure_each(rt, alloc, &sample, TASKS)
 }
