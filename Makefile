@@ -26,13 +26,14 @@ test: gate checks
 gate:
 	rt ci
 
-# The map of the crates and the list of what has to be believed. Then farm with a real distccd, in an odd environment, objects on a real disk, faults of a
+# The map of the crates, the list of what has to be believed, and whether each edit still turns a text. Then farm with a real distccd, in an odd environment, objects on a real disk, faults of a
 # real machine, runs with an allocation refused, real clients of farmd, mutated requests for it, the options that it lets through and those that it doesn't,
 # its cache, whole projects, dependency files, two hosts in turn, sources that become a program, the manual pages, the installation and the demonstration;
 # each is skipped where what it needs isn't installed.
 checks:
 	tools/layers
 	tools/believed
+	tools/more-edits
 	tests/interop
 	tests/environment
 	tests/delivery
