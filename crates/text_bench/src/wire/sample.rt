@@ -25,23 +25,42 @@ fn command(alloc: Global) -> Result<Words, AllocError> {
     Ok(words)
 }
 
+fn request(alloc: Global) -> Result<Request, AllocError> {
+    let words = command(alloc)?;
+    let source = large(alloc)?;
+    Ok(Request { words, source })
+}
+
+fn outcome(alloc: Global) -> Result<Outcome, AllocError> {
+    let object = large(alloc)?;
+    Ok(Outcome {
+        status: 0,
+        err: Bytes::new(alloc),
+        out: Bytes::new(alloc),
+        object,
+    })
+}
+
+fn request_text(alloc: Global, request: &Request) -> anyhow::Result<Bytes> {
+    if !request.fits() {
+        anyhow::bail!("the request doesn't fit");
+    }
+    Ok(compile_request::encode(alloc, request)?)
+}
+
+fn reply_text(alloc: Global, outcome: &Outcome) -> anyhow::Result<Bytes> {
+    if !outcome.fits() {
+        anyhow::bail!("the reply doesn't fit");
+    }
+    Ok(compile_reply::encode(alloc, outcome)?)
+}
+
 impl Sample {
     pub fn new(alloc: Global) -> anyhow::Result<Sample> {
-        let request = Request {
-            words: command(alloc)?,
-            source: large(alloc)?,
-        };
-        let outcome = Outcome {
-            status: 0,
-            err: Bytes::new(alloc),
-            out: Bytes::new(alloc),
-            object: large(alloc)?,
-        };
-        if !request.fits() || !outcome.fits() {
-            anyhow::bail!("the sample doesn't fit");
-        }
-        let request_text = compile_request::encode(alloc, &request)?;
-        let reply_text = compile_reply::encode(alloc, &outcome)?;
+        let request = request(alloc)?;
+        let request_text = request_text(alloc, &request)?;
+        let outcome = outcome(alloc)?;
+        let reply_text = reply_text(alloc, &outcome)?;
         Ok(Sample {
             request,
             request_text,
