@@ -1,8 +1,12 @@
+use crate::same::same;
 use access_list::{AccessFault, AccessList, Decision, Rule, RuleVec, parse_rule, read_address};
 use std::alloc::Global;
+use std::process::Abort;
 use std::test::Fail;
 
-const ADDRESSES: &[(&str, Option<u32>)] = &[
+type Address = (&'static str, Option<u32>);
+
+const ADDRESSES: &[Address] = &[
     ("0.0.0.0", Some(0)),
     ("127.0.0.1", Some(2_130_706_433)),
     ("10.1.2.3", Some(167_838_211)),
@@ -19,11 +23,34 @@ const ADDRESSES: &[(&str, Option<u32>)] = &[
     ("", None),
 ];
 
-// The text of a rule, and its address and bits, or its fault.
-const RULES: &[(&str, Result<(u32, u8), AccessFault>)] = &[
-    ("10.0.0.0/8", Ok((167_772_160, 8))),
-    ("127.0.0.1", Ok((2_130_706_433, 32))),
-    ("0.0.0.0/0", Ok((0, 0))),
+/// The text of a rule, and the rule or its fault.
+type RuleText = (&'static str, Result<Rule, AccessFault>);
+
+const RULES: &[RuleText] = &[
+    (
+        "10.0.0.0/8",
+        Ok(Rule {
+            allow: true,
+            net: 167_772_160,
+            bits: 8,
+        }),
+    ),
+    (
+        "127.0.0.1",
+        Ok(Rule {
+            allow: true,
+            net: 2_130_706_433,
+            bits: 32,
+        }),
+    ),
+    (
+        "0.0.0.0/0",
+        Ok(Rule {
+            allow: true,
+            net: 0,
+            bits: 0,
+        }),
+    ),
     ("1.2.3/8", Err(AccessFault::BadAddress)),
     ("/8", Err(AccessFault::BadAddress)),
     ("", Err(AccessFault::BadAddress)),
@@ -34,7 +61,7 @@ const RULES: &[(&str, Result<(u32, u8), AccessFault>)] = &[
 ];
 
 struct Row {
-    // Each with whether it lets peers in.
+    /// Each with whether it lets peers in.
     rules: &'static [(bool, &'static str)],
     peer: &'static str,
     decision: Decision,
@@ -68,53 +95,57 @@ const DECISIONS: &[Row] = &[
     },
 ];
 
+fn expect_addresses<R: Abort>(rt: &R, rows: &[Address]) {
+    for (text, address) in rows {
+        same(rt, &read_address(text.as_bytes()), address, text);
+    }
+}
+
 #[test]
 fn addresses(rt: HostRuntime) {
-    for (text, addr) in ADDRESSES {
-        assert_eq!(rt; read_address(text.as_bytes()), *addr, "{text}");
+    expect_addresses(&rt, ADDRESSES);
+}
+
+fn expect_rules<R: Abort>(rt: &R, rows: &[RuleText]) {
+    for (text, wanted) in rows {
+        same(rt, &parse_rule(true, text.as_bytes()), wanted, text);
     }
 }
 
 #[test]
 fn rules(rt: HostRuntime) {
-    for (text, wanted) in RULES {
-        let read = parse_rule(true, text.as_bytes());
-        match *wanted {
-            Ok((net, bits)) => {
-                assert_eq!(rt;
-                    read,
-                    Ok(Rule {
-                        allow: true,
-                        net,
-                        bits
-                    }),
-                    "{text}"
-                )
-            }
-            Err(fault) => assert_eq!(rt; read, Err(fault), "{text}"),
-        }
-    }
+    expect_rules(&rt, RULES);
 }
 
-fn decided(alloc: Global, row: &Row) -> Result<Decision, Fail> {
-    let mut list = RuleVec::new(alloc);
+fn rules_of(alloc: Global, row: &Row) -> Result<RuleVec, Fail> {
+    let mut rules = RuleVec::new(alloc);
     for (allow, text) in row.rules {
         match parse_rule(*allow, text.as_bytes()) {
-            Ok(rule) => list.try_push(rule)?,
+            Ok(rule) => rules.try_push(rule)?,
             Err(_) => return Err("the rule is right".into()),
         }
     }
-    let access = AccessList { rules: list };
+    Ok(rules)
+}
+
+fn decided(alloc: Global, row: &Row) -> Result<Decision, Fail> {
+    let access = AccessList {
+        rules: rules_of(alloc, row)?,
+    };
     match read_address(row.peer.as_bytes()) {
-        Some(addr) if access.is_right() => Ok(access.decide(addr)),
+        Some(address) if access.is_right() => Ok(access.decide(address)),
         _ => Err("the rules and the address are right".into()),
     }
 }
 
-#[test]
-fn the_first_rule_decides(rt: HostRuntime) -> Result<(), Fail> {
-    for row in DECISIONS {
-        assert_eq!(rt; decided(rt.alloc(), row)?, row.decision, "{}", row.peer);
+fn expect_decisions<R: Abort>(rt: &R, alloc: Global, rows: &[Row]) -> Result<(), Fail> {
+    for row in rows {
+        same(rt, &decided(alloc, row)?, &row.decision, &row.peer);
     }
     Ok(())
+}
+
+#[test]
+fn the_first_rule_decides(rt: HostRuntime) -> Result<(), Fail> {
+    expect_decisions(&rt, rt.alloc(), DECISIONS)
 }

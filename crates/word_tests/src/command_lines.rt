@@ -1,13 +1,15 @@
 //! Command lines with what they ask for, or the place of the first word that doesn't fit.
 
+use crate::same::{holds, same, same_bytes};
 use farm_words::{
     Command, CommandName, Options, back_off_period, help_text, host_text, is_fallback_on, lookup,
     parse_command, version_text,
 };
 use std::alloc::{AllocError, Global};
+use std::process::Abort;
 use std::test::Fail;
 
-// The words of a line with single blanks.
+/// The words of a line with single blanks.
 fn words_of(alloc: Global, line: &str) -> Result<Vec<String>, AllocError> {
     let mut words = Vec::new(alloc);
     for word in line.split(' ') {
@@ -18,7 +20,7 @@ fn words_of(alloc: Global, line: &str) -> Result<Vec<String>, AllocError> {
     Ok(words)
 }
 
-// A line, and the command that it is.
+/// A line, and the command that it is.
 type CommandRow = (&'static str, &'static str);
 
 const COMMANDS: &[CommandRow] = &[
@@ -76,22 +78,49 @@ const COMMANDS: &[CommandRow] = &[
     ("rehearse --help", "Help(Some(Rehearse))"),
 ];
 
-#[test]
-fn commands(rt: HostRuntime) -> Result<(), Fail> {
-    for (line, want) in COMMANDS {
-        let words = words_of(rt.alloc(), line)?;
-        match parse_command(words.as_slice()) {
-            Ok(command) => {
-                let text = format!(in rt.alloc(); "{command:?}")?;
-                assert_eq!(rt; text.as_str(), *want, "{line}");
-            }
-            Err(place) => panic!(rt; "{line}: word {place}"),
-        }
+fn text_of(alloc: Global, command: &Command<'_>) -> Result<String, AllocError> {
+    format!(in alloc; "{command:?}")
+}
+
+/// The text of the command that these words are.
+fn command_text<R: Abort>(
+    rt: &R,
+    alloc: Global,
+    words: &[String],
+    line: &str,
+) -> Result<String, AllocError> {
+    match parse_command(words) {
+        Ok(command) => text_of(alloc, &command),
+        Err(place) => panic!(rt; "{line}: word {place}"),
+    }
+}
+
+fn expect_command<R: Abort>(
+    rt: &R,
+    alloc: Global,
+    words: &[String],
+    row: &CommandRow,
+) -> Result<(), AllocError> {
+    let (line, wanted) = row;
+    let text = command_text(rt, alloc, words, line)?;
+    same_bytes(rt, text.as_bytes(), wanted.as_bytes(), line);
+    Ok(())
+}
+
+fn expect_commands<R: Abort>(rt: &R, alloc: Global, rows: &[CommandRow]) -> Result<(), Fail> {
+    for row in rows {
+        let words = words_of(alloc, row.0)?;
+        expect_command(rt, alloc, words.as_slice(), row)?;
     }
     Ok(())
 }
 
-// A line, and the place of the first word that doesn't fit.
+#[test]
+fn commands(rt: HostRuntime) -> Result<(), Fail> {
+    expect_commands(&rt, rt.alloc(), COMMANDS)
+}
+
+/// A line, and the place of the first word that doesn't fit.
 type BadRow = (&'static str, usize);
 
 const BAD_WORDS: &[BadRow] = &[
@@ -149,20 +178,25 @@ const BAD_WORDS: &[BadRow] = &[
     ("rehearse --help 1", 2),
 ];
 
-#[test]
-fn bad_words(rt: HostRuntime) -> Result<(), Fail> {
-    for (line, place) in BAD_WORDS {
-        let words = words_of(rt.alloc(), line)?;
-        assert_eq!(rt;
-            parse_command(words.as_slice()).err(),
-            Some(*place),
-            "{line}"
+fn expect_bad<R: Abort>(rt: &R, alloc: Global, rows: &[BadRow]) -> Result<(), Fail> {
+    for (line, place) in rows {
+        let words = words_of(alloc, line)?;
+        same(
+            rt,
+            &parse_command(words.as_slice()).err(),
+            &Some(*place),
+            line,
         );
     }
     Ok(())
 }
 
-// A line of `watch`, and its number of workers, of tries and of lines.
+#[test]
+fn bad_words(rt: HostRuntime) -> Result<(), Fail> {
+    expect_bad(&rt, rt.alloc(), BAD_WORDS)
+}
+
+/// A line of `watch`, and its number of workers, of tries and of lines.
 type CountRow = (&'static str, u8, u8, u8);
 
 const COUNTS: &[CountRow] = &[
@@ -171,31 +205,44 @@ const COUNTS: &[CountRow] = &[
     ("watch --tries 16 --workers 1 --lines 99", 1, 16, 99),
 ];
 
-#[test]
-fn counts(rt: HostRuntime) -> Result<(), Fail> {
-    for (line, workers, tries, lines) in COUNTS {
-        let words = words_of(rt.alloc(), line)?;
-        match parse_command(words.as_slice()) {
-            Ok(Command::Watch(options)) => {
-                assert_eq!(rt; options.worker_count(), *workers, "{line}");
-                assert_eq!(rt; options.try_count(), *tries, "{line}");
-                assert_eq!(rt; options.line_count(), *lines, "{line}");
-            }
-            _ => panic!(rt; "{line}"),
-        }
+fn expect_options<R: Abort>(rt: &R, options: &Options<'_>, row: &CountRow) {
+    let (line, workers, tries, lines) = row;
+    same(rt, &options.worker_count(), workers, line);
+    same(rt, &options.try_count(), tries, line);
+    same(rt, &options.line_count(), lines, line);
+}
+
+fn expect_watch<R: Abort>(rt: &R, words: &[String], row: &CountRow) {
+    match parse_command(words) {
+        Ok(Command::Watch(options)) => expect_options(rt, &options, row),
+        _ => panic!(rt; "{}", row.0),
+    }
+}
+
+fn expect_counts<R: Abort>(rt: &R, alloc: Global, rows: &[CountRow]) -> Result<(), Fail> {
+    for row in rows {
+        let words = words_of(alloc, row.0)?;
+        expect_watch(rt, words.as_slice(), row);
     }
     Ok(())
 }
 
-// The variables of a text `NAME=VALUE NAME=VALUE`.
+#[test]
+fn counts(rt: HostRuntime) -> Result<(), Fail> {
+    expect_counts(&rt, rt.alloc(), COUNTS)
+}
+
+fn pair_of(alloc: Global, name: &str, value: &str) -> Result<(String, String), AllocError> {
+    let name = String::from_str(alloc, name)?;
+    Ok((name, String::from_str(alloc, value)?))
+}
+
+/// The variables of a text `NAME=VALUE NAME=VALUE`.
 fn variables_of(alloc: Global, text: &str) -> Result<Vec<(String, String)>, AllocError> {
     let mut env = Vec::new(alloc);
     for part in text.split(' ') {
         if let Some((name, value)) = part.split_once('=') {
-            env.push((
-                String::from_str(alloc, name)?,
-                String::from_str(alloc, value)?,
-            ))?;
+            env.push(pair_of(alloc, name, value)?)?;
         }
     }
     Ok(env)
@@ -203,7 +250,7 @@ fn variables_of(alloc: Global, text: &str) -> Result<Vec<(String, String)>, Allo
 
 const TWICE: &str = "A=1 DISTCC_HOSTS=red DISTCC_HOSTS=blue DISTCC_FALLBACK=0 DISTCC_FALLBACK=1";
 
-// The variables; the option `--hosts`; the text of the host list; whether fallback is on without `--no-fallback`.
+/// The variables; the option `--hosts`; the text of the host list; whether fallback is on without `--no-fallback`.
 type EnvironmentRow = (&'static str, Option<&'static str>, &'static str, bool);
 
 const ENVIRONMENTS: &[EnvironmentRow] = &[
@@ -215,34 +262,48 @@ const ENVIRONMENTS: &[EnvironmentRow] = &[
     ("DISTCC_HOSTS= DISTCC_FALLBACK=", None, "", true),
 ];
 
-#[test]
-fn environment(rt: HostRuntime) -> Result<(), Fail> {
-    for (text, hosts, want, fallback) in ENVIRONMENTS {
-        let env = variables_of(rt.alloc(), text)?;
-        assert_eq!(rt; host_text(*hosts, env.as_slice()), *want, "{text}");
-        let mut options = Options {
-            hosts: *hosts,
-            workers: None,
-            tries: None,
-            lines: None,
-            fallback: true,
-            retry: true,
-        };
-        assert_eq!(rt;
-            is_fallback_on(&options, env.as_slice()),
-            *fallback,
-            "{text}"
-        );
-        options.fallback = false;
-        assert_eq!(rt; is_fallback_on(&options, env.as_slice()), false, "{text}");
+fn expect_environment<R: Abort>(rt: &R, env: &[(String, String)], row: &EnvironmentRow) {
+    let (text, hosts, wanted, fallback) = row;
+    same(rt, &host_text(*hosts, env), wanted, text);
+    let mut options = Options {
+        hosts: *hosts,
+        workers: None,
+        tries: None,
+        lines: None,
+        fallback: true,
+        retry: true,
+    };
+    same(rt, &is_fallback_on(&options, env), fallback, text);
+    options.fallback = false;
+    same(rt, &is_fallback_on(&options, env), &false, text);
+}
+
+fn expect_environments<R: Abort>(
+    rt: &R,
+    alloc: Global,
+    rows: &[EnvironmentRow],
+) -> Result<(), Fail> {
+    for row in rows {
+        let env = variables_of(alloc, row.0)?;
+        expect_environment(rt, env.as_slice(), row);
     }
-    let env = variables_of(rt.alloc(), TWICE)?;
-    assert_eq!(rt; lookup(env.as_slice(), "A"), Some("1"));
-    assert_eq!(rt; lookup(env.as_slice(), "a"), None);
     Ok(())
 }
 
-// The variables, and the back-off period.
+fn expect_lookups<R: Abort>(rt: &R, env: &[(String, String)]) {
+    same(rt, &lookup(env, "A"), &Some("1"), &"A");
+    same(rt, &lookup(env, "a"), &None, &"a");
+}
+
+#[test]
+fn environment(rt: HostRuntime) -> Result<(), Fail> {
+    expect_environments(&rt, rt.alloc(), ENVIRONMENTS)?;
+    let env = variables_of(rt.alloc(), TWICE)?;
+    expect_lookups(&rt, env.as_slice());
+    Ok(())
+}
+
+/// The variables, and the back-off period.
 type PeriodRow = (&'static str, Option<u32>);
 
 const PERIODS: &[PeriodRow] = &[
@@ -259,32 +320,48 @@ const PERIODS: &[PeriodRow] = &[
     ("DISTCC_BACKOFF_PERIOD=x DISTCC_BACKOFF_PERIOD=5", None),
 ];
 
-#[test]
-fn periods(rt: HostRuntime) -> Result<(), Fail> {
-    for (text, period) in PERIODS {
-        let env = variables_of(rt.alloc(), text)?;
-        assert_eq!(rt; back_off_period(env.as_slice()), *period, "{text}");
+fn expect_periods<R: Abort>(rt: &R, alloc: Global, rows: &[PeriodRow]) -> Result<(), Fail> {
+    for (text, period) in rows {
+        let env = variables_of(alloc, text)?;
+        same(rt, &back_off_period(env.as_slice()), period, text);
     }
     Ok(())
 }
 
 #[test]
-fn texts(rt: HostRuntime) -> Result<(), Fail> {
-    let rows: [(Option<CommandName>, &[u8]); 8] = [
-        (None, b"Usage: farm build --hosts"),
-        (Some(CommandName::Build), b"Usage: farm build"),
-        (Some(CommandName::Watch), b"Usage: farm watch"),
-        (Some(CommandName::Graph), b"Usage: farm graph"),
-        (Some(CommandName::Cc), b"Usage: farm cc"),
-        (Some(CommandName::Hosts), b"Usage: farm hosts"),
-        (Some(CommandName::Scan), b"Usage: farm scan"),
-        (Some(CommandName::Rehearse), b"Usage: farm rehearse"),
-    ];
+fn periods(rt: HostRuntime) -> Result<(), Fail> {
+    expect_periods(&rt, rt.alloc(), PERIODS)
+}
+
+/// A command, and how its help begins.
+type HelpRow = (Option<CommandName>, &'static [u8]);
+
+const HELPS: &[HelpRow] = &[
+    (None, b"Usage: farm build --hosts"),
+    (Some(CommandName::Build), b"Usage: farm build"),
+    (Some(CommandName::Watch), b"Usage: farm watch"),
+    (Some(CommandName::Graph), b"Usage: farm graph"),
+    (Some(CommandName::Cc), b"Usage: farm cc"),
+    (Some(CommandName::Hosts), b"Usage: farm hosts"),
+    (Some(CommandName::Scan), b"Usage: farm scan"),
+    (Some(CommandName::Rehearse), b"Usage: farm rehearse"),
+];
+
+fn expect_helps<R: Abort>(rt: &R, rows: &[HelpRow]) {
     for (name, usage) in rows {
-        let text = help_text(name);
-        assert_eq!(rt; text.starts_with(usage), true, "{usage:?}");
-        assert_eq!(rt; text.ends_with(b"\n"), true, "{usage:?}");
+        let text = help_text(*name);
+        holds(rt, text.starts_with(usage), usage);
+        holds(rt, text.ends_with(b"\n"), usage);
     }
-    assert_eq!(rt; version_text(), b"farm 0.1, distcc protocol 1\n".as_slice());
-    Ok(())
+}
+
+#[test]
+fn texts(rt: HostRuntime) {
+    expect_helps(&rt, HELPS);
+    same_bytes(
+        &rt,
+        version_text(),
+        b"farm 0.1, distcc protocol 1\n",
+        &"version",
+    );
 }

@@ -20,4 +20,6 @@ pub mod lines;
 #[cfg(test)]
 mod options;
 #[cfg(test)]
+mod same;
+#[cfg(test)]
 mod stripping;
