@@ -5,9 +5,13 @@
 #[cfg(test)]
 mod answers;
 #[cfg(test)]
+mod database_program;
+#[cfg(test)]
 mod databases;
 pub mod inputs;
 #[cfg(test)]
 mod reports;
+#[cfg(test)]
+mod same;
 #[cfg(test)]
 mod watching;

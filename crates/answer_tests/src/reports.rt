@@ -1,9 +1,10 @@
 //! Each end with its printed line and its number, by the tables of docs/farm-command.md.
 
+use crate::same::{same, same_bytes};
 use edge_traits::Cause;
 use farm_machine::{By, End, EventList, Report, ReportList, Why5};
 use farm_types::{Bytes, Host, HostName, HostVec, Hosts};
-use report_text::{command_lines, lines, status, total};
+use report_text::{Printed, command_lines, lines, status, total};
 use std::alloc::{AllocError, Global};
 use std::process::Abort;
 use std::test::Fail;
@@ -167,24 +168,41 @@ fn hosts_of(alloc: Global) -> Result<Hosts, AllocError> {
     })
 }
 
-/// The report of a job that ended so. A job that was done has the messages `note`, `err` and `out`, each with a line feed.
+/// A job that was done has the messages `note`, `err` and `out`, each with a line feed.
+fn done(alloc: Global, by: By, status: u32) -> Result<End, AllocError> {
+    Ok(End::Done {
+        status,
+        note: Bytes::from_slice(alloc, b"note\n")?,
+        err: Bytes::from_slice(alloc, b"err\n")?,
+        out: Bytes::from_slice(alloc, b"out\n")?,
+        by,
+    })
+}
+
+fn end_of(alloc: Global, way: Way) -> Result<End, AllocError> {
+    match way {
+        Way::Done(by, status) => done(alloc, by, status),
+        Way::Failed(why) => Ok(End::Failed(why)),
+    }
+}
+
+/// The report of a job that ended so.
 fn report_of(alloc: Global, number: u32, way: Way) -> Result<Report, AllocError> {
-    let end = match way {
-        Way::Done(by, status) => End::Done {
-            status,
-            note: Bytes::from_slice(alloc, b"note\n")?,
-            err: Bytes::from_slice(alloc, b"err\n")?,
-            out: Bytes::from_slice(alloc, b"out\n")?,
-            by,
-        },
-        Way::Failed(why) => End::Failed(why),
-    };
+    let end = end_of(alloc, way)?;
     Ok(Report {
         number,
         worker: 0,
         events: EventList::new(alloc),
         end,
     })
+}
+
+fn reports_of(alloc: Global, number: u32, ways: &[Way]) -> Result<ReportList, AllocError> {
+    let mut reports = ReportList::new(alloc);
+    for way in ways {
+        reports.try_push(report_of(alloc, number, *way)?)?;
+    }
+    Ok(reports)
 }
 
 /// The texts in one.
@@ -196,43 +214,78 @@ fn joined(alloc: Global, parts: &[&str]) -> Result<Bytes, AllocError> {
     Ok(text)
 }
 
-/// Compares what is printed of an end, in a build and alone, with this text of it, and its exit status with this one.
-fn check_end(
-    rt: &impl Abort,
+fn expect_printed<R: Abort>(rt: &R, printed: &Printed, err: &[u8], out: &[u8], way: Way) {
+    same_bytes(rt, printed.err.as_slice(), err, &way);
+    same_bytes(rt, printed.out.as_slice(), out, &way);
+}
+
+/// What is printed of an end in a build.
+fn expect_lines<R: Abort>(
+    rt: &R,
     alloc: Global,
-    hosts: &Hosts,
-    way: Way,
-    text: &'static str,
-    exit: u8,
+    printed: &Printed,
+    row: &Row,
 ) -> Result<(), AllocError> {
-    let report = report_of(alloc, 4_294_967_294, way)?;
-    let printed = lines(alloc, hosts, &report)?;
-    let alone = command_lines(alloc, hosts, &report.end)?;
-    let (err, out, failure) = match way {
-        Way::Done(..) => ("note\nerr\n", "out\n", joined(alloc, &[])?),
-        Way::Failed(_) => ("", "", joined(alloc, &["farm: ", text, "\n"])?),
+    let (way, text, _) = row;
+    let (err, out) = match way {
+        Way::Done(..) => ("note\nerr\n", "out\n"),
+        Way::Failed(_) => ("", ""),
     };
     let line = joined(alloc, &[out, "4294967295 ", text, "\n"])?;
-    assert_eq!(rt; printed.err.as_slice(), err.as_bytes(), "{way:?}");
-    assert_eq!(rt; printed.out.as_slice(), line.as_slice(), "{way:?}");
-    let mut all = joined(alloc, &[err])?;
-    all.try_extend(failure.as_slice())?;
-    assert_eq!(rt; alone.err.as_slice(), all.as_slice(), "{way:?}");
-    assert_eq!(rt; alone.out.as_slice(), out.as_bytes(), "{way:?}");
-    let mut reports = ReportList::new(alloc);
-    reports.try_push(report)?;
-    assert_eq!(rt; status(&reports), exit, "{way:?}");
+    expect_printed(rt, printed, err.as_bytes(), line.as_slice(), *way);
+    Ok(())
+}
+
+/// What is printed of an end of a command that is run alone.
+fn expect_alone<R: Abort>(
+    rt: &R,
+    alloc: Global,
+    printed: &Printed,
+    row: &Row,
+) -> Result<(), AllocError> {
+    let (way, text, _) = row;
+    if let Way::Done(..) = way {
+        expect_printed(rt, printed, b"note\nerr\n", b"out\n", *way);
+        return Ok(());
+    }
+    let failure = joined(alloc, &["farm: ", text, "\n"])?;
+    expect_printed(rt, printed, failure.as_slice(), b"", *way);
+    Ok(())
+}
+
+fn expect_report<R: Abort>(
+    rt: &R,
+    alloc: Global,
+    hosts: &Hosts,
+    report: &Report,
+    row: &Row,
+) -> Result<(), AllocError> {
+    let printed = lines(alloc, hosts, report)?;
+    expect_lines(rt, alloc, &printed, row)?;
+    let alone = command_lines(alloc, hosts, &report.end)?;
+    expect_alone(rt, alloc, &alone, row)
+}
+
+/// What is printed of an end, in a build and alone, and its exit status.
+fn expect_end<R: Abort>(rt: &R, alloc: Global, hosts: &Hosts, row: &Row) -> Result<(), AllocError> {
+    let report = report_of(alloc, 4_294_967_294, row.0)?;
+    expect_report(rt, alloc, hosts, &report, row)?;
+    let reports = reports_of(alloc, 4_294_967_294, &[row.0])?;
+    same(rt, &status(&reports), &row.2, &row.0);
+    Ok(())
+}
+
+fn expect_ends<R: Abort>(rt: &R, alloc: Global, hosts: &Hosts, rows: &[Row]) -> Result<(), Fail> {
+    for row in rows {
+        expect_end(rt, alloc, hosts, row)?;
+    }
     Ok(())
 }
 
 #[test]
 fn each_end_has_its_line_and_its_number(rt: HostRuntime) -> Result<(), Fail> {
-    let alloc = rt.alloc();
-    let hosts = hosts_of(alloc)?;
-    for (way, text, exit) in ROWS {
-        check_end(&rt, alloc, &hosts, *way, text, *exit)?;
-    }
-    Ok(())
+    let hosts = hosts_of(rt.alloc())?;
+    expect_ends(&rt, rt.alloc(), &hosts, ROWS)
 }
 
 /// The ends of some jobs, the line of the total, and the exit status.
@@ -270,17 +323,28 @@ const BUILDS: &[Build] = &[
     ),
 ];
 
-#[test]
-fn a_build_has_its_total_and_its_status(rt: HostRuntime) -> Result<(), Fail> {
-    let alloc = rt.alloc();
-    for (ways, text, exit) in BUILDS {
-        let mut reports = ReportList::new(alloc);
-        for way in *ways {
-            reports.try_push(report_of(alloc, 0, *way)?)?;
-        }
-        let line = total(alloc, &reports)?;
-        assert_eq!(rt; line.as_slice(), text.as_bytes(), "{ways:?}");
-        assert_eq!(rt; status(&reports), *exit, "{ways:?}");
+fn expect_build<R: Abort>(
+    rt: &R,
+    alloc: Global,
+    reports: &ReportList,
+    build: &Build,
+) -> Result<(), AllocError> {
+    let (ways, text, exit) = build;
+    let line = total(alloc, reports)?;
+    same_bytes(rt, line.as_slice(), text.as_bytes(), ways);
+    same(rt, &status(reports), exit, ways);
+    Ok(())
+}
+
+fn expect_builds<R: Abort>(rt: &R, alloc: Global, builds: &[Build]) -> Result<(), Fail> {
+    for build in builds {
+        let reports = reports_of(alloc, 0, build.0)?;
+        expect_build(rt, alloc, &reports, build)?;
     }
     Ok(())
+}
+
+#[test]
+fn a_build_has_its_total_and_its_status(rt: HostRuntime) -> Result<(), Fail> {
+    expect_builds(&rt, rt.alloc(), BUILDS)
 }

@@ -1,27 +1,36 @@
 //! The lines of a watched build, and the last one.
 
+ghost use Rattle.std.specs.Prelude.{◌≡◌, []};
+ghost use Rattle.farm_monitor.specs.Boards.{shown_rows};
+
+use crate::same::{same, same_bytes};
 use edge_memory::{MemClock, MemSink, Moments, Moves};
-use edge_traits::CallNumbers;
-use farm_monitor::{Progress, Watcher, board};
+use edge_traits::{CallNumbers, Clock, Sink};
+use farm_monitor::{Progress, Shower, Watcher, board};
 use std::alloc::{AllocError, Global};
+use std::process::Abort;
 use std::sync::Wait;
 use std::test::Fail;
 use watch_lines::{Count, LineEnd, LineText, count_rows, watch, watch_last};
 
-fn sink_of(alloc: Global, fails: &[u64]) -> Result<MemSink, AllocError> {
+fn numbers(alloc: Global, list: &[u64]) -> Result<CallNumbers, AllocError> {
     let mut numbers = CallNumbers::new(alloc);
-    for number in fails {
+    for number in list {
         numbers.try_push(*number)?;
     }
+    Ok(numbers)
+}
+
+fn sink_of(alloc: Global, fails: &[u64]) -> Result<MemSink, AllocError> {
     let moves = Moves {
-        fails: numbers,
+        fails: numbers(alloc, fails)?,
         zeros: CallNumbers::new(alloc),
         most: 1_000,
     };
     Ok(MemSink::new(alloc, moves))
 }
 
-// A board on which this row was shown last, and told of.
+/// A board on which this row was shown last, and told of.
 fn told_of<R: Wait>(rt: &R, alloc: Global, row: Progress) -> Result<Watcher, AllocError> {
     let (mut shower, mut watcher) = board(rt, alloc)?;
     let shown = shower.show(rt, row);
@@ -30,6 +39,17 @@ fn told_of<R: Wait>(rt: &R, alloc: Global, row: Progress) -> Result<Watcher, All
     shown?;
     watcher.learn(note?);
     Ok(watcher)
+}
+
+fn watchers_of<R: Wait>(
+    rt: &R,
+    alloc: Global,
+    first: Progress,
+    second: Progress,
+) -> Result<[Watcher; 2], AllocError> {
+    let first = told_of(rt, alloc, first)?;
+    let second = told_of(rt, alloc, second)?;
+    Ok([first, second])
 }
 
 const FIRST_RUNS: Progress = Progress {
@@ -47,152 +67,207 @@ const ALL_ENDED: Progress = Progress {
     ended: 3,
 };
 
-// What two boards show, of how many jobs; so many lines, and the writes that fail; how the lines end, and their text.
-type LineRow = (
-    Progress,
-    Progress,
-    u32,
-    u32,
-    &'static [u64],
-    LineEnd,
-    &'static str,
-);
+/// What two boards show, and the lines that are printed of it.
+struct LineRow {
+    first: Progress,
+    second: Progress,
+    jobs: u32,
+    lines: u32,
+    /// The writes that fail.
+    fails: &'static [u64],
+    end: LineEnd,
+    text: &'static str,
+}
 
 const LINE_ROWS: &[LineRow] = &[
-    (
-        FIRST_RUNS,
-        THIRD_RUNS,
-        4,
-        2,
-        &[],
-        LineEnd::Whole,
-        "watch 1 ended 2 of 4 busy 2\nwatch 2 ended 2 of 4 busy 2\n",
-    ),
-    (
-        ALL_ENDED,
-        FIRST_RUNS,
-        4,
-        1,
-        &[],
-        LineEnd::Whole,
-        "watch 1 ended 3 of 4 busy 1\n",
-    ),
-    (
-        ALL_ENDED,
-        THIRD_RUNS,
-        4,
-        1,
-        &[],
-        LineEnd::Whole,
-        "watch 1 ended 4 of 4 busy 1\n",
-    ),
-    (
-        ALL_ENDED,
-        ALL_ENDED,
-        6,
-        3,
-        &[],
-        LineEnd::Whole,
-        "watch 1 ended 6 of 6 busy 0\n",
-    ),
-    (
-        ALL_ENDED,
-        THIRD_RUNS,
-        5,
-        3,
-        &[2],
-        LineEnd::SinkFault,
-        "watch 1 ended 5 of 5 busy 1\n",
-    ),
+    LineRow {
+        first: FIRST_RUNS,
+        second: THIRD_RUNS,
+        jobs: 4,
+        lines: 2,
+        fails: &[],
+        end: LineEnd::Whole,
+        text: "watch 1 ended 2 of 4 busy 2\nwatch 2 ended 2 of 4 busy 2\n",
+    },
+    LineRow {
+        first: ALL_ENDED,
+        second: FIRST_RUNS,
+        jobs: 4,
+        lines: 1,
+        fails: &[],
+        end: LineEnd::Whole,
+        text: "watch 1 ended 3 of 4 busy 1\n",
+    },
+    LineRow {
+        first: ALL_ENDED,
+        second: THIRD_RUNS,
+        jobs: 4,
+        lines: 1,
+        fails: &[],
+        end: LineEnd::Whole,
+        text: "watch 1 ended 4 of 4 busy 1\n",
+    },
+    LineRow {
+        first: ALL_ENDED,
+        second: ALL_ENDED,
+        jobs: 6,
+        lines: 3,
+        fails: &[],
+        end: LineEnd::Whole,
+        text: "watch 1 ended 6 of 6 busy 0\n",
+    },
+    LineRow {
+        first: ALL_ENDED,
+        second: THIRD_RUNS,
+        jobs: 5,
+        lines: 3,
+        fails: &[2],
+        end: LineEnd::SinkFault,
+        text: "watch 1 ended 5 of 5 busy 1\n",
+    },
 ];
+
+fn ended<C: Clock, E: Sink>(
+    clock: &mut C,
+    watchers: &mut [Watcher; 2],
+    row: &LineRow,
+    err: &mut E,
+) -> LineEnd {
+    watch(clock, watchers, row.jobs, row.lines.min(100), err)
+}
+
+fn expect_lines<R: Abort>(
+    rt: &R,
+    alloc: Global,
+    watchers: &mut [Watcher; 2],
+    row: &LineRow,
+) -> Result<(), AllocError> {
+    let mut err = sink_of(alloc, row.fails)?;
+    let mut clock = MemClock::new(Moments::new(alloc));
+    let end = ended(&mut clock, watchers, row, &mut err);
+    same(rt, &end, &row.end, &row.text);
+    same_bytes(rt, err.written(), row.text.as_bytes(), &row.text);
+    Ok(())
+}
+
+fn expect_line_rows<R: Wait + Abort>(rt: &R, alloc: Global, rows: &[LineRow]) -> Result<(), Fail> {
+    for row in rows {
+        let mut watchers = watchers_of(rt, alloc, row.first, row.second)?;
+        expect_lines(rt, alloc, &mut watchers, row)?;
+    }
+    Ok(())
+}
 
 #[test]
 fn each_line_counts_what_all_boards_show(rt: HostRuntime) -> Result<(), Fail> {
-    for (first, second, jobs, lines, fails, end, text) in LINE_ROWS {
-        let lines = (*lines).min(100);
-        let mut watchers = [
-            told_of(&rt, rt.alloc(), *first)?,
-            told_of(&rt, rt.alloc(), *second)?,
-        ];
-        let mut clock = MemClock::new(Moments::new(rt.alloc()));
-        let mut err = sink_of(rt.alloc(), fails)?;
-        let got = watch(&mut clock, &mut watchers, *jobs, lines, &mut err);
-        assert_eq!(rt; got, *end);
-        assert_eq!(rt; err.written(), text.as_bytes());
-    }
+    expect_line_rows(&rt, rt.alloc(), LINE_ROWS)
+}
+
+/// What two boards show, and the last line.
+struct LastRow {
+    first: Progress,
+    second: Progress,
+    jobs: u32,
+    /// Whether each was told all.
+    told: bool,
+    /// Whether the line says that all have ended.
+    all: bool,
+    text: &'static str,
+}
+
+const LAST_ROWS: &[LastRow] = &[
+    LastRow {
+        first: ALL_ENDED,
+        second: ALL_ENDED,
+        jobs: 6,
+        told: true,
+        all: true,
+        text: "watch last ended 6 of 6 busy 0\n",
+    },
+    LastRow {
+        first: ALL_ENDED,
+        second: ALL_ENDED,
+        jobs: 6,
+        told: false,
+        all: false,
+        text: "watch last no memory\n",
+    },
+    LastRow {
+        first: ALL_ENDED,
+        second: THIRD_RUNS,
+        jobs: 5,
+        told: true,
+        all: false,
+        text: "watch last no memory\n",
+    },
+];
+
+fn last<E: Sink>(watchers: &mut [Watcher; 2], row: &LastRow, err: &mut E) -> (LineEnd, bool) {
+    watch_last(watchers, row.jobs, row.told, err)
+}
+
+fn expect_last<R: Abort>(
+    rt: &R,
+    alloc: Global,
+    watchers: &mut [Watcher; 2],
+    row: &LastRow,
+) -> Result<(), AllocError> {
+    let mut err = sink_of(alloc, &[])?;
+    let (end, all) = last(watchers, row, &mut err);
+    same(rt, &end, &LineEnd::Whole, &row.text);
+    same(rt, &all, &row.all, &row.text);
+    same_bytes(rt, err.written(), row.text.as_bytes(), &row.text);
     Ok(())
 }
 
-// What two boards show, of how many jobs; whether each was told all; whether the last line says that all have ended, and the line.
-type LastRow = (Progress, Progress, u32, bool, bool, &'static str);
-
-const LAST_ROWS: &[LastRow] = &[
-    (
-        ALL_ENDED,
-        ALL_ENDED,
-        6,
-        true,
-        true,
-        "watch last ended 6 of 6 busy 0\n",
-    ),
-    (
-        ALL_ENDED,
-        ALL_ENDED,
-        6,
-        false,
-        false,
-        "watch last no memory\n",
-    ),
-    (
-        ALL_ENDED,
-        THIRD_RUNS,
-        5,
-        true,
-        false,
-        "watch last no memory\n",
-    ),
-];
+fn expect_last_rows<R: Wait + Abort>(rt: &R, alloc: Global, rows: &[LastRow]) -> Result<(), Fail> {
+    for row in rows {
+        let mut watchers = watchers_of(rt, alloc, row.first, row.second)?;
+        expect_last(rt, alloc, &mut watchers, row)?;
+    }
+    Ok(())
+}
 
 #[test]
 fn the_last_line_tells_of_all_jobs_where_all_was_told(rt: HostRuntime) -> Result<(), Fail> {
-    for (first, second, jobs, told, all, text) in LAST_ROWS {
-        let mut watchers = [
-            told_of(&rt, rt.alloc(), *first)?,
-            told_of(&rt, rt.alloc(), *second)?,
-        ];
-        let mut err = sink_of(rt.alloc(), &[])?;
-        let got = watch_last(&mut watchers, *jobs, *told, &mut err);
-        assert!(rt; got == (LineEnd::Whole, *all));
-        assert_eq!(rt; err.written(), text.as_bytes());
-    }
-    Ok(())
+    expect_last_rows(&rt, rt.alloc(), LAST_ROWS)
 }
 
 #[test]
-fn a_line_has_its_four_numbers(rt: HostRuntime) -> Result<(), Fail> {
+fn a_line_has_its_four_numbers(rt: HostRuntime) {
     let line = LineText::line(100, 512, Count { ended: 7, busy: 15 });
+    let text = b"watch 100 ended 7 of 512 busy 15\n";
+    same_bytes(&rt, line.as_slice(), text, &"a line");
     let last = LineText::last(3);
-    assert_eq!(rt;
-        line.as_slice(),
-        b"watch 100 ended 7 of 512 busy 15\n".as_slice()
-    );
-    assert_eq!(rt;
-        last.as_slice(),
-        b"watch last ended 3 of 3 busy 0\n".as_slice()
-    );
-    Ok(())
+    let text = b"watch last ended 3 of 3 busy 0\n";
+    same_bytes(&rt, last.as_slice(), text, &"the last line");
+}
+
+/// What is counted before the row is shown, and after it.
+fn counts<R: Wait>(
+    rt: &R,
+    shower: &mut Shower,
+    watchers: &mut [Watcher; 1],
+) -> Result<(Count, Count), AllocError>
+    requires { shown_rows shower.old ≡ [] }
+{
+    let before = count_rows(watchers, 3);
+    shower.show(rt, THIRD_RUNS)?;
+    let after = count_rows(watchers, 3);
+    Ok((before, after))
+}
+
+fn counts_of<R: Wait>(rt: &R, alloc: Global) -> Result<(Count, Count), AllocError> {
+    let (mut shower, watcher) = board(rt, alloc)?;
+    let counts = counts(rt, &mut shower, &mut [watcher]);
+    shower.end(rt);
+    counts
 }
 
 #[test]
 fn a_row_is_counted_while_its_worker_is_at_a_job(rt: HostRuntime) -> Result<(), Fail> {
-    let (mut shower, watcher) = board(&rt, rt.alloc())?;
-    let mut watchers = [watcher];
-    let before = count_rows(&mut watchers, 3);
-    let shown = shower.show(&rt, THIRD_RUNS);
-    let after = count_rows(&mut watchers, 3);
-    shower.end(&rt);
-    shown?;
-    assert_eq!(rt; before, Count { ended: 0, busy: 0 });
-    assert_eq!(rt; after, Count { ended: 2, busy: 1 });
+    let (before, after) = counts_of(&rt, rt.alloc())?;
+    same(&rt, &before, &Count { ended: 0, busy: 0 }, &"before");
+    same(&rt, &after, &Count { ended: 2, busy: 1 }, &"after");
     Ok(())
 }
