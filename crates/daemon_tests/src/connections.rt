@@ -1,11 +1,12 @@
 //! The connections of doors, one after the other at each, and their log.
 
-use crate::scripts::{REQUEST, door};
+use crate::same::{holds, same, same_items};
+use crate::scripts::{REQUEST, door, runs_of};
 use access_list::{AccessList, RuleVec, parse_rule};
 use daemon_service::{Compiler, CompilerVec, Compilers, Served};
 use daemon_worker::{DaemonConfig, DoorKit, Entry, Met, serve};
 use edge_memory::{MemDoor, MemStation, RanList};
-use edge_traits::CallNumbers;
+use edge_traits::{CallNumbers, Door, Station};
 use farm_types::{Bytes, Items, Ran};
 use std::alloc::{AllocError, Global};
 use std::process::Abort;
@@ -30,13 +31,14 @@ const FIRST: Entry = Entry {
 };
 
 // What the links of a door give, their peers, and which accepts fail.
+#[derive(Clone, Copy)]
 struct Side {
     gives: &'static [&'static [u8]],
     peers: &'static [u32],
     fails: &'static [u64],
 }
 
-#[derive(Drop)]
+#[derive(Clone, Copy)]
 struct Row {
     doors: &'static [Side],
     serve: u32,
@@ -200,12 +202,15 @@ fn config(alloc: Global, serve: u32, rules: &[(bool, &str)]) -> Result<DaemonCon
 }
 
 // Serves the doors, and answers the log.
-fn served<R: Threads + Sync>(
+fn served<R: Threads + Sync, D: Door + Send + Drop, S: Station + Send + Drop>(
     rt: &R,
     alloc: Global,
-    doors: &mut Vec<DoorKit<MemDoor, MemStation>>,
+    doors: &mut Vec<DoorKit<D, S>>,
     config: &DaemonConfig,
-) -> Result<Items<Entry>, Fail> {
+) -> Result<Items<Entry>, Fail>
+where
+    D::Link: Send,
+{
     if doors.is_empty() || 16 < doors.len() {
         return Err("there are 1 to 16 doors".into());
     }
@@ -215,23 +220,43 @@ fn served<R: Threads + Sync>(
     Ok(serve(rt, alloc, doors, config)?)
 }
 
-// Serves these doors by so many connections at most and these rules, and compares the log.
-fn expect<R: Abort + Threads + Sync>(
+fn expect_log<R: Abort + Threads + Sync, D: Door + Send + Drop, S: Station + Send + Drop>(
     rt: &R,
     alloc: Global,
-    doors: &mut Vec<DoorKit<MemDoor, MemStation>>,
+    doors: &mut Vec<DoorKit<D, S>>,
+    config: &DaemonConfig,
     row: &Row,
-) -> Result<(), Fail> {
-    let config = config(alloc, row.serve, row.rules)?;
-    let log = served(rt, alloc, doors, &config)?;
-    assert_eq!(rt; log.as_slice(), row.log);
+) -> Result<(), Fail>
+where
+    D::Link: Send,
+{
+    let log = served(rt, alloc, doors, config)?;
+    same_items(rt, log.as_slice(), row.log, &row.rules);
     Ok(())
+}
+
+// Serves these doors by so many connections at most and these rules, and compares the log.
+fn expect<R: Abort + Threads + Sync, D: Door + Send + Drop, S: Station + Send + Drop>(
+    rt: &R,
+    alloc: Global,
+    doors: &mut Vec<DoorKit<D, S>>,
+    row: &Row,
+) -> Result<(), Fail>
+where
+    D::Link: Send,
+{
+    let config = config(alloc, row.serve, row.rules)?;
+    expect_log(rt, alloc, doors, &config, row)
+}
+
+fn expect_row<R: Abort + Threads + Sync>(rt: &R, alloc: Global, row: &Row) -> Result<(), Fail> {
+    let mut doors = kits(alloc, row.doors)?;
+    expect(rt, alloc, &mut doors, row)
 }
 
 fn expect_rows<R: Abort + Threads + Sync>(rt: &R, alloc: Global, rows: &[Row]) -> Result<(), Fail> {
     for row in rows {
-        let mut doors = kits(alloc, row.doors)?;
-        expect(rt, alloc, &mut doors, row)?;
+        expect_row(rt, alloc, row)?;
     }
     Ok(())
 }
@@ -241,42 +266,47 @@ fn logs(rt: HostRuntime) -> Result<(), Fail> {
     expect_rows(&rt, rt.alloc(), ROWS)
 }
 
-// Over the last visit of a door nothing passed.
-fn expect_silent<R: Abort>(rt: &R, door: MemDoor) {
-    let last = door.into_visits().take_last();
-    let silent = match &last {
+// Whether nothing passed over the last visit of a door.
+fn is_silent(door: MemDoor) -> bool {
+    match door.into_visits().take_last() {
         Some(visit) => visit.given.is_empty() && visit.sent.is_empty(),
         None => false,
-    };
-    assert!(rt; silent);
-}
-
-fn expect_one_run<R: Abort>(rt: &R, alloc: Global, station: MemStation) -> Result<(), AllocError> {
-    let runs = station.into_runs().into_items(alloc)?;
-    assert_eq!(rt; runs.len(), 1);
-    Ok(())
+    }
 }
 
 // Over the link of a denied peer nothing passed, and nothing was run for it.
 fn expect_one_served<R: Abort>(
     rt: &R,
     alloc: Global,
-    doors: &mut Vec<DoorKit<MemDoor, MemStation>>,
+    kit: DoorKit<MemDoor, MemStation>,
 ) -> Result<(), Fail> {
+    let DoorKit { door, station } = kit;
+    holds(rt, is_silent(door), &"the denied peer");
+    same(rt, &runs_of(alloc, station)?, &1, &"runs");
+    Ok(())
+}
+
+// The kit of a row's one door, once it has served.
+fn served_kit<R: Abort + Threads + Sync>(
+    rt: &R,
+    alloc: Global,
+    row: &Row,
+) -> Result<DoorKit<MemDoor, MemStation>, Fail> {
+    let mut doors = kits(alloc, row.doors)?;
+    expect(rt, alloc, &mut doors, row)?;
     match doors.pop() {
-        Some(kit) => {
-            expect_silent(rt, kit.door);
-            Ok(expect_one_run(rt, alloc, kit.station)?)
-        }
+        Some(kit) => Ok(kit),
         None => Err("the kit is back".into()),
     }
 }
 
+fn expect_denied<R: Abort + Threads + Sync>(rt: &R, alloc: Global, row: &Row) -> Result<(), Fail> {
+    expect_one_served(rt, alloc, served_kit(rt, alloc, row)?)
+}
+
 #[test]
 fn a_denied_peer_is_left_at_once(rt: HostRuntime) -> Result<(), Fail> {
-    let mut doors = kits(rt.alloc(), SECOND_DENIED.doors)?;
-    expect(&rt, rt.alloc(), &mut doors, &SECOND_DENIED)?;
-    expect_one_served(&rt, rt.alloc(), &mut doors)
+    expect_denied(&rt, rt.alloc(), &SECOND_DENIED)
 }
 
 // Sixteen doors, of which the twelfth fails at its first accept.
@@ -302,20 +332,37 @@ const BROKEN: Side = Side {
 };
 
 fn expect_log_of_sixteen<R: Abort>(rt: &R, log: &[Entry]) {
-    assert_eq!(rt; log.len(), 31);
-    assert_eq!(rt; log.get(22), Some(&FAULT));
-    assert_eq!(rt; log.get(30), Some(&LAST));
+    same(rt, &log.len(), &31, &"entries");
+    same(rt, &log.get(22).copied(), &Some(FAULT), &22);
+    same(rt, &log.get(30).copied(), &Some(LAST), &30);
+}
+
+fn expect_sixteen_served<R, D: Door + Send + Drop, S: Station + Send + Drop>(
+    rt: &R,
+    alloc: Global,
+    doors: &mut Vec<DoorKit<D, S>>,
+    config: &DaemonConfig,
+) -> Result<(), Fail>
+where
+    R: Abort + Threads + Sync,
+    D::Link: Send,
+{
+    let log = served(rt, alloc, doors, config)?;
+    same(rt, &doors.len(), &16, &"doors");
+    expect_log_of_sixteen(rt, log.as_slice());
+    Ok(())
+}
+
+fn expect_sixteen<R: Abort + Threads + Sync>(rt: &R, alloc: Global) -> Result<(), Fail> {
+    let config = config(alloc, 2, &[])?;
+    let mut doors = sixteen_kits(alloc)?;
+    expect_sixteen_served(rt, alloc, &mut doors, &config)
 }
 
 // Each with two connections: the kits are back in their order, and so are the entries.
 #[test]
 fn sixteen_doors(rt: HostRuntime) -> Result<(), Fail> {
-    let config = config(rt.alloc(), 2, &[])?;
-    let mut doors = sixteen_kits(rt.alloc())?;
-    let log = served(&rt, rt.alloc(), &mut doors, &config)?;
-    assert_eq!(rt; doors.len(), 16);
-    expect_log_of_sixteen(&rt, log.as_slice());
-    Ok(())
+    expect_sixteen(&rt, rt.alloc())
 }
 
 const FAULT: Entry = Entry {

@@ -10,6 +10,8 @@ mod loops;
 #[cfg(test)]
 mod programs;
 #[cfg(test)]
+mod same;
+#[cfg(test)]
 mod scripts;
 #[cfg(test)]
 mod service_faults;

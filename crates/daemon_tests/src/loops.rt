@@ -1,6 +1,7 @@
 //! A loop to the daemon's service: what its links give, and how exchanges over it go.
 
 use crate::devices::table;
+use crate::same::{same, same_items};
 use crate::scripts::{REPLY, REQUEST};
 use edge_memory::{MemStation, RanList};
 use edge_traits::{CallNumbers, Cause, Dialer, EdgeFault, Link, Station};
@@ -8,6 +9,7 @@ use farm_types::{Bytes, Host, HostName, Ran, Request, Words};
 use loop_link::{LoopDialer, attempt_over_loop};
 use remote_transfer::Attempt;
 use std::alloc::{AllocError, Global};
+use std::process::Abort;
 use std::test::Fail;
 
 // The run of a station that leaves the object of the reply.
@@ -51,18 +53,23 @@ fn host(alloc: Global) -> Result<HostName, AllocError> {
     Ok(HostName { text })
 }
 
-// Sends this, and receives until the end through a small room.
-fn exchange<L: Link>(alloc: Global, link: &mut L, sends: &[u8]) -> Result<Bytes, Fail>
+fn send<L: Link>(link: &mut L, sends: &[u8]) -> Result<(), Fail>
     ensures { L.follows link.old link.new }
 {
-    let mut given = Bytes::new(alloc);
-    if !sends.is_empty() {
-        assert_sent(link.send(sends), sends.len())?;
+    if !sends.is_empty() && link.send(sends) != Ok(sends.len()) {
+        return Err("all is sent".into());
     }
+    Ok(())
+}
+
+// Receives until the end through a small room.
+fn receive<L: Link>(link: &mut L, given: &mut Bytes) -> Result<(), Fail>
+    ensures { L.follows link.old link.new }
+{
     for _ in 0..200 {
         let mut room = [0; 7];
         match link.recv(&mut room) {
-            Ok(0) => return Ok(given),
+            Ok(0) => return Ok(()),
             Ok(count) => given.try_extend(&room[..count])?,
             Err(_) => return Err("a loop's link doesn't fail".into()),
         }
@@ -70,24 +77,44 @@ fn exchange<L: Link>(alloc: Global, link: &mut L, sends: &[u8]) -> Result<Bytes,
     Err("the reply has an end".into())
 }
 
-fn assert_sent(sent: Result<usize, EdgeFault>, len: usize) -> Result<(), Fail> {
-    if sent == Ok(len) {
-        Ok(())
-    } else {
-        Err("all is sent".into())
-    }
+// Sends this, and answers what is received.
+fn exchange<L: Link>(alloc: Global, link: &mut L, sends: &[u8]) -> Result<Bytes, Fail>
+    ensures { L.follows link.old link.new }
+{
+    send(link, sends)?;
+    let mut given = Bytes::new(alloc);
+    receive(link, &mut given)?;
+    Ok(given)
 }
 
 // What is sent, whether the station's run fails, and what the link gives until its end.
-const GIVEN: &[(&[u8], bool, &[u8])] = &[
-    (REQUEST, false, REPLY),
-    (REQUEST, true, b""),
-    (b"DIST00000002", false, b""),
-    (
-        b"DIST00000001ARGC00000001ARGV00000003gccDOTI00000000",
-        false,
-        b"DONE00000001STAT00006e00SERR00000015unknown compiler gcc\nSOUT00000000DOTO00000000",
-    ),
+struct Given {
+    sends: &'static [u8],
+    fails: bool,
+    gives: &'static [u8],
+}
+
+const GIVEN: &[Given] = &[
+    Given {
+        sends: REQUEST,
+        fails: false,
+        gives: REPLY,
+    },
+    Given {
+        sends: REQUEST,
+        fails: true,
+        gives: b"",
+    },
+    Given {
+        sends: b"DIST00000002",
+        fails: false,
+        gives: b"",
+    },
+    Given {
+        sends: b"DIST00000001ARGC00000001ARGV00000003gccDOTI00000000",
+        fails: false,
+        gives: b"DONE00000001STAT00006e00SERR00000015unknown compiler gcc\nSOUT00000000DOTO00000000",
+    },
 ];
 
 // What a link of this dialer gives where this is sent.
@@ -106,13 +133,17 @@ fn given_over(alloc: Global, fails: bool, sends: &[u8]) -> Result<Bytes, Fail> {
     given_by(alloc, dialer(alloc, fails)?, sends)
 }
 
-#[test]
-fn what_a_loop_gives(rt: HostRuntime) -> Result<(), Fail> {
-    for (sends, fails, gives) in GIVEN {
-        let given = given_over(rt.alloc(), *fails, sends)?;
-        assert_eq!(rt; given.as_slice(), *gives);
+fn expect_given<R: Abort>(rt: &R, alloc: Global, rows: &[Given]) -> Result<(), Fail> {
+    for row in rows {
+        let given = given_over(alloc, row.fails, row.sends)?;
+        same_items(rt, given.as_slice(), row.gives, &row.sends);
     }
     Ok(())
+}
+
+#[test]
+fn what_a_loop_gives(rt: HostRuntime) -> Result<(), Fail> {
+    expect_given(&rt, rt.alloc(), GIVEN)
 }
 
 fn words(alloc: Global, list: &[&[u8]]) -> Result<Words, AllocError> {
@@ -155,15 +186,19 @@ fn cause_of(answer: Option<Attempt>) -> Result<Option<Cause>, Fail> {
     }
 }
 
-// The same of an exchange over a new loop, whose station's run may fail.
-fn cause_over(alloc: Global, fails: bool) -> Result<Option<Cause>, Fail> {
-    let request = request(alloc)?;
-    let host = Host {
+fn remote_host(alloc: Global) -> Result<Host, AllocError> {
+    Ok(Host {
         name: host(alloc)?,
         port: 3632,
         limit: 4,
         local: false,
-    };
+    })
+}
+
+// The same of an exchange over a new loop, whose station's run may fail.
+fn cause_over(alloc: Global, fails: bool) -> Result<Option<Cause>, Fail> {
+    let request = request(alloc)?;
+    let host = remote_host(alloc)?;
     let dialer = dialer(alloc, fails)?;
     cause_of(attempt_by(alloc, &request, &host, dialer))
 }
@@ -185,13 +220,16 @@ fn second_dial<D: Dialer + Drop>(alloc: Global, mut dialer: D) -> Result<EdgeFau
     }
 }
 
+fn expect_exchanges<R: Abort>(rt: &R, alloc: Global) -> Result<(), Fail> {
+    same(rt, &cause_over(alloc, false)?, &None, &"a run");
+    let cut = Some(Cause::Truncated { have: 0 });
+    same(rt, &cause_over(alloc, true)?, &cut, &"a failed run");
+    let second = second_dial(alloc, dialer(alloc, false)?)?;
+    same(rt, &second, &EdgeFault::Failed, &"a second dial");
+    Ok(())
+}
+
 #[test]
 fn how_exchanges_go(rt: HostRuntime) -> Result<(), Fail> {
-    let alloc = rt.alloc();
-    assert_eq!(rt; cause_over(alloc, false)?, None);
-    let cut = Some(Cause::Truncated { have: 0 });
-    assert_eq!(rt; cause_over(alloc, true)?, cut);
-    let second = second_dial(alloc, dialer(alloc, false)?)?;
-    assert_eq!(rt; second, EdgeFault::Failed);
-    Ok(())
+    expect_exchanges(&rt, rt.alloc())
 }

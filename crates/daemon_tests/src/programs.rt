@@ -5,15 +5,17 @@ ghost use Rattle.edge_memory.specs.Sinks.{sink_state, sink_shows};
 
 use crate::devices::{numbers, sink};
 use crate::lines::words_of;
-use crate::scripts::{REPLY, REQUEST, door};
+use crate::same::{same, same_items};
+use crate::scripts::{REPLY, REQUEST, door, runs_of};
 use daemon_program::farmd;
 use daemon_worker::DoorKit;
 use edge_gates::GateStation;
 use edge_memory::{MemDoor, MemSink, MemStation, RanList};
-use edge_traits::{CallNumbers, Station};
+use edge_traits::{CallNumbers, Door, Sink, Station, Visit};
 use farm_types::{Bytes, Ran};
 use std::alloc::{AllocError, Global};
 use std::process::Abort;
+use std::sync::Wait;
 use std::test::Fail;
 use std::thread::Threads;
 
@@ -29,7 +31,7 @@ const HERE: u32 = 2_130_706_433;
 
 // What the doors' links give, one list for each door, and from which peers; which accepts and runs fail; which writes of the
 // output take nothing; what is printed.
-#[derive(Drop)]
+#[derive(Clone, Copy)]
 struct Row {
     words: &'static str,
     doors: &'static [&'static [&'static [u8]]],
@@ -166,14 +168,16 @@ fn kits(alloc: Global, row: &Row) -> Result<Vec<DoorKit<MemDoor, MemStation>>, A
 }
 
 // Runs `farmd` by these words.
-fn run<R: Threads + Sync, S: Station + Send + Drop>(
+fn run<R: Threads + Sync, D: Door + Send + Drop, S: Station + Send + Drop, O: Sink>(
     rt: &R,
     alloc: Global,
     words: &[String],
-    doors: &mut Vec<DoorKit<MemDoor, S>>,
-    out: &mut MemSink,
+    doors: &mut Vec<DoorKit<D, S>>,
+    out: &mut O,
 ) -> Result<u8, Fail>
-    requires { (sink_shows (sink_state out.old)).stopped ≡ false }
+where
+    D::Link: Send,
+    requires { (O.shows out.old).stopped ≡ false }
 {
     if doors.is_empty() || 16 < doors.len() {
         return Err("there are 1 to 16 doors".into());
@@ -181,26 +185,53 @@ fn run<R: Threads + Sync, S: Station + Send + Drop>(
     Ok(farmd(rt, alloc, words, doors, out))
 }
 
-// Runs `farmd` by a row's words and sink over these doors, and compares what is printed, the status, and how many doors are
-// there then.
-fn expect<R: Abort + Threads + Sync, S: Station + Send + Drop>(
+fn expect_run<R: Abort + Threads + Sync, D: Door + Send + Drop, S: Station + Send + Drop>(
     rt: &R,
     alloc: Global,
     row: &Row,
-    doors: &mut Vec<DoorKit<MemDoor, S>>,
-) -> Result<(), Fail> {
+    words: &[String],
+    doors: &mut Vec<DoorKit<D, S>>,
+    out: &mut MemSink,
+) -> Result<(), Fail>
+where
+    D::Link: Send,
+    requires { (sink_shows (sink_state out.old)).stopped ≡ false }
+{
+    let status = run(rt, alloc, words, doors, out)?;
+    same_items(rt, out.written(), row.out.as_bytes(), &row.words);
+    same(
+        rt,
+        &(status, doors.len()),
+        &(row.status, row.doors.len()),
+        &row.words,
+    );
+    Ok(())
+}
+
+// Runs `farmd` by a row's words and sink over these doors, and compares what is printed, the status, and how many doors are
+// there then.
+fn expect<R: Abort + Threads + Sync, D: Door + Send + Drop, S: Station + Send + Drop>(
+    rt: &R,
+    alloc: Global,
+    row: &Row,
+    doors: &mut Vec<DoorKit<D, S>>,
+) -> Result<(), Fail>
+where
+    D::Link: Send,
+{
     let words = words_of(alloc, row.words)?;
     let mut out = sink(alloc, row.zeros)?;
-    let status = run(rt, alloc, words.as_slice(), doors, &mut out)?;
-    assert_eq!(rt; out.written(), row.out.as_bytes());
-    assert_eq!(rt; (status, doors.len()), (row.status, row.doors.len()));
-    Ok(())
+    expect_run(rt, alloc, row, words.as_slice(), doors, &mut out)
+}
+
+fn expect_row<R: Abort + Threads + Sync>(rt: &R, alloc: Global, row: &Row) -> Result<(), Fail> {
+    let mut doors = kits(alloc, row)?;
+    expect(rt, alloc, row, &mut doors)
 }
 
 fn expect_rows<R: Abort + Threads + Sync>(rt: &R, alloc: Global, rows: &[Row]) -> Result<(), Fail> {
     for row in rows {
-        let mut doors = kits(alloc, row)?;
-        expect(rt, alloc, row, &mut doors)?;
+        expect_row(rt, alloc, row)?;
     }
     Ok(())
 }
@@ -238,16 +269,51 @@ const CACHED: Row = Row {
     ..ONE
 };
 
-// A station whose first run makes an object, and no other does.
-fn compiling(alloc: Global) -> Result<MemStation, AllocError> {
-    let mut rans = RanList::new(alloc);
-    rans.try_push(Ran {
+fn object_ran(alloc: Global) -> Result<Ran, AllocError> {
+    let object = Bytes::from_slice(alloc, b"SCO1\ndef a 1\n")?;
+    Ok(Ran {
         status: 0,
         out: Bytes::new(alloc),
         err: Bytes::new(alloc),
-        object: Bytes::from_slice(alloc, b"SCO1\ndef a 1\n")?,
-    })?;
+        object,
+    })
+}
+
+// A station whose first run makes an object, and no other does.
+fn compiling(alloc: Global) -> Result<MemStation, AllocError> {
+    let mut rans = RanList::new(alloc);
+    rans.try_push(object_ran(alloc)?)?;
     Ok(MemStation::new(rans, CallNumbers::new(alloc)))
+}
+
+// A door of these requests, beside this station.
+fn one_door<S: Drop>(
+    alloc: Global,
+    gives: &[&[u8]],
+    station: S,
+) -> Result<DoorKit<MemDoor, S>, AllocError> {
+    let door = door(alloc, gives, &[], &[])?;
+    Ok(DoorKit { door, station })
+}
+
+fn one_kit<K: Drop>(alloc: Global, kit: K) -> Result<Vec<K>, AllocError> {
+    let mut kits = Vec::new(alloc);
+    kits.push(kit)?;
+    Ok(kits)
+}
+
+fn two_kits<K: Drop>(alloc: Global, first: K, second: K) -> Result<Vec<K>, AllocError> {
+    let mut kits = Vec::new(alloc);
+    kits.push(first)?;
+    kits.push(second)?;
+    Ok(kits)
+}
+
+fn expect_visits<R: Abort>(rt: &R, visits: &[Visit], count: usize) {
+    same(rt, &visits.len(), &count, &"visits");
+    for visit in visits {
+        same_items(rt, visit.sent.as_slice(), REPLY, &"a visit");
+    }
 }
 
 fn expect_replies<R: Abort>(
@@ -257,29 +323,44 @@ fn expect_replies<R: Abort>(
     count: usize,
 ) -> Result<(), Fail> {
     let visits = door.into_visits().into_items(alloc)?;
-    assert_eq!(rt; visits.len(), count);
-    for visit in visits.as_slice() {
-        assert_eq!(rt; visit.sent.as_slice(), REPLY);
-    }
+    expect_visits(rt, visits.as_slice(), count);
     Ok(())
+}
+
+fn expect_one_compile<R: Abort>(
+    rt: &R,
+    alloc: Global,
+    kit: DoorKit<MemDoor, MemStation>,
+) -> Result<(), Fail> {
+    let DoorKit { door, station } = kit;
+    let runs = runs_of(alloc, station)?;
+    same(rt, &runs, &1, &"runs");
+    expect_replies(rt, alloc, door, 2)
+}
+
+// The kit of the one door, once it has served.
+fn served_kit<R: Abort + Threads + Sync>(
+    rt: &R,
+    alloc: Global,
+    row: &Row,
+) -> Result<DoorKit<MemDoor, MemStation>, Fail> {
+    let kit = one_door(alloc, &[REQUEST, REQUEST], compiling(alloc)?)?;
+    let mut doors = one_kit(alloc, kit)?;
+    expect(rt, alloc, row, &mut doors)?;
+    match doors.pop() {
+        Some(kit) => Ok(kit),
+        None => Err("there is no door".into()),
+    }
+}
+
+fn expect_cache<R: Abort + Threads + Sync>(rt: &R, alloc: Global, row: &Row) -> Result<(), Fail> {
+    expect_one_compile(rt, alloc, served_kit(rt, alloc, row)?)
 }
 
 // The same compile twice beside a book: both are answered alike, by one run.
 #[test]
 fn a_cache(rt: HostRuntime) -> Result<(), Fail> {
-    let mut doors = Vec::new(rt.alloc());
-    doors.push(DoorKit {
-        door: door(rt.alloc(), &[REQUEST, REQUEST], &[], &[])?,
-        station: compiling(rt.alloc())?,
-    })?;
-    expect(&rt, rt.alloc(), &CACHED, &mut doors)?;
-    let Some(DoorKit { door, station }) = doors.pop() else {
-        return Err("there is no door".into());
-    };
-    expect_replies(&rt, rt.alloc(), door, 2)?;
-    let runs = station.into_runs().into_items(rt.alloc())?;
-    assert_eq!(rt; runs.len(), 1);
-    Ok(())
+    expect_cache(&rt, rt.alloc(), &CACHED)
 }
 
 const SIDE_BY_SIDE: Row = Row {
@@ -289,27 +370,29 @@ const SIDE_BY_SIDE: Row = Row {
     ..ONE
 };
 
-fn one_door<S: Drop>(alloc: Global, station: S) -> Result<DoorKit<MemDoor, S>, AllocError> {
-    let door = door(alloc, &[REQUEST], &[], &[])?;
-    Ok(DoorKit { door, station })
-}
-
 // Two doors of one request each, by these stations.
-fn two_kits<S: Drop>(
+fn two_doors<S: Drop>(
     alloc: Global,
     first: S,
     second: S,
 ) -> Result<Vec<DoorKit<MemDoor, S>>, AllocError> {
-    let mut doors = Vec::new(alloc);
-    doors.push(one_door(alloc, first)?)?;
-    doors.push(one_door(alloc, second)?)?;
-    Ok(doors)
+    let first = one_door(alloc, &[REQUEST], first)?;
+    let second = one_door(alloc, &[REQUEST], second)?;
+    two_kits(alloc, first, second)
+}
+
+fn expect_side_by_side<R: Abort + Threads + Wait + Sync>(
+    rt: &R,
+    alloc: Global,
+    row: &Row,
+) -> Result<(), Fail> {
+    let (first, second) = GateStation::pair(rt, alloc)?;
+    let mut doors = two_doors(alloc, first, second)?;
+    expect(rt, alloc, row, &mut doors)
 }
 
 // The station of door 1 waits until that of door 2 was called, so both doors have to be served at one time.
 #[test]
 fn two_doors_at_one_time(rt: HostRuntime) -> Result<(), Fail> {
-    let (first, second) = GateStation::pair(&rt, rt.alloc())?;
-    let mut doors = two_kits(rt.alloc(), first, second)?;
-    expect(&rt, rt.alloc(), &SIDE_BY_SIDE, &mut doors)
+    expect_side_by_side(&rt, rt.alloc(), &SIDE_BY_SIDE)
 }

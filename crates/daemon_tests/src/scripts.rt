@@ -1,7 +1,7 @@
 //! What devices in memory follow.
 
 use crate::devices::numbers;
-use edge_memory::{LinkScript, LinkScripts, MemDoor, Moves, Peers};
+use edge_memory::{LinkScript, LinkScripts, MemDoor, MemStation, Moves, Peers};
 use edge_traits::CallNumbers;
 use farm_types::Bytes;
 use std::alloc::{AllocError, Global};
@@ -54,4 +54,9 @@ pub fn door(
     let peers = peers_of(alloc, peers)?;
     let links = links(alloc, gives)?;
     Ok(MemDoor::new(alloc, links, peers, fails))
+}
+
+/// How many runs a station has made.
+pub fn runs_of(alloc: Global, station: MemStation) -> Result<usize, AllocError> {
+    Ok(station.into_runs().into_items(alloc)?.len())
 }

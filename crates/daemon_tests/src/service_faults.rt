@@ -8,7 +8,7 @@ use std::process::Abort;
 use std::test::Fail;
 
 // One connection of a request: how its link moves bytes, what the station leaves; what is answered and written.
-#[derive(Drop)]
+#[derive(Clone, Copy)]
 struct Row {
     course: Course<'static>,
     left: Left<'static>,

@@ -1,9 +1,11 @@
 //! The service's answer to one connection.
 
 use crate::devices::numbers;
+use crate::same::{same, same_items};
 use crate::scripts::{REPLY, REQUEST};
 use daemon_service::{Compiler, CompilerVec, Compilers, Served, fault_number, serve_connection};
 use edge_memory::{LinkScript, MemLink, MemStation, Moves, RanList};
+use edge_traits::{Run, Station};
 use farm_types::{Bytes, Ran, Word};
 use std::alloc::{AllocError, Global};
 use std::process::Abort;
@@ -25,7 +27,7 @@ pub(crate) const PLAIN: Course<'static> = Course {
 };
 
 // What the one run of a station leaves, and which of its calls fail.
-#[derive(Drop)]
+#[derive(Clone, Copy)]
 pub(crate) struct Left<'a> {
     pub(crate) status: u32,
     pub(crate) err: &'a [u8],
@@ -91,10 +93,10 @@ fn script(alloc: Global, gives: &[u8], course: &Course) -> Result<LinkScript, Al
 }
 
 // Serves one connection over a link of this script, and answers what was written too.
-fn serve_link(
+fn serve_link<S: Station>(
     alloc: Global,
     script: LinkScript,
-    station: &mut MemStation,
+    station: &mut S,
     table: &Compilers,
 ) -> (Served, Bytes) {
     let mut link = MemLink::new(alloc, script);
@@ -103,11 +105,11 @@ fn serve_link(
 }
 
 // Serves one connection that gives this, and answers what was written too.
-fn serve(
+fn serve<S: Station>(
     alloc: Global,
     gives: &[u8],
     course: &Course,
-    station: &mut MemStation,
+    station: &mut S,
 ) -> Result<(Served, Bytes), AllocError> {
     let table = table(alloc)?;
     let script = script(alloc, gives, course)?;
@@ -135,13 +137,9 @@ pub(crate) fn expect<R: Abort>(
     wanted: (Served, &[u8]),
 ) -> Result<(), Fail> {
     let (served, written) = serve_once(alloc, gives, course, left)?;
-    let place = (gives.len(), course.most);
-    assert_eq!(rt; served, wanted.0, "bytes, and most at once: {place:?}");
-    assert_eq!(rt;
-        written.as_slice(),
-        wanted.1,
-        "bytes, and most at once: {place:?}"
-    );
+    let place = ("bytes, and most at once", gives.len(), course.most);
+    same(rt, &served, &wanted.0, &place);
+    same_items(rt, written.as_slice(), wanted.1, &place);
     Ok(())
 }
 
@@ -160,7 +158,9 @@ fn expect_in_pieces<R: Abort>(
 }
 
 // What a link gives, the status of the reply, and the reply.
-const REPLIES: &[(&[u8], u32, &[u8])] = &[
+type Reply = (&'static [u8], u32, &'static [u8]);
+
+const REPLIES: &[Reply] = &[
     (REQUEST, 0, REPLY),
     (
         b"DIST00000001ARGC00000005ARGV00000003gccARGV00000002-cARGV00000003a.iARGV00000002-oARGV00000003a.oDOTI0000000bint a = 1;\n",
@@ -179,30 +179,37 @@ const REPLIES: &[(&[u8], u32, &[u8])] = &[
     ),
 ];
 
-#[test]
-fn replies(rt: HostRuntime) -> Result<(), Fail> {
-    for (gives, status, reply) in REPLIES {
-        expect_in_pieces(&rt, rt.alloc(), gives, (Served::Answered(*status), reply))?;
+fn expect_replies<R: Abort>(rt: &R, alloc: Global, rows: &[Reply]) -> Result<(), Fail> {
+    for (gives, status, reply) in rows {
+        expect_in_pieces(rt, alloc, gives, (Served::Answered(*status), reply))?;
     }
     Ok(())
 }
 
-// A request cut to so many bytes: 120 at most.
-fn cut(len: usize) -> &'static [u8] {
-    REQUEST.get(..len).unwrap_or(REQUEST)
+#[test]
+fn replies(rt: HostRuntime) -> Result<(), Fail> {
+    expect_replies(&rt, rt.alloc(), REPLIES)
+}
+
+// A request cut to each number of its bytes.
+fn expect_cuts<R: Abort>(rt: &R, alloc: Global, request: &[u8]) -> Result<(), Fail> {
+    for len in 0..request.len() {
+        let served = Served::Cut { have: len as u64 };
+        expect_in_pieces(rt, alloc, &request[..len], (served, b""))?;
+    }
+    Ok(())
 }
 
 #[test]
 fn cut_requests(rt: HostRuntime) -> Result<(), Fail> {
-    for len in 0..120 {
-        let served = Served::Cut { have: len as u64 };
-        expect_in_pieces(&rt, rt.alloc(), cut(len), (served, b""))?;
-    }
-    Ok(())
+    same(&rt, &REQUEST.len(), &120, &"bytes");
+    expect_cuts(&rt, rt.alloc(), REQUEST)
 }
 
 // What a link gives, and the place, the fault and its number.
-const REFUSED: &[(&[u8], u64, RequestFault, u8)] = &[
+type Refusal = (&'static [u8], u64, RequestFault, u8);
+
+const REFUSED: &[Refusal] = &[
     (b"HTTP", 0, RequestFault::WrongName, 1),
     (b"DISTx", 4, RequestFault::BadDigit, 2),
     (b"DIST00000002", 11, RequestFault::BadVersion { n: 2 }, 3),
@@ -238,34 +245,36 @@ const REFUSED: &[(&[u8], u64, RequestFault, u8)] = &[
     ),
 ];
 
-#[test]
-fn refused_requests(rt: HostRuntime) -> Result<(), Fail> {
-    for (gives, at, fault, number) in REFUSED {
+fn expect_refused<R: Abort>(rt: &R, alloc: Global, rows: &[Refusal]) -> Result<(), Fail> {
+    for (gives, at, fault, number) in rows {
         let served = Served::Refused {
             at: *at,
             fault: *fault,
         };
-        expect(&rt, rt.alloc(), gives, &PLAIN, &OBJECT, (served, b""))?;
-        assert_eq!(rt; fault_number(*fault), *number);
+        expect(rt, alloc, gives, &PLAIN, &OBJECT, (served, b""))?;
+        same(rt, &fault_number(*fault), number, fault);
     }
     Ok(())
 }
 
 #[test]
-fn a_run_that_says_too_much(rt: HostRuntime) -> Result<(), Fail> {
-    let long = vec![in rt.alloc(); b'w'; 1_048_577]?;
+fn refused_requests(rt: HostRuntime) -> Result<(), Fail> {
+    expect_refused(&rt, rt.alloc(), REFUSED)
+}
+
+fn expect_loud<R: Abort>(rt: &R, alloc: Global) -> Result<(), Fail> {
+    let long = vec![in alloc; b'w'; 1_048_577]?;
     let loud = Left {
         err: &long,
         ..NOTHING
     };
-    expect(
-        &rt,
-        rt.alloc(),
-        REQUEST,
-        &PLAIN,
-        &loud,
-        (Served::StationFault, b""),
-    )
+    let fault = Served::StationFault;
+    expect(rt, alloc, REQUEST, &PLAIN, &loud, (fault, b""))
+}
+
+#[test]
+fn a_run_that_says_too_much(rt: HostRuntime) -> Result<(), Fail> {
+    expect_loud(&rt, rt.alloc())
 }
 
 #[test]
@@ -297,44 +306,38 @@ fn line_of(alloc: Global, words: &[Word]) -> Result<Bytes, AllocError> {
     Ok(line)
 }
 
-// How many runs were made, and of the last one the words and the input.
-fn runs_of(alloc: Global, station: MemStation) -> Result<(u32, Bytes, Bytes), AllocError> {
-    let mut count: u32 = 0;
-    let mut line = Bytes::new(alloc);
-    let mut input = Bytes::new(alloc);
-    let runs = station.into_runs().into_items(alloc)?;
-    for run in runs.as_slice() {
-        count = count.saturating_add(1);
-        line = line_of(alloc, run.words.as_slice())?;
-        input = run.input.copy()?;
+fn expect_run<R: Abort>(rt: &R, alloc: Global, run: &Run) -> Result<(), Fail> {
+    let line = line_of(alloc, run.words.as_slice())?;
+    same_items(rt, line.as_slice(), b"/usr/bin/scc -c i -o o ", &"words");
+    same_items(rt, run.input.as_slice(), b"int a = 1;\n", &"input");
+    Ok(())
+}
+
+fn expect_runs<R: Abort>(rt: &R, alloc: Global, runs: &[Run]) -> Result<(), Fail> {
+    same(rt, &runs.len(), &1, &"runs");
+    for run in runs {
+        expect_run(rt, alloc, run)?;
     }
-    Ok((count, line, input))
+    Ok(())
 }
 
-// The station, once it has served one connection over a link of this script.
-fn after(
-    alloc: Global,
-    script: LinkScript,
-    mut station: MemStation,
-    table: &Compilers,
-) -> MemStation {
-    let _ = serve_link(alloc, script, &mut station, table);
-    station
+fn expect_station<R: Abort>(rt: &R, alloc: Global, station: MemStation) -> Result<(), Fail> {
+    let runs = station.into_runs().into_items(alloc)?;
+    expect_runs(rt, alloc, runs.as_slice())
 }
 
-// The runs of a station by which one request is served.
-fn runs_of_request(alloc: Global) -> Result<(u32, Bytes, Bytes), AllocError> {
-    let table = table(alloc)?;
-    let script = script(alloc, REQUEST, &PLAIN)?;
-    let station = station(alloc, &NOTHING)?;
-    runs_of(alloc, after(alloc, script, station, &table))
+// A station that has served one request.
+fn after_request(alloc: Global) -> Result<MemStation, AllocError> {
+    let mut station = station(alloc, &NOTHING)?;
+    let _ = serve(alloc, REQUEST, &PLAIN, &mut station)?;
+    Ok(station)
+}
+
+fn expect_one_run<R: Abort>(rt: &R, alloc: Global) -> Result<(), Fail> {
+    expect_station(rt, alloc, after_request(alloc)?)
 }
 
 #[test]
 fn one_run_by_the_program_of_the_table(rt: HostRuntime) -> Result<(), Fail> {
-    let (count, line, input) = runs_of_request(rt.alloc())?;
-    assert_eq!(rt; count, 1);
-    assert_eq!(rt; input.as_slice(), b"int a = 1;\n".as_slice());
-    assert_eq!(rt; line.as_slice(), b"/usr/bin/scc -c i -o o ".as_slice());
-    Ok(())
+    expect_one_run(&rt, rt.alloc())
 }

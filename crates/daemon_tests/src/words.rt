@@ -1,4 +1,6 @@
+use crate::same::{holds, same, same_items};
 use access_list::Rule;
+use daemon_service::Compiler;
 use daemon_words::{
     Command, DoorPlace, Options, compilers_of, door_place, help_text, parse_words, rules_of,
     settings_of, trusts_options, version_text,
@@ -70,7 +72,7 @@ fn owned(alloc: Global, words: &[&str]) -> Result<Vec<String>, AllocError> {
 }
 
 fn expect_read<R: Abort>(rt: &R, words: &[String], read: Result<Command, usize>) {
-    assert_eq!(rt; parse_words(words), read);
+    same(rt, &parse_words(words), &read, &words);
 }
 
 // The words are read so, and their door has this place.
@@ -83,138 +85,204 @@ fn expect<R: Abort>(
 ) -> Result<(), Fail> {
     let words = owned(alloc, words)?;
     expect_read(rt, words.as_slice(), read);
-    assert_eq!(rt; door_place(words.as_slice()), place);
+    same(rt, &door_place(words.as_slice()), &place, &"the door");
+    Ok(())
+}
+
+fn expect_bad<R: Abort>(rt: &R, alloc: Global, rows: &[(&[&str], usize)]) -> Result<(), Fail> {
+    for (words, place) in rows {
+        expect(rt, alloc, words, Err(*place), None)?;
+    }
     Ok(())
 }
 
 #[test]
 fn bad_words_are_named_by_their_place(rt: HostRuntime) -> Result<(), Fail> {
-    for (words, place) in BAD {
-        expect(&rt, rt.alloc(), words, Err(*place), None)?;
-    }
+    expect_bad(&rt, rt.alloc(), BAD)
+}
+
+fn expect_last<R: Abort>(rt: &R, compilers: &[Compiler]) -> Result<(), Fail> {
+    same(rt, &compilers.len(), &2, &"compilers");
+    let Some(last) = compilers.get(1) else {
+        return Err("there are two compilers".into());
+    };
+    same_items(rt, last.name.as_slice(), b"cc", &"its name");
+    same_items(rt, last.program.as_slice(), b"a=b", &"its program");
     Ok(())
 }
 
 fn expect_compilers<R: Abort>(rt: &R, alloc: Global, words: &[String]) -> Result<(), Fail> {
     let compilers = compilers_of(alloc, words)?;
-    assert_eq!(rt; compilers.len(), 2);
-    let Some(last) = compilers.get(1) else {
-        return Err("there are two compilers".into());
-    };
-    assert_eq!(rt; last.name.as_slice(), b"cc".as_slice());
-    assert_eq!(rt; last.program.as_slice(), b"a=b".as_slice());
-    Ok(())
+    expect_last(rt, compilers.as_slice())
 }
+
+const DENIED: Rule = Rule {
+    allow: false,
+    net: 167_772_161,
+    bits: 32,
+};
 
 fn expect_rules<R: Abort>(rt: &R, alloc: Global, words: &[String]) -> Result<(), Fail> {
     let rules = rules_of(alloc, words)?;
-    assert_eq!(rt; rules.len(), 2);
-    let first = Rule {
-        allow: false,
-        net: 167_772_161,
-        bits: 32,
-    };
-    assert_eq!(rt; rules.get(0).copied(), Some(first));
+    let shown = (rules.len(), rules.get(0).copied());
+    same(rt, &shown, &(2, Some(DENIED)), &"rules");
     Ok(())
+}
+
+const OPTIONS: Options = Options {
+    port: Some(4000),
+    listen: Some(2_130_706_433),
+    jobs: Some(16),
+    serve: Some(7),
+    cache: Some(128),
+    compilers: 2,
+    rules: 2,
+};
+
+fn expect_options<R: Abort>(rt: &R, alloc: Global, words: &[String]) -> Result<(), Fail> {
+    expect_read(rt, words, Ok(Command::Serve(OPTIONS)));
+    expect_compilers(rt, alloc, words)?;
+    expect_rules(rt, alloc, words)
+}
+
+fn expect_all_options<R: Abort>(rt: &R, alloc: Global, words: &[&str]) -> Result<(), Fail> {
+    let words = owned(alloc, words)?;
+    expect_options(rt, alloc, words.as_slice())
 }
 
 #[test]
 fn all_options(rt: HostRuntime) -> Result<(), Fail> {
-    let words = owned(rt.alloc(), GOOD)?;
-    let options = Options {
-        port: Some(4000),
-        listen: Some(2_130_706_433),
-        jobs: Some(16),
-        serve: Some(7),
-        cache: Some(128),
-        compilers: 2,
-        rules: 2,
-    };
-    expect_read(&rt, words.as_slice(), Ok(Command::Serve(options)));
-    expect_compilers(&rt, rt.alloc(), words.as_slice())?;
-    expect_rules(&rt, rt.alloc(), words.as_slice())
+    expect_all_options(&rt, rt.alloc(), GOOD)
 }
 
-#[test]
-fn no_options(rt: HostRuntime) -> Result<(), Fail> {
-    let place = DoorPlace {
-        addr: 0,
-        port: 3632,
-        doors: 4,
-    };
-    assert_eq!(rt; door_place(&[]), Some(place));
-    let Ok(Command::Serve(options)) = parse_words(&[]) else {
+const PLACE: DoorPlace = DoorPlace {
+    addr: 0,
+    port: 3632,
+    doors: 4,
+};
+
+fn expect_no_options<R: Abort>(rt: &R, words: &[String]) -> Result<(), Fail> {
+    same(rt, &door_place(words), &Some(PLACE), &"no words");
+    let Ok(Command::Serve(options)) = parse_words(words) else {
         return Err("it serves".into());
     };
-    assert_eq!(rt; options.serve(), 100_000);
+    same(rt, &options.serve(), &100_000, &"no words");
     Ok(())
 }
 
 #[test]
+fn no_options(rt: HostRuntime) -> Result<(), Fail> {
+    expect_no_options(&rt, &[])
+}
+
+const NOWHERE: DoorPlace = DoorPlace { doors: 0, ..PLACE };
+
+fn expect_version<R: Abort>(rt: &R, alloc: Global) -> Result<(), Fail> {
+    let words = owned(alloc, &["--version"])?;
+    expect_read(rt, words.as_slice(), Ok(Command::Version));
+    Ok(())
+}
+
+fn expect_texts<R: Abort>(rt: &R) {
+    same_items(
+        rt,
+        version_text(),
+        b"farmd 0.1, distcc protocol 1\n",
+        &"the version",
+    );
+    holds(rt, help_text().starts_with(b"Usage: farmd"), &"the help");
+}
+
+#[test]
 fn help_and_version(rt: HostRuntime) -> Result<(), Fail> {
-    let nowhere = DoorPlace {
-        addr: 0,
-        port: 3632,
-        doors: 0,
-    };
     expect(
         &rt,
         rt.alloc(),
         &["--help"],
         Ok(Command::Help),
-        Some(nowhere),
+        Some(NOWHERE),
     )?;
-    let version = owned(rt.alloc(), &["--version"])?;
-    expect_read(&rt, version.as_slice(), Ok(Command::Version));
-    assert!(rt; version_text() == b"farmd 0.1, distcc protocol 1\n".as_slice());
-    assert!(rt; help_text().starts_with(b"Usage: farmd"));
+    expect_texts(&rt);
+    expect_version(&rt, rt.alloc())
+}
+
+// An option that stands over and over, each time with the next number from 0 as its value, between these texts.
+#[derive(Clone, Copy, Debug)]
+struct Numbered {
+    option: &'static str,
+    begin: &'static str,
+    end: &'static str,
+}
+
+fn push_numbered(
+    alloc: Global,
+    words: &mut Vec<String>,
+    row: &Numbered,
+    number: u8,
+) -> Result<(), AllocError> {
+    let Numbered { begin, end, .. } = row;
+    words.push(String::from_str(alloc, row.option)?)?;
+    words.push(format!(in alloc; "{begin}{number}{end}")?)?;
     Ok(())
 }
 
-// An option over and over, each time with the next number from 0 as its value, between these texts.
-fn numbered(
-    alloc: Global,
-    option: &str,
-    begin: &str,
-    count: u8,
-    end: &str,
-) -> Result<Vec<String>, AllocError> {
+fn numbered_words(alloc: Global, row: &Numbered, count: u8) -> Result<Vec<String>, AllocError> {
     let mut words = Vec::new(alloc);
     for number in 0..count {
-        words.push(String::from_str(alloc, option)?)?;
-        words.push(format!(in alloc; "{begin}{number}{end}")?)?;
+        push_numbered(alloc, &mut words, row, number)?;
     }
     Ok(words)
 }
 
+// The place of the first bad word where the option stands so often.
+fn bad_place(alloc: Global, row: &Numbered, count: u8) -> Result<Option<usize>, AllocError> {
+    let words = numbered_words(alloc, row, count)?;
+    Ok(parse_words(words.as_slice()).err())
+}
+
 // An option may stand 64 times: the 65th is a bad word.
-fn expect_most<R: Abort>(
-    rt: &R,
-    alloc: Global,
-    option: &str,
-    begin: &str,
-    end: &str,
-) -> Result<(), Fail> {
-    let many = numbered(alloc, option, begin, 65, end)?;
-    expect_read(rt, many.as_slice(), Err(129));
-    let most = numbered(alloc, option, begin, 64, end)?;
-    assert!(rt; parse_words(most.as_slice()).is_ok());
+fn expect_most<R: Abort>(rt: &R, alloc: Global, rows: &[Numbered]) -> Result<(), Fail> {
+    for row in rows {
+        same(rt, &bad_place(alloc, row, 65)?, &Some(129), row);
+        same(rt, &bad_place(alloc, row, 64)?, &None, row);
+    }
     Ok(())
 }
+
+const NUMBERED: &[Numbered] = &[
+    Numbered {
+        option: "--compiler",
+        begin: "c",
+        end: "=x",
+    },
+    Numbered {
+        option: "--allow",
+        begin: "10.0.0.",
+        end: "",
+    },
+];
 
 // The 65th compiler, and the 65th rule, is a bad word.
 #[test]
 fn the_sixty_fifth(rt: HostRuntime) -> Result<(), Fail> {
-    expect_most(&rt, rt.alloc(), "--compiler", "c", "=x")?;
-    expect_most(&rt, rt.alloc(), "--allow", "10.0.0.", "")
+    expect_most(&rt, rt.alloc(), NUMBERED)
+}
+
+fn expect_trust<R: Abort>(rt: &R, words: &[String]) {
+    let settings = settings_of(words);
+    holds(rt, trusts_options(words), &"all words");
+    same(rt, &settings.len(), &1, &"settings");
+    holds(rt, !trusts_options(settings), &"settings");
+    expect_read(rt, words, Ok(Command::Version));
+}
+
+fn expect_trusted<R: Abort>(rt: &R, alloc: Global) -> Result<(), Fail> {
+    let words = owned(alloc, &["--trust-options", "--version"])?;
+    expect_trust(rt, words.as_slice());
+    Ok(())
 }
 
 #[test]
 fn trusted_options(rt: HostRuntime) -> Result<(), Fail> {
-    let words = owned(rt.alloc(), &["--trust-options", "--version"])?;
-    assert_eq!(rt; trusts_options(words.as_slice()), true);
-    assert_eq!(rt; settings_of(words.as_slice()).len(), 1);
-    assert_eq!(rt; trusts_options(settings_of(words.as_slice())), false);
-    expect_read(&rt, words.as_slice(), Ok(Command::Version));
-    Ok(())
+    expect_trusted(&rt, rt.alloc())
 }
