@@ -1,6 +1,8 @@
-//! Tests of the slots of hosts, alone and shared among threads, and of the check of a run.
+//! Tests of the slots of hosts, alone and shared among threads, of the check of a run, and of the board of a worker's progress.
 #![tactic(auto)]
 
+#[cfg(test)]
+mod boards;
 pub mod callers;
 #[cfg(test)]
 mod cell_calls;
@@ -14,5 +16,7 @@ mod cell_orders;
 mod failing_hosts;
 #[cfg(test)]
 mod machine;
+#[cfg(test)]
+mod same;
 #[cfg(test)]
 mod slots;
