@@ -3,7 +3,7 @@ use arg_scan::{Scan, scan};
 use arg_strip::is_remote;
 use child_runner::{compile, in_place, preprocess};
 use edge_memory::{MemStation, RanList};
-use edge_traits::{CallNumbers, StationFault, Stream};
+use edge_traits::{CallNumbers, Station, StationFault, Stream};
 use farm_types::limits::CHILD_ERR_MAX;
 use farm_types::{Bytes, Ran, Words};
 use std::alloc::Global;
@@ -45,10 +45,10 @@ fn ran(alloc: Global, status: u32, out: &[u8], err: &[u8], object: &[u8]) -> Res
     })
 }
 
-fn preprocessed(
+fn preprocessed<S: Station>(
     alloc: Global,
     words: &Words,
-    station: &mut MemStation,
+    station: &mut S,
 ) -> Result<Result<Ran, StationFault>, Fail> {
     if !is_remote(words) {
         return Err("the command may be sent".into());
@@ -62,10 +62,10 @@ fn preprocessed(
     }
 }
 
-fn compiled(
+fn compiled<S: Station>(
     alloc: Global,
     words: &Words,
-    station: &mut MemStation,
+    station: &mut S,
 ) -> Result<Result<Ran, StationFault>, Fail> {
     if !is_remote(words) {
         return Err("the command may be sent".into());
@@ -74,10 +74,10 @@ fn compiled(
     Ok(compile(alloc, words, &source, station))
 }
 
-fn ran_in_place(
+fn ran_in_place<S: Station>(
     alloc: Global,
     words: &Words,
-    station: &mut MemStation,
+    station: &mut S,
 ) -> Result<Result<Ran, StationFault>, Fail> {
     if words.is_empty() {
         return Err("the command has a word".into());
@@ -85,11 +85,11 @@ fn ran_in_place(
     Ok(in_place(alloc, words, station))
 }
 
-fn run(
+fn run<S: Station>(
     alloc: Global,
     call: Call,
     line: &str,
-    station: &mut MemStation,
+    station: &mut S,
 ) -> Result<Result<Ran, StationFault>, Fail> {
     let words = command(alloc, line)?;
     match call {
@@ -158,11 +158,11 @@ fn expect_one_run<R: Abort>(
     Ok(())
 }
 
-fn expect_left<R: Abort>(
+fn expect_left<R: Abort, S: Station>(
     rt: &R,
     alloc: Global,
     row: &Answer,
-    station: &mut MemStation,
+    station: &mut S,
 ) -> Result<(), Fail> {
     match run(alloc, row.call, row.line, station)? {
         Ok(ran) => {
@@ -223,7 +223,7 @@ fn long_station(alloc: Global, out: u32, err: u32) -> Result<MemStation, Fail> {
 }
 
 /// How many bytes a preprocessor gives at this station.
-fn length(alloc: Global, station: &mut MemStation) -> Result<Result<usize, StationFault>, Fail> {
+fn length<S: Station>(alloc: Global, station: &mut S) -> Result<Result<usize, StationFault>, Fail> {
     match run(alloc, Call::Preprocess, "scc -c x.c", station)? {
         Ok(ran) => Ok(Ok(ran.out.len())),
         Err(fault) => Ok(Err(fault)),
@@ -249,11 +249,11 @@ fn a_preprocessor_gives_at_most_its_limit(rt: HostRuntime) -> Result<(), Fail> {
 }
 
 /// How a call ends at this station.
-fn expect_fault<R: Abort>(
+fn expect_fault<R: Abort, S: Station>(
     rt: &R,
     alloc: Global,
     call: Call,
-    station: &mut MemStation,
+    station: &mut S,
     wanted: StationFault,
 ) -> Result<(), Fail> {
     match run(alloc, call, "scc -c x.c", station)? {

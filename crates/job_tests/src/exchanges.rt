@@ -1,6 +1,6 @@
 use crate::same::{same, same_bytes};
 use edge_memory::{LinkScript, LinkScripts, MemDialer, MemKeeper, Moves};
-use edge_traits::{CallNumbers, Cause, FetchFault, FileList, Keeper, is_staged};
+use edge_traits::{CallNumbers, Cause, Dialer, FetchFault, FileList, Keeper, is_staged};
 use farm_types::{Bytes, Host, HostName, Outcome, Request, Words};
 use remote_transfer::{Attempt, Landed, Landing, attempt, attempt_into};
 use std::alloc::Global;
@@ -105,10 +105,10 @@ fn keeper(alloc: Global, fails: &[u64]) -> Result<MemKeeper, Fail> {
 }
 
 // Where the object of one exchange is, or why it broke.
-fn landed(
+fn landed<D: Dialer, K: Keeper>(
     alloc: Global,
-    dialer: &mut MemDialer,
-    keeper: &mut MemKeeper,
+    dialer: &mut D,
+    keeper: &mut K,
 ) -> Result<(Option<ObjectPlace>, Option<Cause>), Fail> {
     let host = host(alloc)?;
     let path = Bytes::from_slice(alloc, b"x.o")?;
@@ -131,7 +131,7 @@ fn place_of(landed: Landed) -> (Option<ObjectPlace>, Option<Cause>) {
 }
 
 // Commits a put that is pending, and says whether one was.
-fn committed(alloc: Global, keeper: &mut MemKeeper) -> Result<bool, Fail> {
+fn committed<K: Keeper>(alloc: Global, keeper: &mut K) -> Result<bool, Fail> {
     let pending = keeper.is_pending();
     if pending {
         keeper.commit(alloc)?;
@@ -139,7 +139,7 @@ fn committed(alloc: Global, keeper: &mut MemKeeper) -> Result<bool, Fail> {
     Ok(pending)
 }
 
-fn content(alloc: Global, keeper: &mut MemKeeper) -> Result<Bytes, Fail> {
+fn content<K: Keeper>(alloc: Global, keeper: &mut K) -> Result<Bytes, Fail> {
     let path = Bytes::from_slice(alloc, b"x.o")?;
     if keeper.is_pending() || is_staged(path.as_slice()) {
         return Err("none is pending after a commit".into());
@@ -151,7 +151,11 @@ fn content(alloc: Global, keeper: &mut MemKeeper) -> Result<Bytes, Fail> {
     }
 }
 
-fn shown_of(alloc: Global, dialer: &mut MemDialer, keeper: &mut MemKeeper) -> Result<Shown, Fail> {
+fn shown_of<D: Dialer, K: Keeper>(
+    alloc: Global,
+    dialer: &mut D,
+    keeper: &mut K,
+) -> Result<Shown, Fail> {
     let (place, broke) = landed(alloc, dialer, keeper)?;
     let pending = committed(alloc, keeper)?;
     let file = content(alloc, keeper)?;
@@ -163,7 +167,7 @@ fn shown_of(alloc: Global, dialer: &mut MemDialer, keeper: &mut MemKeeper) -> Re
     })
 }
 
-fn kept(alloc: Global, dialer: &mut MemDialer, fails: &[u64]) -> Result<Shown, Fail> {
+fn kept<D: Dialer>(alloc: Global, dialer: &mut D, fails: &[u64]) -> Result<Shown, Fail> {
     let mut keeper = keeper(alloc, fails)?;
     shown_of(alloc, dialer, &mut keeper)
 }
@@ -179,7 +183,7 @@ pub(crate) fn landing(
     kept(alloc, &mut dialer, fails)
 }
 
-fn attempted(alloc: Global, dialer: &mut MemDialer) -> Result<Attempt, Fail> {
+fn attempted<D: Dialer>(alloc: Global, dialer: &mut D) -> Result<Attempt, Fail> {
     let host = host(alloc)?;
     let request = request(alloc)?;
     if !request.fits() || host.local {

@@ -3,7 +3,7 @@
 use crate::same::{same, same_bytes};
 use crate::scripted::{Ended, Passed, Row, Scripted, done, kit, station};
 use edge_memory::{MemDialer, MemStation};
-use edge_traits::{Exchange, Keeper, Kit, Run, is_staged};
+use edge_traits::{Clock, Dialer, Exchange, Keeper, Kit, Run, Station, is_staged};
 use farm_machine::{End, Event, Report};
 use farm_types::{Bytes, Ext, Items, Word};
 use std::alloc::Global;
@@ -12,12 +12,12 @@ use std::sync::Wait;
 use std::test::Fail;
 
 /// Does the job of a row, or a second one after it, and compares its end.
-fn expect_done<R: Wait + Abort, K: Keeper>(
+fn expect_done<R: Wait + Abort, D: Dialer, S: Station, K: Keeper, C: Clock>(
     rt: &R,
     alloc: Global,
     row: &Row,
     again: bool,
-    kit: &mut Scripted<K>,
+    kit: &mut Kit<D, S, K, C>,
 ) -> Result<(), Fail> {
     let report = done(rt, alloc, row, again, kit)?;
     expect_end(rt, &report, row)
@@ -185,11 +185,11 @@ fn expect_object<R: Abort, K: Keeper>(
 }
 
 /// Does the job of a row over these devices, and compares its report and its object.
-fn expect_job<R: Wait + Abort, K: Keeper>(
+fn expect_job<R: Wait + Abort, D: Dialer, S: Station, K: Keeper, C: Clock>(
     rt: &R,
     alloc: Global,
     row: &Row,
-    kit: &mut Scripted<K>,
+    kit: &mut Kit<D, S, K, C>,
 ) -> Result<(), Fail> {
     let report = done(rt, alloc, row, false, kit)?;
     expect_report(rt, &report, row)?;

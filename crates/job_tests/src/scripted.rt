@@ -268,13 +268,13 @@ fn job_at<R: Wait, D: Dialer, S: Station, K: Keeper, C: Clock, G: Grants>(
 }
 
 /// Does this job, and where it is to be done again a second one with the same slots.
-fn done_with<R: Wait, K: Keeper>(
+fn done_with<R: Wait, D: Dialer, S: Station, K: Keeper, C: Clock>(
     rt: &R,
     alloc: Global,
     words: &Words,
     config: &JobConfig,
     again: bool,
-    kit: &mut Scripted<K>,
+    kit: &mut Kit<D, S, K, C>,
 ) -> Result<Report, Fail> {
     if words.is_empty() || kit.keeper.is_pending() {
         return Err("the command has a word, and no put is pending".into());
@@ -291,12 +291,12 @@ fn done_with<R: Wait, K: Keeper>(
 }
 
 /// Does the job of a row, with slots of one thread, and where it is to be done again a second one with the same slots.
-pub(crate) fn done<R: Wait, K: Keeper>(
+pub(crate) fn done<R: Wait, D: Dialer, S: Station, K: Keeper, C: Clock>(
     rt: &R,
     alloc: Global,
     row: &Row,
     again: bool,
-    kit: &mut Scripted<K>,
+    kit: &mut Kit<D, S, K, C>,
 ) -> Result<Report, Fail> {
     let words = words(alloc, row.line)?;
     let config = config(alloc, row)?;
