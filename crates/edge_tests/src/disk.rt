@@ -1,7 +1,9 @@
 //! Files of the system.
 
+use crate::keepers::{Fetch, Put, expect_fetches, expect_puts, same_fetched};
+use crate::same::{holds, same, same_bytes};
 use edge_real::{DiskFiles, Notices, system_kits};
-use edge_traits::{EdgeFault, FetchFault, Keeper, is_staged};
+use edge_traits::{EdgeFault, FetchFault, Keeper};
 use farm_types::Bytes;
 use object_delivery::Files as FileCalls;
 use std::alloc::{AllocError, Global};
@@ -15,46 +17,6 @@ fn files(rt: HostRuntime, process: u32) -> Result<DiskFiles<HostRuntime>, AllocE
     Ok(DiskFiles::new(rt, String::from_str(rt.alloc(), ".")?, process))
 }
 
-fn put_file<K: Keeper>(
-    alloc: Global,
-    keeper: &mut K,
-    name: &[u8],
-    bytes: &[u8],
-) -> Result<(), EdgeFault> {
-    let path = Bytes::from_slice(alloc, name)?;
-    if keeper.is_pending() || is_staged(path.as_slice()) {
-        return Ok(());
-    }
-    keeper.put(alloc, &path, bytes)
-}
-
-/// What a fetch of at most so many bytes gives, which is `?` where none may be made.
-fn fetch_file<K: Keeper>(
-    alloc: Global,
-    keeper: &mut K,
-    name: &[u8],
-    bound: u32,
-) -> Result<Bytes, FetchFault> {
-    let path = Bytes::from_slice(alloc, name)?;
-    if keeper.is_pending() || is_staged(path.as_slice()) {
-        return Ok(Bytes::from_slice(alloc, b"?")?);
-    }
-    keeper.fetch(alloc, &path, bound)
-}
-
-fn expect_fetches<R: Abort, K: Keeper>(rt: &R, alloc: Global, keeper: &mut K, all: &[Fetch]) {
-    for (name, bound, want) in all {
-        match (fetch_file(alloc, keeper, name, *bound), want) {
-            (Ok(bytes), Ok(text)) => assert_eq!(rt; bytes.as_slice(), *text),
-            (Err(fault), Err(wanted)) => assert_eq!(rt; fault, *wanted),
-            _ => assert!(rt; false, "the fetch has this answer"),
-        }
-    }
-}
-
-/// A name, a bound, and what the fetch gives.
-type Fetch = (&'static [u8], u32, Result<&'static [u8], FetchFault>);
-
 const FETCHES: &[Fetch] = &[
     (b"x.o", 4, Err(FetchFault::TooMuch { bytes: 5 })),
     (b"x.o", 5, Ok(b"newer")),
@@ -63,38 +25,35 @@ const FETCHES: &[Fetch] = &[
     (b".", 9, Err(FetchFault::Failed)),
 ];
 
-fn expect_puts<R: Abort, K: Keeper>(rt: &R, alloc: Global, keeper: &mut K, all: &[Put]) {
-    for (name, bytes, want) in all {
-        assert_eq!(rt; put_file(alloc, keeper, name, bytes), *want);
-    }
-}
-
-/// A name, the bytes, and what the put answers.
-type Put = (&'static [u8], &'static [u8], Result<(), EdgeFault>);
-
 const PUTS: &[Put] = &[
     (b"x.o", b"old", Ok(())),
     (b"x.o", b"newer", Ok(())),
     (b"no/such/folder/x.o", b"new", Err(EdgeFault::Failed)),
 ];
 
+/// What the other keeper fetches before.
+const BEFORE: &[Fetch] = &[(b"x.o", 3, Err(FetchFault::Absent))];
+
+/// What one keeper puts it fetches, and the other finds nothing before.
+fn expect_kept<R: Abort, K: Keeper>(rt: &R, alloc: Global, other: &mut K, keeper: &mut K) {
+    expect_fetches(rt, alloc, other, BEFORE);
+    expect_puts(rt, alloc, keeper, PUTS);
+    expect_fetches(rt, alloc, keeper, FETCHES);
+}
+
 #[test]
 fn a_file_is_put_and_fetched(rt: HostRuntime) -> Result<(), Fail> {
     let mut kits = system_kits(rt, rt.alloc(), Notices::Never, ".", 9, 2)?;
-    assert_eq!(rt; kits.len(), 2);
-    expect_fetches(
-        &rt,
-        rt.alloc(),
-        &mut kits[0].keeper,
-        &[(b"x.o", 3, Err(FetchFault::Absent))],
-    );
-    expect_puts(&rt, rt.alloc(), &mut kits[1].keeper, PUTS);
-    expect_fetches(&rt, rt.alloc(), &mut kits[1].keeper, FETCHES);
+    same(&rt, &kits.len(), &2, &"kits");
+    let [first, second] = kits.as_mut_slice() else {
+        return Err("there are two kits".into());
+    };
+    expect_kept(&rt, rt.alloc(), &mut first.keeper, &mut second.keeper);
     Ok(())
 }
 
 /// A call on the files, and what it answers.
-#[derive(Clone, Copy)]
+#[derive(Clone, Copy, Debug)]
 enum Step {
     Create(&'static [u8]),
     Append(&'static [u8], &'static [u8], usize),
@@ -102,19 +61,43 @@ enum Step {
     Remove(&'static [u8]),
 }
 
+fn append<F: FileCalls>(
+    alloc: Global,
+    files: &mut F,
+    name: &[u8],
+    piece: &[u8],
+) -> Result<usize, EdgeFault> {
+    files.append(alloc, &Bytes::from_slice(alloc, name)?, piece)
+}
+
+fn create<F: FileCalls>(alloc: Global, files: &mut F, name: &[u8]) -> Result<usize, EdgeFault> {
+    files.create(alloc, &Bytes::from_slice(alloc, name)?)?;
+    Ok(0)
+}
+
+fn rename<F: FileCalls>(
+    alloc: Global,
+    files: &mut F,
+    from: &[u8],
+    to: &[u8],
+) -> Result<usize, EdgeFault> {
+    let from = Bytes::from_slice(alloc, from)?;
+    files.rename(alloc, &from, &Bytes::from_slice(alloc, to)?)?;
+    Ok(0)
+}
+
+fn remove<F: FileCalls>(alloc: Global, files: &mut F, name: &[u8]) -> Result<usize, EdgeFault> {
+    files.remove(&Bytes::from_slice(alloc, name)?)?;
+    Ok(0)
+}
+
 fn play<F: FileCalls>(alloc: Global, files: &mut F, step: Step) -> Result<usize, EdgeFault> {
     match step {
-        Step::Create(name) => files.create(alloc, &Bytes::from_slice(alloc, name)?)?,
-        Step::Append(name, piece, _) => {
-            return files.append(alloc, &Bytes::from_slice(alloc, name)?, piece);
-        }
-        Step::Rename(from, to) => {
-            let from = Bytes::from_slice(alloc, from)?;
-            files.rename(alloc, &from, &Bytes::from_slice(alloc, to)?)?;
-        }
-        Step::Remove(name) => files.remove(&Bytes::from_slice(alloc, name)?)?,
+        Step::Create(name) => create(alloc, files, name),
+        Step::Append(name, piece, _) => append(alloc, files, name, piece),
+        Step::Rename(from, to) => rename(alloc, files, from, to),
+        Step::Remove(name) => remove(alloc, files, name),
     }
-    Ok(0)
 }
 
 /// How many bytes a step moves where it goes well.
@@ -122,6 +105,15 @@ fn wanted(step: Step) -> usize {
     match step {
         Step::Append(_, _, count) => count,
         Step::Create(_) | Step::Rename(..) | Step::Remove(_) => 0,
+    }
+}
+
+/// What a step answers where it goes well, or else fails.
+fn answer_of(step: Step, good: bool) -> Result<usize, EdgeFault> {
+    if good {
+        Ok(wanted(step))
+    } else {
+        Err(EdgeFault::Failed)
     }
 }
 
@@ -133,32 +125,37 @@ fn expect_steps<R: Abort, F: FileCalls>(
     steps: &[(Step, bool)],
 ) {
     for (step, good) in steps {
-        let want = if *good {
-            Ok(wanted(*step))
-        } else {
-            Err(EdgeFault::Failed)
-        };
-        assert_eq!(rt; play(alloc, files, *step), want);
+        let want = answer_of(*step, *good);
+        same(rt, &play(alloc, files, *step), &want, step);
     }
 }
 
 fn expect_text<R: Abort + Files + AllocGlobal>(rt: &R, name: &str, text: &str) -> Result<(), Fail> {
     let held = fs::read_to_string(rt, name)?;
-    assert_eq!(rt; held.as_str(), text);
+    same_bytes(rt, held.as_bytes(), text.as_bytes(), &name);
     Ok(())
 }
 
 fn expect_same_mode<R: Abort + Files>(rt: &R, name: &str, other: &str) -> Result<(), Fail> {
     let mode = fs::metadata(rt, name)?.permissions().mode();
-    assert_eq!(rt; mode, fs::metadata(rt, other)?.permissions().mode());
+    let wanted = fs::metadata(rt, other)?.permissions().mode();
+    same(rt, &mode, &wanted, &name);
     Ok(())
 }
 
+fn load<F: FileCalls>(
+    alloc: Global,
+    files: &mut F,
+    name: &[u8],
+    bound: u32,
+) -> Result<Bytes, FetchFault> {
+    files.load(alloc, &Bytes::from_slice(alloc, name)?, bound)
+}
+
 /// The file is loaded by its name, within its length.
-fn expect_loaded<R: Abort, F: FileCalls>(rt: &R, alloc: Global, files: &mut F) -> Result<(), Fail> {
-    let loaded = files.load(alloc, &Bytes::from_slice(alloc, b"./x.o")?, 3)?;
-    assert_eq!(rt; loaded.as_slice(), b"abc".as_slice());
-    Ok(())
+fn expect_loaded<R: Abort, F: FileCalls>(rt: &R, alloc: Global, files: &mut F) {
+    let loaded = load(alloc, files, b"./x.o", 3);
+    same_fetched(rt, &loaded, &Ok(b"abc"), &"./x.o");
 }
 
 /// A file is made and written.
@@ -192,25 +189,39 @@ fn write_and_name<R: Abort + Files + AllocGlobal, F: FileCalls>(
     expect_steps(rt, rt.alloc(), files, WRITTEN);
     expect_written(rt)?;
     expect_steps(rt, rt.alloc(), files, NAMED);
-    expect_loaded(rt, rt.alloc(), files)
+    expect_loaded(rt, rt.alloc(), files);
+    Ok(())
 }
 
 /// What others had written is as it was, and nothing else is left.
 fn expect_others<R: Abort + Files + AllocGlobal>(rt: &R) -> Result<(), Fail> {
     expect_text(rt, "farm-5-1.farm~", "planted")?;
     expect_text(rt, "x.o.farm~", "stale")?;
-    assert!(rt; !fs::exists(rt, "farm-5-2.farm~")?);
-    assert!(rt; !fs::exists(rt, "farm-5-3.farm~")?);
+    holds(rt, !fs::exists(rt, "farm-5-2.farm~")?, &"farm-5-2.farm~");
+    holds(rt, !fs::exists(rt, "farm-5-3.farm~")?, &"farm-5-3.farm~");
     Ok(())
+}
+
+/// What others have written.
+fn write_others<R: Files>(rt: &R) -> Result<(), Fail> {
+    fs::write(rt, "farm-5-1.farm~", "planted")?;
+    fs::write(rt, "x.o.farm~", "stale")?;
+    Ok(())
+}
+
+fn expect_new_name<R: Abort + Files + AllocGlobal, F: FileCalls>(
+    rt: &R,
+    files: &mut F,
+) -> Result<(), Fail> {
+    write_others(rt)?;
+    write_and_name(rt, files)?;
+    expect_others(rt)
 }
 
 #[test]
 fn a_file_is_written_under_a_new_name(rt: HostRuntime) -> Result<(), Fail> {
-    fs::write(&rt, "farm-5-1.farm~", "planted")?;
-    fs::write(&rt, "x.o.farm~", "stale")?;
     let mut files = files(rt, 5)?;
-    write_and_name(&rt, &mut files)?;
-    expect_others(&rt)
+    expect_new_name(&rt, &mut files)
 }
 
 const KEPT: &[Put] = &[
@@ -223,15 +234,31 @@ const KEPT: &[Put] = &[
 /// A name as long as a system of files allows.
 const LONGEST: &[u8] = &[b'l'; 255];
 
+/// What stood under those names is as it was, and the file is there.
+fn expect_unreplaced<R: Abort + Files + AllocGlobal>(rt: &R) -> Result<(), Fail> {
+    let device = fs::metadata(rt, "/dev/null")?;
+    holds(rt, device.file_type().is_char_device(), &"/dev/null");
+    holds(rt, fs::metadata(rt, "folder")?.is_dir(), &"folder");
+    expect_text(rt, "x.o", "new")
+}
+
+fn expect_replaced<R: Abort + Files + AllocGlobal, K: Keeper>(
+    rt: &R,
+    keeper: &mut K,
+) -> Result<(), Fail> {
+    fs::create_dir(rt, "folder")?;
+    expect_puts(rt, rt.alloc(), keeper, KEPT);
+    expect_unreplaced(rt)
+}
+
 #[test]
 fn only_a_regular_file_is_replaced(rt: HostRuntime) -> Result<(), Fail> {
     let mut kits = system_kits(rt, rt.alloc(), Notices::Never, ".", 4, 1)?;
-    assert_eq!(rt; kits.len(), 1);
-    fs::create_dir(&rt, "folder")?;
-    expect_puts(&rt, rt.alloc(), &mut kits[0].keeper, KEPT);
-    assert!(rt; fs::metadata(&rt, "/dev/null")?.file_type().is_char_device());
-    assert!(rt; fs::metadata(&rt, "folder")?.is_dir());
-    expect_text(&rt, "x.o", "new")
+    same(&rt, &kits.len(), &1, &"kits");
+    let [kit] = kits.as_mut_slice() else {
+        return Err("there is one kit".into());
+    };
+    expect_replaced(&rt, &mut kit.keeper)
 }
 
 const WITHOUT_TEXT: &[(Step, bool)] = &[
@@ -243,11 +270,15 @@ const WITHOUT_TEXT: &[(Step, bool)] = &[
     (Step::Remove(b"\xff"), false),
 ];
 
+fn expect_faults<R: Abort, F: FileCalls>(rt: &R, alloc: Global, files: &mut F) {
+    expect_steps(rt, alloc, files, WITHOUT_TEXT);
+    let loaded = load(alloc, files, b"\xff", 9);
+    same_fetched(rt, &loaded, &Err(FetchFault::Failed), &"a load");
+}
+
 #[test]
 fn a_name_that_is_not_utf8_is_a_fault(rt: HostRuntime) -> Result<(), Fail> {
     let mut files = files(rt, 3)?;
-    expect_steps(&rt, rt.alloc(), &mut files, WITHOUT_TEXT);
-    let name = Bytes::from_slice(rt.alloc(), b"\xff")?;
-    assert!(rt; matches!(files.load(rt.alloc(), &name, 9), Err(FetchFault::Failed)));
+    expect_faults(&rt, rt.alloc(), &mut files);
     Ok(())
 }

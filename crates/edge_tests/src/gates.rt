@@ -1,7 +1,9 @@
+use crate::same::{holds, same};
 use edge_gates::{GateDialer, GateStation};
 use edge_traits::{Bounds, Dialer, EdgeFault, Link, Station, StationFault};
 use farm_types::{Bytes, HostName};
-use std::alloc::Global;
+use std::alloc::{AllocError, Global};
+use std::process::Abort;
 use std::sync::Wait;
 use std::test::Fail;
 use std::thread;
@@ -9,8 +11,7 @@ use std::thread;
 const REPLY: &str = "DONE00000001STAT00000000SERR00000000SOUT00000000DOTO0000000dSCO1\ndef a 1\n";
 
 // Receives until the end, ten bytes at once.
-fn receive<L: Link>(alloc: Global, link: &mut L) -> Result<Bytes, EdgeFault> {
-    let mut given = Bytes::new(alloc);
+fn receive<L: Link>(given: &mut Bytes, link: &mut L) -> Result<(), EdgeFault> {
     for _ in 0..100 {
         let mut room = [0; 10];
         let count = link.recv(&mut room)?;
@@ -19,32 +20,26 @@ fn receive<L: Link>(alloc: Global, link: &mut L) -> Result<Bytes, EdgeFault> {
         }
         given.try_extend(&room[..count])?;
     }
-    Ok(given)
+    Ok(())
 }
 
-// One exchange: what the peer gave.
-fn exchange<R: Wait>(alloc: Global, dialer: &mut GateDialer<'_, R>) -> Result<Bytes, EdgeFault> {
+// Whether the peer gave its reply to a request.
+fn ask<L: Link>(alloc: Global, link: &mut L) -> Result<bool, EdgeFault> {
+    link.send(b"request")?;
+    let mut given = Bytes::new(alloc);
+    receive(&mut given, link)?;
+    Ok(given.as_slice() == REPLY.as_bytes())
+}
+
+// One exchange: whether the peer gave its reply.
+fn exchange<R: Wait>(alloc: Global, dialer: &mut GateDialer<'_, R>) -> Result<bool, EdgeFault> {
     let host = HostName {
         text: Bytes::from_slice(alloc, b"H")?,
     };
     let mut link = dialer.dial(alloc, &host, 3632)?;
-    let given = match link.send(b"request") {
-        Ok(_) => receive(alloc, &mut link),
-        Err(fault) => Err(fault),
-    };
+    let given = ask(alloc, &mut link);
     dialer.hang_up(link);
     given
-}
-
-fn is_reply(given: &Result<Bytes, EdgeFault>) -> bool {
-    match given {
-        Ok(given) => given.as_slice() == REPLY.as_bytes(),
-        Err(_) => false,
-    }
-}
-
-fn is_failed(given: &Result<Bytes, EdgeFault>) -> bool {
-    matches!(given, Err(EdgeFault::Failed))
 }
 
 // Whether a run left status 0 and nothing else.
@@ -67,12 +62,11 @@ struct Side<'a, R> {
     has_run: bool,
 }
 
-#[test]
-fn two_threads_pass(rt: HostRuntime) -> Result<(), Fail> {
-    let alloc = rt.alloc();
-    let (first, second) = GateDialer::pair(&rt, alloc)?;
-    let (waits, awaited) = GateStation::pair(&rt, alloc)?;
-    let mut sides = [
+// The devices of two threads, at one gate of each kind.
+fn sides<R: Wait>(rt: &R, alloc: Global) -> Result<[Side<'_, R>; 2], AllocError> {
+    let (first, second) = GateDialer::pair(rt, alloc)?;
+    let (waits, awaited) = GateStation::pair(rt, alloc)?;
+    Ok([
         Side {
             dialer: first,
             station: waits,
@@ -85,49 +79,69 @@ fn two_threads_pass(rt: HostRuntime) -> Result<(), Fail> {
             is_given: false,
             has_run: false,
         },
-    ];
-    thread::for_each_mut(
-        &rt,
-        &mut sides,
-        2,
-        &|_, side| {
-            side.is_given = is_reply(&exchange(alloc, &mut side.dialer));
-            side.has_run = run(alloc, &mut side.station) == Ok(true);
-        },
-    );
+    ])
+}
+
+fn use_side<R: Wait>(alloc: Global, side: &mut Side<'_, R>) {
+    side.is_given = exchange(alloc, &mut side.dialer) == Ok(true);
+    side.has_run = run(alloc, &mut side.station) == Ok(true);
+}
+
+#[test]
+fn two_threads_pass(rt: HostRuntime) -> Result<(), Fail> {
+    let alloc = rt.alloc();
+    let mut sides = sides(&rt, alloc)?;
+    thread::for_each_mut(&rt, &mut sides, 2, &|_, side| use_side(alloc, side));
     for side in &sides {
-        assert!(rt; side.is_given && side.has_run);
+        holds(&rt, side.is_given && side.has_run, &"a side");
     }
     Ok(())
+}
+
+// The second dialer's exchange is the first, and is held until another one has asked.
+fn expect_held<A: Abort, R: Wait>(
+    rt: &A,
+    alloc: Global,
+    first: &mut GateDialer<'_, R>,
+    second: &mut GateDialer<'_, R>,
+) {
+    let held = exchange(alloc, second);
+    same(rt, &held, &Err(EdgeFault::Failed), &"held");
+    same(rt, &exchange(alloc, second), &Ok(true), &"again");
+    same(rt, &exchange(alloc, first), &Ok(true), &"the other");
 }
 
 #[test]
 fn the_first_exchange_is_held(rt: HostRuntime) -> Result<(), Fail> {
-    let alloc = rt.alloc();
-    let (mut first, mut second) = GateDialer::pair(&rt, alloc)?;
-    assert!(rt; is_failed(&exchange(alloc, &mut second)));
-    assert!(rt; is_reply(&exchange(alloc, &mut second)));
-    assert!(rt; is_reply(&exchange(alloc, &mut first)));
+    let (mut first, mut second) = GateDialer::pair(&rt, rt.alloc())?;
+    expect_held(&rt, rt.alloc(), &mut first, &mut second);
     Ok(())
+}
+
+fn expect_waits<R: Abort, S: Station>(rt: &R, alloc: Global, waits: &mut S, awaited: &mut S) {
+    let early = run(alloc, waits);
+    same(rt, &early, &Err(StationFault::Failed), &"before the second");
+    same(rt, &run(alloc, awaited), &Ok(true), &"the second");
+    same(rt, &run(alloc, waits), &Ok(true), &"behind the second");
 }
 
 #[test]
 fn the_first_station_waits_for_the_second(rt: HostRuntime) -> Result<(), Fail> {
-    let alloc = rt.alloc();
-    let (mut waits, mut awaited) = GateStation::pair(&rt, alloc)?;
-    assert_eq!(rt; run(alloc, &mut waits), Err(StationFault::Failed));
-    assert_eq!(rt; run(alloc, &mut awaited), Ok(true));
-    assert_eq!(rt; run(alloc, &mut waits), Ok(true));
+    let (mut waits, mut awaited) = GateStation::pair(&rt, rt.alloc())?;
+    expect_waits(&rt, rt.alloc(), &mut waits, &mut awaited);
     Ok(())
+}
+
+fn expect_turns<R: Abort, S: Station>(rt: &R, alloc: Global, first: &mut S, second: &mut S) {
+    for turn in 0..2u32 {
+        same(rt, &run(alloc, first), &Ok(true), &("the first", turn));
+        same(rt, &run(alloc, second), &Ok(true), &("the second", turn));
+    }
 }
 
 #[test]
 fn stations_run_one_after_the_other(rt: HostRuntime) -> Result<(), Fail> {
-    let alloc = rt.alloc();
-    let (mut first, mut second) = GateStation::solo(&rt, alloc)?;
-    for _ in 0..2 {
-        assert_eq!(rt; run(alloc, &mut first), Ok(true));
-        assert_eq!(rt; run(alloc, &mut second), Ok(true));
-    }
+    let (mut first, mut second) = GateStation::solo(&rt, rt.alloc())?;
+    expect_turns(&rt, rt.alloc(), &mut first, &mut second);
     Ok(())
 }

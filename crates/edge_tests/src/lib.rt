@@ -14,8 +14,14 @@ mod disk;
 #[cfg(test)]
 mod gates;
 #[cfg(test)]
+mod keepers;
+#[cfg(test)]
+mod same;
+#[cfg(test)]
 mod scripted;
 #[cfg(test)]
 mod sockets;
+#[cfg(test)]
+mod stations;
 #[cfg(test)]
 mod streams;

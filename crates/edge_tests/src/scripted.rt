@@ -1,15 +1,17 @@
 //! Devices in memory, which follow their scripts.
 
 use crate::devices::{keeper_with, numbers};
+use crate::keepers::{Put, expect_puts, fetch_file};
+use crate::same::{same, same_bytes};
 use edge_memory::{
-    LinkScript, LinkScripts, MemClock, MemDialer, MemDoor, MemKeeper, MemLink, MemNeverLink,
-    MemSink, MemSource, MemStation, Moments, Moves, Peers, RanList,
+    LinkScript, LinkScripts, MemClock, MemDialer, MemDoor, MemLink, MemNeverLink, MemSink,
+    MemSource, Moments, Moves, Peers,
 };
 use edge_traits::{
-    Bounds, Clock, Dialer, Door, EdgeFault, FetchFault, Keeper, Link, Sink, Source, Station,
-    StationFault, Stream, is_staged,
+    Clock, Dialer, Door, EdgeFault, Exchange, FetchFault, Keeper, Link, Put as Kept, Sink, Source,
+    Visit,
 };
-use farm_types::{Bytes, Ext, HostName, Ran, Word};
+use farm_types::{Bytes, HostName};
 use std::alloc::{AllocError, Global};
 use std::process::Abort;
 use std::test::Fail;
@@ -38,7 +40,7 @@ fn one_script(alloc: Global) -> Result<LinkScripts, AllocError> {
     Ok(links)
 }
 
-#[derive(Clone, Copy)]
+#[derive(Clone, Copy, Debug)]
 enum Step {
     /// Sends five bytes.
     Send,
@@ -55,7 +57,7 @@ fn play<L: Link>(link: &mut L, step: Step) -> Moved {
 
 fn expect_steps<R: Abort, L: Link>(rt: &R, link: &mut L, steps: &[(Step, Moved)]) {
     for (step, want) in steps {
-        assert_eq!(rt; play(link, *step), *want);
+        same(rt, &play(link, *step), want, step);
     }
 }
 
@@ -82,7 +84,7 @@ const STEPS_WITHOUT_FAULT: &[(Step, Moved)] = &[
 fn links_follow_their_scripts(rt: HostRuntime) -> Result<(), Fail> {
     let mut link = MemLink::new(rt.alloc(), script(rt.alloc())?);
     expect_steps(&rt, &mut link, STEPS);
-    assert_eq!(rt; link.into_sent().as_slice(), b"hell".as_slice());
+    same_bytes(&rt, link.into_sent().as_slice(), b"hell", &"sent");
     Ok(())
 }
 
@@ -111,13 +113,25 @@ fn dial_once<D: Dialer>(alloc: Global, dialer: &mut D, host: &HostName) -> Moved
     sent
 }
 
-fn expect_sent<R: Abort>(rt: &R, alloc: Global, dialer: MemDialer) -> Result<(), Fail> {
-    let exchanges = dialer.into_exchanges().into_items(alloc)?;
-    assert_eq!(rt; exchanges.len(), SENT.len());
-    for (exchange, sent) in exchanges.as_slice().iter().zip(SENT) {
-        assert_eq!(rt; exchange.sent.as_slice(), *sent);
+/// Dials so often, and compares the answers.
+fn expect_dials<R: Abort, D: Dialer>(
+    rt: &R,
+    alloc: Global,
+    dialer: &mut D,
+    all: &[Moved],
+) -> Result<(), Fail> {
+    let host = red(alloc)?;
+    for want in all {
+        same(rt, &dial_once(alloc, dialer, &host), want, &"a dial");
     }
     Ok(())
+}
+
+fn expect_sent<R: Abort>(rt: &R, exchanges: &[Exchange], all: &[&[u8]]) {
+    same(rt, &exchanges.len(), &all.len(), &"exchanges");
+    for (exchange, sent) in exchanges.iter().zip(all) {
+        same_bytes(rt, exchange.sent.as_slice(), sent, &"sent");
+    }
 }
 
 /// What three dials answer, and what was sent over each.
@@ -128,16 +142,20 @@ const SENT: &[&[u8]] = &[b"hell", b"", b"hello"];
 #[test]
 fn dials(rt: HostRuntime) -> Result<(), Fail> {
     let mut dialer = dialer(rt.alloc())?;
-    let host = red(rt.alloc())?;
-    for want in DIALS {
-        assert_eq!(rt; dial_once(rt.alloc(), &mut dialer, &host), *want);
-    }
-    expect_sent(&rt, rt.alloc(), dialer)
+    expect_dials(&rt, rt.alloc(), &mut dialer, DIALS)?;
+    let exchanges = dialer.into_exchanges().into_items(rt.alloc())?;
+    expect_sent(&rt, exchanges.as_slice(), SENT);
+    Ok(())
+}
+
+fn one_peer(alloc: Global) -> Result<Peers, AllocError> {
+    let mut peers = Peers::new(alloc);
+    peers.try_push(7)?;
+    Ok(peers)
 }
 
 fn door(alloc: Global) -> Result<MemDoor, AllocError> {
-    let mut peers = Peers::new(alloc);
-    peers.try_push(7)?;
+    let peers = one_peer(alloc)?;
     Ok(MemDoor::new(alloc, one_script(alloc)?, peers, numbers(alloc, &[2])?))
 }
 
@@ -150,13 +168,22 @@ fn accept_once<D: Door>(alloc: Global, door: &mut D) -> Result<u32, EdgeFault> {
     Ok(peer)
 }
 
-fn expect_given<R: Abort>(rt: &R, alloc: Global, door: MemDoor) -> Result<(), Fail> {
-    let visits = door.into_visits().into_items(alloc)?;
-    assert_eq!(rt; visits.len(), GIVEN.len());
-    for (visit, given) in visits.as_slice().iter().zip(GIVEN) {
-        assert_eq!(rt; visit.given.as_slice(), *given);
+fn expect_accepts<R: Abort, D: Door>(
+    rt: &R,
+    alloc: Global,
+    door: &mut D,
+    all: &[Result<u32, EdgeFault>],
+) {
+    for want in all {
+        same(rt, &accept_once(alloc, door), want, &"an accept");
     }
-    Ok(())
+}
+
+fn expect_given<R: Abort>(rt: &R, visits: &[Visit], all: &[&[u8]]) {
+    same(rt, &visits.len(), &all.len(), &"visits");
+    for (visit, given) in visits.iter().zip(all) {
+        same_bytes(rt, visit.given.as_slice(), given, &"given");
+    }
 }
 
 /// What three accepts answer, and what was given over the links that there were.
@@ -167,117 +194,10 @@ const GIVEN: &[&[u8]] = &[b"abc", b""];
 #[test]
 fn accepts(rt: HostRuntime) -> Result<(), Fail> {
     let mut door = door(rt.alloc())?;
-    for want in ACCEPTS {
-        assert_eq!(rt; accept_once(rt.alloc(), &mut door), *want);
-    }
-    expect_given(&rt, rt.alloc(), door)
-}
-
-fn rans(alloc: Global, all: &[(u32, &[u8], &[u8])]) -> Result<RanList, AllocError> {
-    let mut rans = RanList::new(alloc);
-    for (status, out, object) in all {
-        rans.try_push(Ran {
-            status: *status,
-            out: Bytes::from_slice(alloc, out)?,
-            err: Bytes::new(alloc),
-            object: Bytes::from_slice(alloc, object)?,
-        })?;
-    }
-    Ok(rans)
-}
-
-fn station(
-    alloc: Global,
-    all: &[(u32, &[u8], &[u8])],
-    fails: &[u64],
-) -> Result<MemStation, AllocError> {
-    Ok(MemStation::new(rans(alloc, all)?, numbers(alloc, fails)?))
-}
-
-fn status_of<S: Station>(alloc: Global, station: &mut S, out: u32) -> Result<u32, StationFault> {
-    let words = [Word::Output];
-    let bounds = Bounds {
-        out,
-        err: 0,
-        object: 0,
-    };
-    let ran = station.run(alloc, &words, b"int a;", &bounds)?;
-    Ok(ran.status)
-}
-
-fn expect_statuses<R: Abort>(rt: &R, alloc: Global, station: MemStation) -> Result<(), Fail> {
-    let runs = station.into_runs().into_items(alloc)?;
-    assert_eq!(rt; runs.len(), STATUSES.len());
-    for (run, status) in runs.as_slice().iter().zip(STATUSES) {
-        assert_eq!(rt; run.ran.status, *status);
-    }
+    expect_accepts(&rt, rt.alloc(), &mut door, ACCEPTS);
+    let visits = door.into_visits().into_items(rt.alloc())?;
+    expect_given(&rt, visits.as_slice(), GIVEN);
     Ok(())
-}
-
-/// The bound of each run's output, and what its call answers.
-const RUNS: &[(u32, Result<u32, StationFault>)] = &[
-    (3, Ok(256)),
-    (3, Err(StationFault::Failed)),
-    (
-        2,
-        Err(StationFault::TooMuch {
-            stream: Stream::Out,
-            bytes: 3,
-        }),
-    ),
-    (0, Ok(0)),
-];
-
-/// The statuses of the runs that went well.
-const STATUSES: &[u32] = &[256, 0];
-
-#[test]
-fn stations_give_their_runs(rt: HostRuntime) -> Result<(), Fail> {
-    let left: [(u32, &[u8], &[u8]); 2] = [(256, b"out", b""), (512, b"out", b"")];
-    let mut station = station(rt.alloc(), &left, &[2])?;
-    for (out, want) in RUNS {
-        assert_eq!(rt; status_of(rt.alloc(), &mut station, *out), *want);
-    }
-    expect_statuses(&rt, rt.alloc(), station)
-}
-
-fn object_of<S: Station>(
-    alloc: Global,
-    station: &mut S,
-    word: Word,
-) -> Result<Bytes, StationFault> {
-    let words = [word];
-    let bounds = Bounds {
-        out: 0,
-        err: 0,
-        object: 3,
-    };
-    let ran = station.run(alloc, &words, b"", &bounds)?;
-    Ok(ran.object)
-}
-
-#[test]
-fn an_object_has_its_word(rt: HostRuntime) -> Result<(), Fail> {
-    let left: [(u32, &[u8], &[u8]); 2] = [(0, b"", b"obj"), (0, b"", b"obj")];
-    let mut station = station(rt.alloc(), &left, &[])?;
-    let object = object_of(rt.alloc(), &mut station, Word::Output)?;
-    assert_eq!(rt; object.as_slice(), b"obj".as_slice());
-    let none = object_of(rt.alloc(), &mut station, Word::Input(Ext::I))?;
-    assert!(rt; none.is_empty());
-    Ok(())
-}
-
-fn put_file<K: Keeper>(
-    alloc: Global,
-    keeper: &mut K,
-    name: &[u8],
-    bytes: &[u8],
-) -> Result<(), EdgeFault> {
-    let path = Bytes::from_slice(alloc, name)?;
-    if keeper.is_pending() || is_staged(path.as_slice()) {
-        return Ok(());
-    }
-    keeper.put(alloc, &path, bytes)
 }
 
 fn fetched_len<K: Keeper>(
@@ -286,28 +206,33 @@ fn fetched_len<K: Keeper>(
     name: &[u8],
     bound: u32,
 ) -> Result<usize, FetchFault> {
-    let path = Bytes::from_slice(alloc, name)?;
-    if keeper.is_pending() || is_staged(path.as_slice()) {
-        return Ok(0);
-    }
-    let bytes = keeper.fetch(alloc, &path, bound)?;
+    let bytes = fetch_file(alloc, keeper, name, bound)?;
     Ok(bytes.len())
 }
 
-fn expect_puts<R: Abort>(rt: &R, alloc: Global, keeper: MemKeeper) -> Result<(), Fail> {
-    let puts = keeper.into_puts().into_items(alloc)?;
-    assert_eq!(rt; puts.len(), 1);
-    for put in puts.as_slice() {
-        assert_eq!(rt; put.bytes.as_slice(), b"new!".as_slice());
+/// The name and the bound of a fetch, and how many bytes it answers.
+type Fetched = (&'static [u8], u32, Result<usize, FetchFault>);
+
+fn expect_lengths<R: Abort, K: Keeper>(rt: &R, alloc: Global, keeper: &mut K, all: &[Fetched]) {
+    for (name, bound, want) in all {
+        same(rt, &fetched_len(alloc, keeper, name, *bound), want, name);
     }
-    Ok(())
 }
 
-/// What is put under `x.o`, and what the put answers.
-const PUTS: &[(&[u8], Result<(), EdgeFault>)] = &[(b"new!", Ok(())), (b"", Err(EdgeFault::Failed))];
+/// One put was made, of these bytes.
+fn expect_one_put<R: Abort>(rt: &R, puts: &[Kept], bytes: &[u8]) {
+    same(rt, &puts.len(), &1, &"puts");
+    for put in puts {
+        same_bytes(rt, put.bytes.as_slice(), bytes, &"a put");
+    }
+}
 
-/// The name and the bound of each fetch, and how many bytes it answers.
-const FETCHES: &[(&[u8], u32, Result<usize, FetchFault>)] = &[
+const PUTS: &[Put] = &[
+    (b"x.o", b"new!", Ok(())),
+    (b"x.o", b"", Err(EdgeFault::Failed)),
+];
+
+const FETCHES: &[Fetched] = &[
     (b"x.o", 4, Ok(4)),
     (b"x.o", 3, Err(FetchFault::TooMuch { bytes: 4 })),
     (b"y.o", 4, Err(FetchFault::Absent)),
@@ -316,13 +241,11 @@ const FETCHES: &[(&[u8], u32, Result<usize, FetchFault>)] = &[
 #[test]
 fn keepers_keep_files(rt: HostRuntime) -> Result<(), Fail> {
     let mut keeper = keeper_with(rt.alloc(), &[4])?;
-    for (bytes, want) in PUTS {
-        assert_eq!(rt; put_file(rt.alloc(), &mut keeper, b"x.o", bytes), *want);
-    }
-    for (name, bound, want) in FETCHES {
-        assert_eq!(rt; fetched_len(rt.alloc(), &mut keeper, name, *bound), *want);
-    }
-    expect_puts(&rt, rt.alloc(), keeper)
+    expect_puts(&rt, rt.alloc(), &mut keeper, PUTS);
+    expect_lengths(&rt, rt.alloc(), &mut keeper, FETCHES);
+    let puts = keeper.into_puts().into_items(rt.alloc())?;
+    expect_one_put(&rt, puts.as_slice(), b"new!");
+    Ok(())
 }
 
 fn next_moment<C: Clock>(clock: &mut C) -> u64 {
@@ -330,15 +253,24 @@ fn next_moment<C: Clock>(clock: &mut C) -> u64 {
     clock.now()
 }
 
+fn moments(alloc: Global, all: &[u64]) -> Result<Moments, AllocError> {
+    let mut moments = Moments::new(alloc);
+    for moment in all {
+        moments.try_push(*moment)?;
+    }
+    Ok(moments)
+}
+
+fn expect_moments<R: Abort, C: Clock>(rt: &R, clock: &mut C, all: &[u64]) {
+    for want in all {
+        same(rt, &next_moment(clock), want, &"a moment");
+    }
+}
+
 #[test]
 fn clocks_give_their_moments(rt: HostRuntime) -> Result<(), Fail> {
-    let mut moments = Moments::new(rt.alloc());
-    moments.try_push(5)?;
-    moments.try_push(7)?;
-    let mut clock = MemClock::new(moments);
-    for want in [5, 7, 7] {
-        assert_eq!(rt; next_moment(&mut clock), want);
-    }
+    let mut clock = MemClock::new(moments(rt.alloc(), &[5, 7])?);
+    expect_moments(&rt, &mut clock, &[5, 7, 7]);
     Ok(())
 }
 
@@ -353,12 +285,16 @@ fn read_three<S: Source>(source: &mut S) -> Moved {
 
 const READS: &[Moved] = &[Ok(2), Err(EdgeFault::Failed), Ok(1), Ok(0)];
 
+fn expect_reads<R: Abort, S: Source>(rt: &R, source: &mut S, all: &[Moved]) {
+    for want in all {
+        same(rt, &read_three(source), want, &"a read");
+    }
+}
+
 #[test]
 fn sources_give_their_bytes(rt: HostRuntime) -> Result<(), Fail> {
     let mut source = source(rt.alloc())?;
-    for want in READS {
-        assert_eq!(rt; read_three(&mut source), *want);
-    }
+    expect_reads(&rt, &mut source, READS);
     Ok(())
 }
 
@@ -368,12 +304,16 @@ fn write_hello<S: Sink>(sink: &mut S) -> Moved {
 
 const WRITES: &[Moved] = &[Ok(4), Ok(0), Err(EdgeFault::Failed), Ok(4)];
 
+fn expect_writes<R: Abort, S: Sink>(rt: &R, sink: &mut S, all: &[Moved]) {
+    for want in all {
+        same(rt, &write_hello(sink), want, &"a write");
+    }
+}
+
 #[test]
 fn sinks_keep_what_they_take(rt: HostRuntime) -> Result<(), Fail> {
     let mut sink = MemSink::new(rt.alloc(), moves(rt.alloc())?);
-    for want in WRITES {
-        assert_eq!(rt; write_hello(&mut sink), *want);
-    }
-    assert_eq!(rt; sink.written(), b"hellhell".as_slice());
+    expect_writes(&rt, &mut sink, WRITES);
+    same_bytes(&rt, sink.written(), b"hellhell", &"written");
     Ok(())
 }
