@@ -1,6 +1,8 @@
 //! Tests of the sample language, its compiler, its linker, the compiler as a station, the program `scc`, and the generated workload.
 #![tactic(auto)]
 
+#[cfg(test)]
+mod calls;
 pub mod devices;
 pub mod files;
 #[cfg(test)]
@@ -13,6 +15,8 @@ mod loads;
 mod programs;
 #[cfg(test)]
 mod runs;
+#[cfg(test)]
+mod same;
 #[cfg(test)]
 mod sources;
 #[cfg(test)]

@@ -4,27 +4,15 @@ ghost use Rattle.std.specs.Prelude.{IfOk};
 ghost use Rattle.edge_memory.specs.Keepers.{keeper_state, keeper_shows};
 ghost use Rattle.edge_traits.specs.Keepers.{IsIdle};
 
-use crate::devices::{GOOD, keeper_of, sink_of};
-use crate::files::{Listed, files_of, put};
-use crate::programs::strings;
-use edge_memory::{MemKeeper, MemSink};
-use edge_traits::Put;
+use crate::calls::{PLAIN, Row, expect_calls, status_of, strings};
+use crate::files::{Listed, put};
+use crate::same::same;
+use edge_memory::MemKeeper;
 use farm_types::Items;
-use sample_program::scc;
+use file_map::FileMap;
 use std::alloc::{AllocError, Global};
 use std::process::Abort;
 use std::test::Fail;
-
-// Files, words, which calls of the keeper fail, and what is answered, printed and put.
-#[derive(Clone, Copy)]
-struct Row {
-    words: &'static [&'static str],
-    fails: &'static [u64],
-    status: u8,
-    out: &'static [u8],
-    err: &'static [u8],
-    put: Option<(&'static [u8], &'static [u8])>,
-}
 
 const FILES: Listed = &[
     (b"a.o", b"SCO1\nneed b\ndef main @b 2 @b + *\n"),
@@ -42,13 +30,9 @@ const FILES: Listed = &[
     (b"--run", b"SCO1\ndef b 3\n"),
 ];
 
-const PLAIN: Row = Row {
+const RUN: Row = Row {
     words: &["--run", "p"],
-    fails: &[],
-    status: 0,
-    out: b"",
-    err: b"",
-    put: None,
+    ..PLAIN
 };
 
 const BAD: Row = Row {
@@ -62,13 +46,13 @@ const FAULT: Row = Row { status: 1, ..PLAIN };
 const FAILED: Row = Row {
     status: 107,
     err: b"scc: file fault\n",
-    ..PLAIN
+    ..RUN
 };
 
 const ROWS: &[Row] = &[
     Row {
         out: b"15\n",
-        ..PLAIN
+        ..RUN
     },
     Row {
         words: &["--run", "low"],
@@ -200,86 +184,66 @@ const ROWS: &[Row] = &[
     },
 ];
 
-// What a call answered, printed and put.
-#[derive(Drop)]
-struct Done {
-    status: u8,
-    out: MemSink,
-    err: MemSink,
-    puts: Items<Put>,
-}
-
-fn call(alloc: Global, words: &[String], keeper: MemKeeper) -> Result<Done, AllocError>
-    requires { IsIdle (keeper_shows (keeper_state keeper)) }
-{
-    let mut keeper = keeper;
-    let mut out = sink_of(alloc, GOOD)?;
-    let mut err = sink_of(alloc, GOOD)?;
-    let status = scc(alloc, words, &mut keeper, &mut out, &mut err);
-    let puts = keeper.into_puts().into_items(alloc)?;
-    Ok(Done {
-        status,
-        out,
-        err,
-        puts,
-    })
-}
-
-fn compare(rt: &impl Abort, done: &Done, row: &Row) {
-    assert_eq!(rt; done.status, row.status);
-    assert_eq!(rt; done.out.written(), row.out);
-    assert_eq!(rt; done.err.written(), row.err);
-    assert_eq!(rt;
-        done.puts.get(0).map(|put| put.path.as_slice()),
-        row.put.map(|put| put.0)
-    );
-    assert_eq!(rt;
-        done.puts.get(0).map(|put| put.bytes.as_slice()),
-        row.put.map(|put| put.1)
-    );
-    assert!(rt; done.puts.len() < 2);
-}
-
 #[test]
 fn rows_of_link_and_run(rt: HostRuntime) -> Result<(), Fail> {
-    let alloc = rt.alloc();
-    for row in ROWS {
-        let words = strings(alloc, row.words)?;
-        let keeper = keeper_of(alloc, FILES, row.fails)?;
-        let done = call(alloc, words.as_slice(), keeper)?;
-        compare(&rt, &done, row);
-    }
+    expect_calls(&rt, rt.alloc(), FILES, ROWS)
+}
+
+// An object of this number, and the word that names it.
+fn add_object(
+    alloc: Global,
+    files: &mut FileMap,
+    words: &mut Vec<String>,
+    number: u32,
+) -> Result<(), AllocError> {
+    let name = format!(in alloc; "o{number}")?;
+    let content = format!(in alloc; "SCO1\ndef n{number} {number}\n")?;
+    put(alloc, files, name.as_bytes(), content.as_bytes())?;
+    words.push(name)?;
     Ok(())
 }
 
-// Words that link so many objects, the files of 512 of them, and what is answered.
-fn link_many(alloc: Global, count: u32) -> Result<Done, AllocError> {
-    let mut files = files_of(alloc, &[])?;
-    let mut words = strings(alloc, &["--link"])?;
-    for k in 0..count {
-        let name = format!(in alloc; "o{k}")?;
-        let content = format!(in alloc; "SCO1\ndef n{k} {k}\n")?;
-        put(alloc, &mut files, name.as_bytes(), content.as_bytes())?;
-        words.push(name)?;
+// Words that link so many objects, which are put among the files.
+fn add_objects(
+    alloc: Global,
+    files: &mut FileMap,
+    words: &mut Vec<String>,
+    count: u32,
+) -> Result<(), AllocError> {
+    for number in 0..count {
+        add_object(alloc, files, words, number)?;
     }
     for word in ["-o", "p"] {
         words.push(String::from_str(alloc, word)?)?;
     }
-    call(
-        alloc,
-        words.as_slice(),
-        MemKeeper::new(files, Items::new(alloc)),
-    )
+    Ok(())
+}
+
+// A keeper of so many objects, and the words that link them.
+fn many_objects(alloc: Global, count: u32) -> Result<(MemKeeper, Vec<String>), AllocError>
+    ensures { IfOk result (λ made. IsIdle (keeper_shows (keeper_state made.0))) }
+{
+    let mut files = FileMap::new(alloc);
+    let mut words = strings(alloc, &["--link"])?;
+    add_objects(alloc, &mut files, &mut words, count)?;
+    Ok((MemKeeper::new(files, Items::new(alloc)), words))
+}
+
+// The status where so many objects are linked, and how many puts were made.
+fn link_many(alloc: Global, count: u32) -> Result<(u8, usize), AllocError> {
+    let (mut keeper, words) = many_objects(alloc, count)?;
+    let status = status_of(alloc, words.as_slice(), &mut keeper)?;
+    let puts = keeper.into_puts().into_items(alloc)?;
+    Ok((status, puts.len()))
+}
+
+fn expect_many<R: Abort>(rt: &R, alloc: Global) -> Result<(), Fail> {
+    same(rt, &link_many(alloc, 512)?, &(0, 1), &512);
+    same(rt, &link_many(alloc, 513)?, &(2, 0), &513);
+    Ok(())
 }
 
 #[test]
 fn many_objects_link(rt: HostRuntime) -> Result<(), Fail> {
-    let alloc = rt.alloc();
-    let most = link_many(alloc, 512)?;
-    assert_eq!(rt; most.status, 0);
-    assert_eq!(rt; most.puts.len(), 1);
-    let more = link_many(alloc, 513)?;
-    assert_eq!(rt; more.status, 2);
-    assert_eq!(rt; more.puts.len(), 0);
-    Ok(())
+    expect_many(&rt, rt.alloc())
 }

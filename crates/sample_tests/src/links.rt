@@ -1,81 +1,105 @@
 //! Rows of sources and of objects, with what linking and running them gives.
 
+use crate::same::same_bytes;
 use farm_types::{Bytes, Words};
 use sample_compiler::object_of;
 use sample_lang::{Parsed, parse};
 use sample_linker::{LinkFault, Linked, RunFault, Value, link, run};
 use std::alloc::{AllocError, Global};
+use std::process::Abort;
 use std::test::Fail;
 
-// The object of a source.
-fn object_text(alloc: Global, source: &[u8]) -> Result<Bytes, AllocError> {
-    let source = Bytes::from_slice(alloc, source)?;
-    match parse(alloc, &source) {
+fn parsed_object(alloc: Global, parsed: &Parsed) -> Result<Bytes, AllocError> {
+    match parsed {
         Parsed::Program(items) => object_of(alloc, items.as_slice()),
         Parsed::Fault { .. } => Bytes::from_slice(alloc, b"no source"),
         Parsed::Memory => Bytes::from_slice(alloc, b"no memory"),
     }
 }
 
-// A text with a name behind it.
-fn named(alloc: Global, text: &[u8], name: &Bytes) -> Result<Bytes, AllocError> {
-    let mut all = Bytes::from_slice(alloc, text)?;
-    all.try_extend(name.as_slice())?;
-    Ok(all)
+// The object of a source.
+fn object_text(alloc: Global, source: &[u8]) -> Result<Bytes, AllocError> {
+    let source = Bytes::from_slice(alloc, source)?;
+    parsed_object(alloc, &parse(alloc, &source))
 }
 
-fn circle_text(alloc: Global, names: &Words) -> Result<Bytes, AllocError> {
-    let mut all = Bytes::from_slice(alloc, b"circular")?;
+// A text, and a number behind it.
+fn put_numbered(
+    alloc: Global,
+    all: &mut Bytes,
+    text: &[u8],
+    number: u64,
+) -> Result<(), AllocError> {
+    all.try_extend(text)?;
+    let digits = format!(in alloc; "{number}")?;
+    all.try_extend(digits.as_bytes())
+}
+
+// A text, and a name behind it.
+fn put_named(all: &mut Bytes, text: &[u8], name: &Bytes) -> Result<(), AllocError> {
+    all.try_extend(text)?;
+    all.try_extend(name.as_slice())
+}
+
+fn put_circle(all: &mut Bytes, names: &Words) -> Result<(), AllocError> {
+    all.try_extend(b"circular")?;
     for name in names.as_slice() {
-        all.try_push(b' ')?;
-        all.try_extend(name.as_slice())?;
+        put_named(all, b" ", name)?;
     }
-    Ok(all)
+    Ok(())
 }
 
-fn fault_text(alloc: Global, fault: &LinkFault) -> Result<Bytes, AllocError> {
+fn put_fault(alloc: Global, all: &mut Bytes, fault: &LinkFault) -> Result<(), AllocError> {
     match fault {
         LinkFault::BadObject { file, line } => {
-            let text = format!(in alloc; "bad object {file} line {line}")?;
-            Bytes::from_slice(alloc, text.as_bytes())
+            put_numbered(alloc, all, b"bad object ", *file)?;
+            put_numbered(alloc, all, b" line ", *line)
         }
-        LinkFault::Doubled { name } => named(alloc, b"doubled ", name),
-        LinkFault::Unresolved { name } => named(alloc, b"unresolved ", name),
-        LinkFault::Circular { names } => circle_text(alloc, names),
+        LinkFault::Doubled { name } => put_named(all, b"doubled ", name),
+        LinkFault::Unresolved { name } => put_named(all, b"unresolved ", name),
+        LinkFault::Circular { names } => put_circle(all, names),
+    }
+}
+
+fn put_value(alloc: Global, all: &mut Bytes, value: Value) -> Result<(), AllocError> {
+    match value {
+        Value::Number(number) => put_numbered(alloc, all, b"", number),
+        Value::Fault(RunFault::NoMain) => all.try_extend(b"no main"),
+        Value::Fault(RunFault::BadImage { line }) => put_numbered(alloc, all, b"bad image ", line),
+        Value::Memory => all.try_extend(b"no memory"),
+    }
+}
+
+fn put_linked(alloc: Global, all: &mut Bytes, linked: &Linked) -> Result<(), AllocError> {
+    match linked {
+        Linked::Image(image) => {
+            all.try_extend(image.as_slice())?;
+            put_value(alloc, all, run(alloc, image))
+        }
+        Linked::Fault(fault) => put_fault(alloc, all, fault),
+        Linked::Memory => all.try_extend(b"no memory"),
     }
 }
 
 // What linking gives, and a value of its image.
 fn link_text(alloc: Global, objects: &Words) -> Result<Bytes, AllocError> {
-    match link(alloc, objects) {
-        Linked::Image(image) => {
-            let value = value_text(alloc, &image)?;
-            let mut all = image;
-            all.try_extend(value.as_slice())?;
-            Ok(all)
-        }
-        Linked::Fault(fault) => fault_text(alloc, &fault),
-        Linked::Memory => Bytes::from_slice(alloc, b"no memory"),
-    }
+    let mut all = Bytes::new(alloc);
+    put_linked(alloc, &mut all, &link(alloc, objects))?;
+    Ok(all)
 }
 
-fn value_text(alloc: Global, image: &Bytes) -> Result<Bytes, AllocError> {
-    match run(alloc, image) {
-        Value::Number(number) => {
-            let text = format!(in alloc; "{number}")?;
-            Bytes::from_slice(alloc, text.as_bytes())
-        }
-        Value::Fault(RunFault::NoMain) => Bytes::from_slice(alloc, b"no main"),
-        Value::Fault(RunFault::BadImage { line }) => {
-            let text = format!(in alloc; "bad image {line}")?;
-            Bytes::from_slice(alloc, text.as_bytes())
-        }
-        Value::Memory => Bytes::from_slice(alloc, b"no memory"),
-    }
+fn value_text(alloc: Global, image: &[u8]) -> Result<Bytes, AllocError> {
+    let image = Bytes::from_slice(alloc, image)?;
+    let mut all = Bytes::new(alloc);
+    put_value(alloc, &mut all, run(alloc, &image))?;
+    Ok(all)
 }
+
+// Several texts, and what linking gives.
+type Linking = (&'static [&'static [u8]], &'static [u8]);
 
 // Sources, and what linking their objects gives, with the value of the image behind it.
-const SOURCES: &[(&[&[u8]], &[u8])] = &[
+const SOURCES: &[Linking] = &[
     (
         &[b"extern int b; int main = b*(2+b);\n", b"int b = 3;\n"],
         b"SCP1\ndef b 3\ndef main @b 2 @b + *\n15",
@@ -150,7 +174,7 @@ const SOURCES: &[(&[&[u8]], &[u8])] = &[
 ];
 
 // Objects, and what linking them gives.
-const OBJECTS: &[(&[&[u8]], &[u8])] = &[
+const OBJECTS: &[Linking] = &[
     (&[b""], b"bad object 1 line 1"),
     (&[b"SCO1"], b"bad object 1 line 1"),
     (&[b"SCO1\n", b"SCP1\n"], b"bad object 2 line 1"),
@@ -186,8 +210,10 @@ const OBJECTS: &[(&[&[u8]], &[u8])] = &[
     ),
 ];
 
-// Images, and their values.
-const IMAGES: &[(&[u8], &[u8])] = &[
+// An image, and its value.
+type Image = (&'static [u8], &'static [u8]);
+
+const IMAGES: &[Image] = &[
     (b"", b"bad image 1"),
     (b"SCO1\n", b"bad image 1"),
     (b"SCP1\n", b"no main"),
@@ -201,41 +227,66 @@ const IMAGES: &[(&[u8], &[u8])] = &[
     ),
 ];
 
+fn compiled(alloc: Global, sources: &[&[u8]]) -> Result<Words, AllocError> {
+    let mut objects = Words::new(alloc);
+    for source in sources {
+        objects.try_push(object_text(alloc, source)?)?;
+    }
+    Ok(objects)
+}
+
+fn objects_of(alloc: Global, texts: &[&[u8]]) -> Result<Words, AllocError> {
+    let mut objects = Words::new(alloc);
+    for text in texts {
+        objects.try_push(Bytes::from_slice(alloc, text)?)?;
+    }
+    Ok(objects)
+}
+
+fn expect_link<R: Abort>(
+    rt: &R,
+    alloc: Global,
+    objects: &Words,
+    row: &Linking,
+) -> Result<(), Fail> {
+    let text = link_text(alloc, objects)?;
+    same_bytes(rt, text.as_slice(), row.1, &row.0);
+    Ok(())
+}
+
+fn expect_sources<R: Abort>(rt: &R, alloc: Global, rows: &[Linking]) -> Result<(), Fail> {
+    for row in rows {
+        expect_link(rt, alloc, &compiled(alloc, row.0)?, row)?;
+    }
+    Ok(())
+}
+
 #[test]
 fn sources_link(rt: HostRuntime) -> Result<(), Fail> {
-    let alloc = rt.alloc();
-    for row in SOURCES {
-        let mut objects = Words::new(alloc);
-        for source in row.0 {
-            objects.try_push(object_text(alloc, *source)?)?;
-        }
-        let text = link_text(alloc, &objects)?;
-        assert_eq!(rt; text.as_slice(), row.1);
+    expect_sources(&rt, rt.alloc(), SOURCES)
+}
+
+fn expect_objects<R: Abort>(rt: &R, alloc: Global, rows: &[Linking]) -> Result<(), Fail> {
+    for row in rows {
+        expect_link(rt, alloc, &objects_of(alloc, row.0)?, row)?;
     }
     Ok(())
 }
 
 #[test]
 fn objects_link(rt: HostRuntime) -> Result<(), Fail> {
-    let alloc = rt.alloc();
-    for row in OBJECTS {
-        let mut objects = Words::new(alloc);
-        for object in row.0 {
-            objects.try_push(Bytes::from_slice(alloc, *object)?)?;
-        }
-        let text = link_text(alloc, &objects)?;
-        assert_eq!(rt; text.as_slice(), row.1);
+    expect_objects(&rt, rt.alloc(), OBJECTS)
+}
+
+fn expect_values<R: Abort>(rt: &R, alloc: Global, rows: &[Image]) -> Result<(), Fail> {
+    for (image, value) in rows {
+        let text = value_text(alloc, image)?;
+        same_bytes(rt, text.as_slice(), value, image);
     }
     Ok(())
 }
 
 #[test]
 fn images_run(rt: HostRuntime) -> Result<(), Fail> {
-    let alloc = rt.alloc();
-    for row in IMAGES {
-        let image = Bytes::from_slice(alloc, row.0)?;
-        let text = value_text(alloc, &image)?;
-        assert_eq!(rt; text.as_slice(), row.1);
-    }
-    Ok(())
+    expect_values(&rt, rt.alloc(), IMAGES)
 }

@@ -1,12 +1,16 @@
 //! Jobs of the workload, with their sources.
 
+use crate::same::{same, same_bytes};
 use farm_types::{Bytes, Words};
 use std::alloc::Global;
+use std::process::Abort;
 use std::test::Fail;
 use workload::{Load, make};
 
 // The number of jobs, the place of one of them, its words with a blank behind each, and its source.
-const LOADS: &[(u32, usize, &[u8], &[u8])] = &[
+type Row = (u32, usize, &'static [u8], &'static [u8]);
+
+const LOADS: &[Row] = &[
     (1, 0, b"scc -c j1.c -o j1.o ", b"int j1 = 496 * 7 + 1;\n"),
     (2, 0, b"scc -c j1.c -o j1.o ", b"int j1 = 521 * 7 + 1;\n"),
     (2, 1, b"scc -c j2.c -o j2.o ", b"int j2 = 144 * 7 + 2;\n"),
@@ -52,15 +56,23 @@ fn source_of<'a>(load: &'a Load, words: &Words) -> Result<&'a Bytes, Fail> {
     }
 }
 
-#[test]
-fn jobs_and_sources(rt: HostRuntime) -> Result<(), Fail> {
-    let alloc = rt.alloc();
-    for (n, at, line, source) in LOADS {
-        let load = load_of(alloc, *n)?;
-        assert_eq!(rt; load.jobs.len(), *n as usize);
-        let words = words_of(&load, *at)?;
-        assert_eq!(rt; line_of(alloc, words)?.as_slice(), *line);
-        assert_eq!(rt; source_of(&load, words)?.as_slice(), *source);
+fn expect_job<R: Abort>(rt: &R, alloc: Global, load: &Load, row: &Row) -> Result<(), Fail> {
+    let words = words_of(load, row.1)?;
+    let line = line_of(alloc, words)?;
+    same(rt, &load.jobs.len(), &(row.0 as usize), &row.1);
+    same_bytes(rt, line.as_slice(), row.2, &row.1);
+    same_bytes(rt, source_of(load, words)?.as_slice(), row.3, &row.1);
+    Ok(())
+}
+
+fn expect_jobs<R: Abort>(rt: &R, alloc: Global, rows: &[Row]) -> Result<(), Fail> {
+    for row in rows {
+        expect_job(rt, alloc, &load_of(alloc, row.0)?, row)?;
     }
     Ok(())
+}
+
+#[test]
+fn jobs_and_sources(rt: HostRuntime) -> Result<(), Fail> {
+    expect_jobs(&rt, rt.alloc(), LOADS)
 }

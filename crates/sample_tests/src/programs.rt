@@ -1,13 +1,7 @@
 //! Rows of the program `scc`.
 
-use crate::devices::{GOOD, Writes, keeper_of, sink_of};
+use crate::calls::{PLAIN, Row, expect_calls};
 use crate::files::Listed;
-use edge_memory::MemSink;
-use edge_traits::Put;
-use farm_types::Items;
-use sample_program::scc;
-use std::alloc::{AllocError, Global};
-use std::process::Abort;
 use std::test::Fail;
 
 const FILES: Listed = &[
@@ -16,59 +10,39 @@ const FILES: Listed = &[
     (b"x.c", b"#define N 3\nint a = N;\n"),
 ];
 
-// One call: its words, which calls of the keeper fail, and of each sink which writes fail and which take nothing; and what
-// it answers, prints and puts.
-#[derive(Clone, Copy)]
-struct Row {
-    words: &'static [&'static str],
-    fails: &'static [u64],
-    out_moves: Writes,
-    err_moves: Writes,
-    status: u8,
-    out: &'static [u8],
-    err: &'static [u8],
-    object: Option<&'static [u8]>,
-}
-
-const PLAIN: Row = Row {
+const COMPILE: Row = Row {
     words: &["-c", "a.c", "-o", "a.o"],
-    fails: &[],
-    out_moves: GOOD,
-    err_moves: GOOD,
-    status: 0,
-    out: b"",
-    err: b"",
-    object: None,
+    ..PLAIN
 };
 
 const ROWS: &[Row] = &[
     Row {
-        object: Some(b"SCO1\ndef a 1\n"),
-        ..PLAIN
+        put: Some((b"a.o", b"SCO1\ndef a 1\n")),
+        ..COMPILE
     },
     Row {
         fails: &[1],
         status: 107,
         err: b"scc: file fault\n",
-        ..PLAIN
+        ..COMPILE
     },
     Row {
         fails: &[2],
         status: 107,
         err: b"scc: file fault\n",
-        ..PLAIN
+        ..COMPILE
     },
     Row {
         fails: &[3],
         status: 107,
         err: b"scc: file fault\n",
-        ..PLAIN
+        ..COMPILE
     },
     Row {
         fails: &[4],
         status: 107,
         err: b"scc: file fault\n",
-        ..PLAIN
+        ..COMPILE
     },
     Row {
         words: &["-c", "z.c"],
@@ -122,7 +96,7 @@ const ROWS: &[Row] = &[
         fails: &[1],
         err_moves: (&[1], &[]),
         status: 100,
-        ..PLAIN
+        ..COMPILE
     },
     Row {
         words: &["--version"],
@@ -137,57 +111,7 @@ const ROWS: &[Row] = &[
     },
 ];
 
-pub fn strings(alloc: Global, list: &[&str]) -> Result<Vec<String>, AllocError> {
-    let mut words = Vec::new(alloc);
-    for word in list {
-        words.push(String::from_str(alloc, word)?)?;
-    }
-    Ok(words)
-}
-
-// What a call answered, printed and put.
-#[derive(Drop)]
-struct Done {
-    status: u8,
-    out: MemSink,
-    err: MemSink,
-    puts: Items<Put>,
-}
-
-fn do_row(alloc: Global, row: &Row) -> Result<Done, AllocError> {
-    let words = strings(alloc, row.words)?;
-    let mut keeper = keeper_of(alloc, FILES, row.fails)?;
-    let mut out = sink_of(alloc, row.out_moves)?;
-    let mut err = sink_of(alloc, row.err_moves)?;
-    let status = scc(alloc, words.as_slice(), &mut keeper, &mut out, &mut err);
-    let puts = keeper.into_puts().into_items(alloc)?;
-    Ok(Done {
-        status,
-        out,
-        err,
-        puts,
-    })
-}
-
-fn compare(rt: &impl Abort, done: &Done, row: &Row) {
-    assert_eq!(rt; done.status, row.status);
-    assert_eq!(rt; done.out.written(), row.out);
-    assert_eq!(rt; done.err.written(), row.err);
-    assert_eq!(rt;
-        done.puts.get(0).map(|put| put.bytes.as_slice()),
-        row.object
-    );
-    assert_eq!(rt;
-        done.puts.get(0).map(|put| put.path.as_slice()),
-        row.object.map(|_| b"a.o".as_slice())
-    );
-    assert!(rt; done.puts.len() < 2);
-}
-
 #[test]
 fn rows(rt: HostRuntime) -> Result<(), Fail> {
-    for row in ROWS {
-        compare(&rt, &do_row(rt.alloc(), row)?, row);
-    }
-    Ok(())
+    expect_calls(&rt, rt.alloc(), FILES, ROWS)
 }

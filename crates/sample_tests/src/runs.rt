@@ -1,10 +1,12 @@
 //! Rows of commands over files, with what the compiler leaves.
 
 use crate::files::{Listed, chain, files_of, words_of};
+use crate::same::{same, same_bytes};
 use farm_types::Ran;
 use file_map::FileMap;
 use sample_compiler::{compile, preprocess};
 use std::alloc::{AllocError, Global};
+use std::fmt::Debug;
 use std::process::Abort;
 use std::test::Fail;
 
@@ -41,7 +43,9 @@ pub type Left = (u32, &'static [u8], &'static [u8], &'static [u8]);
 const BAD: Left = (512, b"", b"scc: bad words\n", b"");
 
 // Words behind the compiler's name, and what they leave.
-const RUNS: &[(&[&str], Left)] = &[
+type Words = &'static [&'static str];
+
+const RUNS: &[(Words, Left)] = &[
     (
         &["-c", "a.c", "-o", "a.o"],
         (0, b"", b"", b"SCO1\ndef a 1\n"),
@@ -105,13 +109,13 @@ const RUNS: &[(&[&str], Left)] = &[
     (&["-c", "a.c", "-D"], BAD),
 ];
 
-/// Compares a run with what is wanted.
-pub fn compare(rt: &impl Abort, ran: &Ran, want: Left) {
+/// Compares a run, in this row, with what is wanted.
+pub fn compare<R: Abort, W: Debug>(rt: &R, ran: &Ran, want: (u32, &[u8], &[u8], &[u8]), row: &W) {
     let (status, out, err, object) = want;
-    assert_eq!(rt; ran.status, status);
-    assert_eq!(rt; ran.out.as_slice(), out);
-    assert_eq!(rt; ran.err.as_slice(), err);
-    assert_eq!(rt; ran.object.as_slice(), object);
+    same(rt, &ran.status, &status, row);
+    same_bytes(rt, ran.out.as_slice(), out, row);
+    same_bytes(rt, ran.err.as_slice(), err, row);
+    same_bytes(rt, ran.object.as_slice(), object, row);
 }
 
 /// What the compiler leaves by these words behind its name.
@@ -125,16 +129,29 @@ fn preprocess_by(alloc: Global, files: &FileMap, list: &[&str]) -> Result<Ran, A
     preprocess(alloc, files, &words)
 }
 
+fn expect_runs<R: Abort>(
+    rt: &R,
+    alloc: Global,
+    files: &FileMap,
+    all: &[(Words, Left)],
+) -> Result<(), Fail> {
+    for (list, want) in all {
+        compare(rt, &compile_by(alloc, files, list)?, *want, list);
+    }
+    Ok(())
+}
+
+fn expect_text<R: Abort>(rt: &R, alloc: Global, files: &FileMap) -> Result<(), Fail> {
+    let text = preprocess_by(alloc, files, &["-c", "x.c"])?;
+    compare(rt, &text, (0, b"int a = 3;\n", b"", b""), &"preprocessed");
+    Ok(())
+}
+
 #[test]
 fn runs(rt: HostRuntime) -> Result<(), Fail> {
-    let alloc = rt.alloc();
-    let files = files_of(alloc, FILES)?;
-    for (list, want) in RUNS {
-        compare(&rt, &compile_by(alloc, &files, list)?, *want);
-    }
-    let text = preprocess_by(alloc, &files, &["-c", "x.c"])?;
-    compare(&rt, &text, (0, b"int a = 3;\n", b"", b""));
-    Ok(())
+    let files = files_of(rt.alloc(), FILES)?;
+    expect_runs(&rt, rt.alloc(), &files, RUNS)?;
+    expect_text(&rt, rt.alloc(), &files)
 }
 
 // How many files stand within one another below the input, and what its text comes to.
@@ -143,11 +160,19 @@ const CHAINS: &[(u32, Left)] = &[
     (17, (256, b"", b"line 1: includes too deep\n", b"")),
 ];
 
-#[test]
-fn includes_within_one_another(rt: HostRuntime) -> Result<(), Fail> {
-    for (count, want) in CHAINS {
-        let files = chain(rt.alloc(), *count)?;
-        compare(&rt, &compile_by(rt.alloc(), &files, &["-E", "c.c"])?, *want);
+fn compile_chain(alloc: Global, count: u32) -> Result<Ran, AllocError> {
+    let files = chain(alloc, count)?;
+    compile_by(alloc, &files, &["-E", "c.c"])
+}
+
+fn expect_chains<R: Abort>(rt: &R, alloc: Global, all: &[(u32, Left)]) -> Result<(), Fail> {
+    for (count, want) in all {
+        compare(rt, &compile_chain(alloc, *count)?, *want, count);
     }
     Ok(())
+}
+
+#[test]
+fn includes_within_one_another(rt: HostRuntime) -> Result<(), Fail> {
+    expect_chains(&rt, rt.alloc(), CHAINS)
 }

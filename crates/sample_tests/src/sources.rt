@@ -1,8 +1,10 @@
 //! Rows of sources, with what they mean or where they are wrong.
 
+use crate::same::same_bytes;
 use farm_types::Bytes;
 use sample_lang::{Item, Parsed, Part, parse};
 use std::alloc::{AllocError, Global};
+use std::process::Abort;
 use std::test::Fail;
 
 // A part of a code, behind a blank.
@@ -22,6 +24,13 @@ fn put_part(alloc: Global, text: &mut Bytes, part: &Part) -> Result<(), AllocErr
     }
 }
 
+fn put_code(alloc: Global, text: &mut Bytes, code: &[Part]) -> Result<(), AllocError> {
+    for part in code {
+        put_part(alloc, text, part)?;
+    }
+    Ok(())
+}
+
 // An item, with `;` behind it.
 fn put_item(alloc: Global, text: &mut Bytes, item: &Item) -> Result<(), AllocError> {
     match item {
@@ -32,9 +41,7 @@ fn put_item(alloc: Global, text: &mut Bytes, item: &Item) -> Result<(), AllocErr
         Item::Def { name, code } => {
             text.try_extend(b"def ")?;
             text.try_extend(name.as_slice())?;
-            for part in code.as_slice() {
-                put_part(alloc, text, part)?;
-            }
+            put_code(alloc, text, code.as_slice())?;
         }
     }
     text.try_push(b';')
@@ -55,17 +62,24 @@ fn fault_text(alloc: Global, line: u64, message: &[u8]) -> Result<Bytes, AllocEr
     Ok(text)
 }
 
-// The items that a source means, or its fault behind the line.
-fn answer_to(alloc: Global, text: &[u8]) -> Result<Bytes, AllocError> {
-    let text = Bytes::from_slice(alloc, text)?;
-    match parse(alloc, &text) {
+fn parsed_text(alloc: Global, parsed: &Parsed) -> Result<Bytes, AllocError> {
+    match parsed {
         Parsed::Program(items) => items_text(alloc, items.as_slice()),
-        Parsed::Fault { line, message } => fault_text(alloc, line, message.as_slice()),
+        Parsed::Fault { line, message } => fault_text(alloc, *line, message.as_slice()),
         Parsed::Memory => Bytes::from_slice(alloc, b"no memory"),
     }
 }
 
-const SOURCES: &[(&[u8], &[u8])] = &[
+// The items that a source means, or its fault behind the line.
+fn answer_to(alloc: Global, text: &[u8]) -> Result<Bytes, AllocError> {
+    let text = Bytes::from_slice(alloc, text)?;
+    parsed_text(alloc, &parse(alloc, &text))
+}
+
+// A source, and the answer to it.
+type Source = (&'static [u8], &'static [u8]);
+
+const SOURCES: &[Source] = &[
     (b"int a = 1;\n", b"def a 1;"),
     (
         b"extern int b; int a = b*(2+b);\n",
@@ -120,13 +134,17 @@ const SOURCES: &[(&[u8], &[u8])] = &[
     (b"int a\n=\n1\n", b"line 4: syntax"),
 ];
 
-#[test]
-fn sources(rt: HostRuntime) -> Result<(), Fail> {
-    for (text, want) in SOURCES {
-        let answer = answer_to(rt.alloc(), text)?;
-        assert_eq!(rt; answer.as_slice(), *want, "{text:?}");
+fn expect_sources<R: Abort>(rt: &R, alloc: Global, all: &[Source]) -> Result<(), Fail> {
+    for (text, want) in all {
+        let answer = answer_to(alloc, text)?;
+        same_bytes(rt, answer.as_slice(), want, text);
     }
     Ok(())
+}
+
+#[test]
+fn sources(rt: HostRuntime) -> Result<(), Fail> {
+    expect_sources(&rt, rt.alloc(), SOURCES)
 }
 
 // A byte, so many times.
@@ -138,19 +156,20 @@ fn put_many(text: &mut Bytes, byte: u8, count: u32) -> Result<(), AllocError> {
 }
 
 // An item whose name has so many bytes, and whose number stands in so many parentheses.
-fn item_of(alloc: Global, len: u32, depth: u32) -> Result<Bytes, AllocError> {
-    let mut text = Bytes::from_slice(alloc, b"int ")?;
-    put_many(&mut text, b'x', len)?;
+fn put_number(text: &mut Bytes, len: u32, depth: u32) -> Result<(), AllocError> {
+    text.try_extend(b"int ")?;
+    put_many(text, b'x', len)?;
     text.try_extend(b" = ")?;
-    put_many(&mut text, b'(', depth)?;
+    put_many(text, b'(', depth)?;
     text.try_push(b'1')?;
-    put_many(&mut text, b')', depth)?;
-    text.try_push(b';')?;
-    Ok(text)
+    put_many(text, b')', depth)?;
+    text.try_push(b';')
 }
 
 // The bytes of a name, the parentheses, and the answer.
-const LIMITS: &[(u32, u32, &[u8])] = &[
+type Limit = (u32, u32, &'static [u8]);
+
+const LIMITS: &[Limit] = &[
     (1, 64, b"def x 1;"),
     (1, 65, b"line 1: syntax"),
     (
@@ -161,12 +180,21 @@ const LIMITS: &[(u32, u32, &[u8])] = &[
     (64, 0, b"line 1: name too long"),
 ];
 
-#[test]
-fn names_and_parentheses_have_limits(rt: HostRuntime) -> Result<(), Fail> {
-    for (len, depth, want) in LIMITS {
-        let text = item_of(rt.alloc(), *len, *depth)?;
-        let answer = answer_to(rt.alloc(), text.as_slice())?;
-        assert_eq!(rt; answer.as_slice(), *want, "{len} {depth}");
+fn answer_at(alloc: Global, len: u32, depth: u32) -> Result<Bytes, AllocError> {
+    let mut text = Bytes::new(alloc);
+    put_number(&mut text, len, depth)?;
+    answer_to(alloc, text.as_slice())
+}
+
+fn expect_limits<R: Abort>(rt: &R, alloc: Global, all: &[Limit]) -> Result<(), Fail> {
+    for (len, depth, want) in all {
+        let answer = answer_at(alloc, *len, *depth)?;
+        same_bytes(rt, answer.as_slice(), want, &(*len, *depth));
     }
     Ok(())
+}
+
+#[test]
+fn names_and_parentheses_have_limits(rt: HostRuntime) -> Result<(), Fail> {
+    expect_limits(&rt, rt.alloc(), LIMITS)
 }

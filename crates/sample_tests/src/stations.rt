@@ -3,11 +3,13 @@
 use crate::devices::keeper_of;
 use crate::files::{files_of, words_of};
 use crate::runs::{FILES, Left, compare, compile_by};
+use crate::same::{holds, same};
 use edge_traits::{Bounds, Station, StationFault, Stream};
 use farm_types::{Bytes, Ext, PlacedWords, Ran, Word};
 use file_map::FileMap;
 use sample_compiler::{LoadFault, SampleStation, load};
 use std::alloc::{AllocError, Global};
+use std::process::Abort;
 use std::test::Fail;
 
 // The files that these words look up.
@@ -23,17 +25,30 @@ fn load_by(
 
 const LOOKED_UP: &[&str] = &["-E", "-Id", "m.c"];
 
+// The keeper's second call fails.
+fn fails_to_load(alloc: Global) -> Result<bool, AllocError> {
+    let loaded = load_by(alloc, LOOKED_UP, &[2])?;
+    Ok(matches!(&loaded, Err(LoadFault::Failed)))
+}
+
+fn has_file(alloc: Global, files: &FileMap, name: &[u8]) -> Result<bool, AllocError> {
+    Ok(files.find(&Bytes::from_slice(alloc, name)?).is_some())
+}
+
+fn expect_loaded<R: Abort>(rt: &R, alloc: Global, files: &FileMap) -> Result<(), Fail> {
+    let ran = compile_by(alloc, files, LOOKED_UP)?;
+    compare(rt, &ran, (0, b"N\nint n = 3;\n3\n", b"", b""), &LOOKED_UP);
+    holds(rt, !has_file(alloc, files, b"a.c")?, &"a.c");
+    Ok(())
+}
+
 #[test]
 fn loaded_files(rt: HostRuntime) -> Result<(), Fail> {
-    let alloc = rt.alloc();
-    let Ok(files) = load_by(alloc, LOOKED_UP, &[])? else {
+    let Ok(files) = load_by(rt.alloc(), LOOKED_UP, &[])? else {
         return Err("the files are loaded".into());
     };
-    let ran = compile_by(alloc, &files, LOOKED_UP)?;
-    compare(&rt, &ran, (0, b"N\nint n = 3;\n3\n", b"", b""));
-    assert!(rt; files.find(&Bytes::from_slice(alloc, b"a.c")?).is_none());
-    let failed = load_by(alloc, LOOKED_UP, &[2])?;
-    assert!(rt; matches!(&failed, Err(LoadFault::Failed)));
+    expect_loaded(&rt, rt.alloc(), &files)?;
+    holds(&rt, fails_to_load(rt.alloc())?, &"the second call");
     Ok(())
 }
 
@@ -66,7 +81,10 @@ const WIDE: Bounds = Bounds {
     object: 100,
 };
 
-const RUNS: &[(&str, &[u8], Left)] = &[
+// A command, its input, and what its run leaves.
+type Run = (&'static str, &'static [u8], Left);
+
+const RUNS: &[Run] = &[
     ("-c", b"int a = 2;\n", (0, b"", b"", b"SCO1\ndef a 2\n")),
     (
         "-c",
@@ -76,8 +94,10 @@ const RUNS: &[(&str, &[u8], Left)] = &[
     ("-E", b"int a = 2;\n", (0, b"int a = 2;\n", b"", b"")),
 ];
 
-// Runs that give one byte more than they may: on which stream, and how many.
-const OVER: &[(&str, &[u8], Bounds, Stream, u64)] = &[
+// A run that gives one byte more than it may: on which stream, and how many.
+type Over = (&'static str, &'static [u8], Bounds, Stream, u64);
+
+const OVER: &[Over] = &[
     (
         "-E",
         b"int a = 2;\n",
@@ -101,23 +121,40 @@ const OVER: &[(&str, &[u8], Bounds, Stream, u64)] = &[
     ),
 ];
 
-#[test]
-fn runs_at_a_station(rt: HostRuntime) -> Result<(), Fail> {
-    for (command, source, want) in RUNS {
-        let Ok(ran) = run_on(rt.alloc(), command, source, WIDE)? else {
+fn expect_runs<R: Abort>(rt: &R, alloc: Global, all: &[Run]) -> Result<(), Fail> {
+    for (command, source, want) in all {
+        let Ok(ran) = run_on(alloc, command, source, WIDE)? else {
             return Err("the compiler runs".into());
         };
-        compare(&rt, &ran, *want);
+        compare(rt, &ran, *want, command);
     }
-    for (command, source, bounds, stream, bytes) in OVER {
-        let Err(fault) = run_on(rt.alloc(), command, source, *bounds)? else {
-            return Err("the run gives too much".into());
-        };
+    Ok(())
+}
+
+// The fault of a run, where it has one.
+fn fault_on(
+    alloc: Global,
+    command: &str,
+    source: &[u8],
+    bounds: Bounds,
+) -> Result<Option<StationFault>, AllocError> {
+    Ok(run_on(alloc, command, source, bounds)?.err())
+}
+
+fn expect_faults<R: Abort>(rt: &R, alloc: Global, all: &[Over]) -> Result<(), Fail> {
+    for (command, source, bounds, stream, bytes) in all {
+        let fault = fault_on(alloc, command, source, *bounds)?;
         let want = StationFault::TooMuch {
             stream: *stream,
             bytes: *bytes,
         };
-        assert_eq!(rt; fault, want);
+        same(rt, &fault, &Some(want), command);
     }
     Ok(())
+}
+
+#[test]
+fn runs_at_a_station(rt: HostRuntime) -> Result<(), Fail> {
+    expect_runs(&rt, rt.alloc(), RUNS)?;
+    expect_faults(&rt, rt.alloc(), OVER)
 }
