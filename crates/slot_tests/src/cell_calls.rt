@@ -6,6 +6,7 @@ ghost use Rattle.slot_table.specs.History.{holding, outstanding};
 ghost use Rattle.farm_cell.specs.Passes.{mine_of};
 ghost use Rattle.farm_cell.specs.Ends.{IsNumbered};
 
+use crate::same::same;
 use farm_cell::{Cell, Pass};
 use slot_table::{Grant, Limits, Mask, Take};
 use std::process::Abort;
@@ -75,7 +76,7 @@ pub fn take<R: Wait + Abort>(
         panic!(rt; "job {job} has no slot of entry {host}");
     };
     let is = (grant.caller(), grant.job(), grant.host());
-    assert_eq!(rt; is, (caller, job, host));
+    same(rt, &is, &(caller, job, host), &"a grant");
     grant
 }
 

@@ -6,8 +6,9 @@ ghost use Rattle.farm_cell.specs.Passes.{IsPassOf, limits_of, mine_of};
 ghost use Rattle.farm_cell.specs.Ends.{IsNumbered};
 
 use crate::cell_calls::{limits_of, take};
+use crate::same::same;
 use farm_cell::{Cell, Held, Pass};
-use slot_table::{Grant, Grants, Limits, Mask, Take};
+use slot_table::{Grant, Grants, Limits, Mask, SlotState, Take};
 use std::process::Abort;
 use std::sync::Wait;
 use std::test::Fail;
@@ -63,6 +64,13 @@ fn fail_at_each<R: Wait + Abort>(
     }
 }
 
+fn expect_words<R: Abort>(rt: &R, state: &SlotState<16>) {
+    same(rt, &state.held, &[0; 16], &"held");
+    for host in 0..16usize {
+        same(rt, &state.until[host], &(u64::MAX - host as u64), &host);
+    }
+}
+
 #[test]
 fn sixteen_entries_keep_their_words(rt: HostRuntime) -> Result<(), Fail> {
     let limits = limits_of(255, 16, 16);
@@ -75,11 +83,7 @@ fn sixteen_entries_keep_their_words(rt: HostRuntime) -> Result<(), Fail> {
         &|caller, pass| { fail_at_each(&rt, &cell, pass, caller as u32, &limits) },
     );
     let (slots, _pass) = cell.close(&rt, passes);
-    let state = slots.state;
-    assert_eq!(rt; state.held, [0; 16]);
-    for host in 0..16usize {
-        assert_eq!(rt; state.until[host], u64::MAX - host as u64);
-    }
+    expect_words(&rt, &slots.state);
     Ok(())
 }
 
@@ -109,8 +113,8 @@ fn lend<R: Wait + Abort>(rt: &R, cell: &Cell<16, 34>, pass: &mut Pass)
     let mut held = Held::new(rt, cell, pass);
     work_once(rt, &mut held);
     let state = cell.load(rt, pass).state;
-    assert_eq!(rt; (state.next, state.local_held), (1, 0));
-    assert_eq!(rt; state.held, [0; 16]);
+    same(rt, &(state.next, state.local_held), &(1, 0), &"next");
+    same(rt, &state.held, &[0; 16], &"held");
 }
 
 #[test]

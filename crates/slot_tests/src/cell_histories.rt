@@ -5,8 +5,9 @@ ghost use Rattle.farm_cell.specs.Passes.{mine_of};
 ghost use Rattle.farm_cell.specs.Ends.{IsNumbered};
 
 use crate::cell_calls::{draw, give, limits_of, try_take};
+use crate::same::{holds, same};
 use farm_cell::{Cell, Pass};
-use slot_table::{CallEntry, Mask, SlotCall, SlotReply, Slots};
+use slot_table::{CallEntry, Mask, SlotCall, SlotReply, SlotState, Slots};
 use std::alloc::Global;
 use std::collections::VecDeque;
 use std::process::Abort;
@@ -164,6 +165,12 @@ fn replay(
     }
 }
 
+fn expect_state<R: Abort>(rt: &R, replayed: &SlotState<16>, state: &SlotState<16>) {
+    same(rt, replayed, state, &"the history");
+    same(rt, &state.held, &[0; 16], &"held");
+    same(rt, &state.next, &512, &"next");
+}
+
 #[test]
 fn sixteen_threads_make_one_history(rt: HostRuntime) -> Result<(), Fail> {
     let limits = limits_of(1, 1, 512);
@@ -191,10 +198,7 @@ fn sixteen_threads_make_one_history(rt: HostRuntime) -> Result<(), Fail> {
         turns.into_inner().as_slice(),
     );
     let left = lists.iter().any(|calls| !calls.is_empty());
-    assert!(rt; !left, "a call has no place in the history");
-    let (replayed, state) = (slots.state, closed.state);
-    assert_eq!(rt; replayed, state);
-    assert_eq!(rt; state.held, [0; 16]);
-    assert_eq!(rt; state.next, 512);
+    holds(&rt, !left, &"each call has its place in the history");
+    expect_state(&rt, &slots.state, &closed.state);
     Ok(())
 }

@@ -6,6 +6,7 @@ ghost use Rattle.farm_cell.specs.Ends.{IsNumbered};
 
 use crate::callers::apart;
 use crate::cell_calls::{draw, give, limits_of, take, take_in_vain};
+use crate::same::same;
 use farm_cell::{Cell, Pass};
 use slot_table::SlotState;
 use std::alloc::{AllocError, Global};
@@ -40,8 +41,71 @@ fn close<R: Wait>(
     Ok(slots.state)
 }
 
+/// Draws a job, which must be this one, by a caller that holds nothing.
+fn expect_drawn<R: Wait + Abort>(
+    rt: &R,
+    cell: &Cell<16, 34>,
+    pass: &mut Pass,
+    caller: u32,
+    job: Option<u32>,
+)
+    requires pass { IsNumbered cell.now caller pass.old }
+    requires none { outstanding (mine_of pass.old) ≡ [] }
+    ensures pass { IsNumbered cell.now caller pass.new }
+    ensures none { outstanding (mine_of pass.new) ≡ [] }
+{
+    let drawn = draw(rt, cell, pass, caller);
+    same(rt, &drawn, &job, &caller);
+}
+
+/// Takes the slot for the caller's own job, and gives it back.
+fn take_and_give<R: Wait + Abort>(rt: &R, cell: &Cell<16, 34>, pass: &mut Pass, caller: u32)
+    requires pass { IsNumbered cell.now caller pass.old }
+    requires none { outstanding (mine_of pass.old) ≡ [] }
+    ensures pass { IsNumbered cell.now caller pass.new }
+    ensures none { outstanding (mine_of pass.new) ≡ [] }
+{
+    let grant = take(rt, cell, pass, caller, caller, 0);
+    give(rt, cell, pass, caller, grant);
+}
+
 /// One slot, three jobs and three callers.
 fn play<R: Wait + Abort>(
+    rt: &R,
+    cell: &Cell<16, 34>,
+    first: &mut Pass,
+    second: &mut Pass,
+    third: &mut Pass,
+)
+    requires first { IsNumbered cell.now 0 first.old }
+    requires first_none { outstanding (mine_of first.old) ≡ [] }
+    requires second { IsNumbered cell.now 1 second.old }
+    requires second_none { outstanding (mine_of second.old) ≡ [] }
+    requires third { IsNumbered cell.now 2 third.old }
+    requires third_none { outstanding (mine_of third.old) ≡ [] }
+    ensures first { IsNumbered cell.now 0 first.new }
+    ensures first_none { outstanding (mine_of first.new) ≡ [] }
+    ensures second { IsNumbered cell.now 1 second.new }
+    ensures second_none { outstanding (mine_of second.new) ≡ [] }
+    ensures third { IsNumbered cell.now 2 third.new }
+    ensures third_none { outstanding (mine_of third.new) ≡ [] }
+{
+    expect_drawn(rt, cell, first, 0, Some(0));
+    expect_drawn(rt, cell, second, 1, Some(1));
+    expect_drawn(rt, cell, third, 2, Some(2));
+    let grant = take(rt, cell, first, 0, 0, 0);
+    take_in_vain(rt, cell, second, 1, 1);
+    take_in_vain(rt, cell, third, 2, 2);
+    give(rt, cell, first, 0, grant);
+    take_and_give(rt, cell, third, 2);
+    take_and_give(rt, cell, second, 1);
+    expect_drawn(rt, cell, third, 2, None);
+    expect_drawn(rt, cell, first, 0, None);
+    expect_drawn(rt, cell, second, 1, None);
+}
+
+/// One slot, three jobs and three callers, on a cell that is closed afterwards.
+fn play_to_the_end<R: Wait + Abort>(
     rt: &R,
     alloc: Global,
     cell: Cell<16, 34>,
@@ -57,21 +121,13 @@ fn play<R: Wait + Abort>(
     requires third { IsNumbered cell 2 third }
     requires third_none { outstanding (mine_of third) ≡ [] }
 {
-    assert_eq!(rt; draw(rt, &cell, &mut first, 0), Some(0));
-    assert_eq!(rt; draw(rt, &cell, &mut second, 1), Some(1));
-    assert_eq!(rt; draw(rt, &cell, &mut third, 2), Some(2));
-    let grant = take(rt, &cell, &mut first, 0, 0, 0);
-    take_in_vain(rt, &cell, &mut second, 1, 1);
-    take_in_vain(rt, &cell, &mut third, 2, 2);
-    give(rt, &cell, &mut first, 0, grant);
-    let grant = take(rt, &cell, &mut third, 2, 2, 0);
-    give(rt, &cell, &mut third, 2, grant);
-    let grant = take(rt, &cell, &mut second, 1, 1, 0);
-    give(rt, &cell, &mut second, 1, grant);
-    assert_eq!(rt; draw(rt, &cell, &mut third, 2), None);
-    assert_eq!(rt; draw(rt, &cell, &mut first, 0), None);
-    assert_eq!(rt; draw(rt, &cell, &mut second, 1), None);
+    play(rt, &cell, &mut first, &mut second, &mut third);
     close(rt, alloc, cell, first, second, third)
+}
+
+fn expect_end<R: Abort>(rt: &R, state: &SlotState<16>) {
+    same(rt, &state.held, &[0; 16], &"held");
+    same(rt, &state.next, &3, &"next");
 }
 
 #[test]
@@ -82,9 +138,8 @@ fn one_shared_slot_serves_three_callers(rt: HostRuntime) -> Result<(), Fail> {
     let Some((first, second, third)) = apart(&cell, passes) else {
         panic!(rt; "too few passes");
     };
-    let state = play(&rt, rt.alloc(), cell, first, second, third)?;
-    assert_eq!(rt; state.held, [0; 16]);
-    assert_eq!(rt; state.next, 3);
+    let state = play_to_the_end(&rt, rt.alloc(), cell, first, second, third)?;
+    expect_end(&rt, &state);
     Ok(())
 }
 
@@ -118,7 +173,7 @@ fn play_part<R: Wait + Abort>(
         _ => (Some(5), 7, 8, 11),
     };
     wait_for(rt, made, u64::from(caller));
-    assert_eq!(rt; draw(rt, cell, pass, caller), Some(caller));
+    expect_drawn(rt, cell, pass, caller, Some(caller));
     made.fetch_add(1, Ordering::SeqCst);
     if let Some(calls) = in_vain {
         wait_for(rt, made, calls);
@@ -132,7 +187,7 @@ fn play_part<R: Wait + Abort>(
     give(rt, cell, pass, caller, grant);
     made.fetch_add(1, Ordering::SeqCst);
     wait_for(rt, made, last);
-    assert_eq!(rt; draw(rt, cell, pass, caller), None);
+    expect_drawn(rt, cell, pass, caller, None);
     made.fetch_add(1, Ordering::SeqCst);
 }
 
@@ -149,8 +204,6 @@ fn one_slot_serves_three_threads(rt: HostRuntime) -> Result<(), Fail> {
         &|caller, pass| { play_part(&rt, &cell, pass, caller as u32, &made) },
     );
     let (slots, _pass) = cell.close(&rt, passes);
-    let state = slots.state;
-    assert_eq!(rt; state.held, [0; 16]);
-    assert_eq!(rt; state.next, 3);
+    expect_end(&rt, &slots.state);
     Ok(())
 }

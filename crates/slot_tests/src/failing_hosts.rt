@@ -1,6 +1,6 @@
 //! Given runs over hosts that fail, and what the check of each answers.
 
-use crate::machine::{BOTH, Call, Job, Row, SECOND, check_rows};
+use crate::machine::{BOTH, Call, Job, LIMITS, Row, SECOND, check_rows};
 use farm_machine::Event;
 use slot_table::{Limits, SlotCall, SlotReply};
 use std::test::Fail;
@@ -201,17 +201,14 @@ const TWO_HOSTS: &[Row] = &[
     ),
 ];
 
+const JOBS: &[Job] = &[(0, BOTH_FAILED), (0, FOUND_DOWN)];
+
 #[test]
 fn two_hosts_that_fail(rt: HostRuntime) -> Result<(), Fail> {
     let limits = Limits {
         count: 2,
-        limit: [1; 16],
-        local: [false; 16],
-        local_slots: 1,
         jobs: 2,
-        rotate: false,
+        ..LIMITS
     };
-    let jobs: &[Job] = &[(0, BOTH_FAILED), (0, FOUND_DOWN)];
-    check_rows(&rt, rt.alloc(), &limits, jobs, TWO_HOSTS)?;
-    Ok(())
+    check_rows(&rt, rt.alloc(), &limits, JOBS, TWO_HOSTS)
 }

@@ -1,5 +1,6 @@
 //! Given runs, and what the check of each answers.
 
+use crate::same::same;
 use farm_machine::{By, End, Event, EventList, Report, ReportList, are_numbered, check_run};
 use farm_types::Bytes;
 use slot_table::{CallEntry, CallList, Limits, Mask, SlotCall, SlotReply};
@@ -24,64 +25,115 @@ pub(crate) const SECOND: Mask = Mask { bits: 2 };
 
 pub(crate) const BOTH: Mask = Mask { bits: 3 };
 
-/// The reports of these jobs, in order, each of which host 0 compiled.
+fn events_of(alloc: Global, events: &[Event]) -> Result<EventList, AllocError> {
+    let mut list = EventList::new(alloc);
+    for event in events {
+        list.try_push(*event)?;
+    }
+    Ok(list)
+}
+
+/// The report of a job that host 0 compiled.
+fn report_of(alloc: Global, number: u32, job: &Job) -> Result<Report, AllocError> {
+    Ok(Report {
+        number,
+        worker: job.0,
+        events: events_of(alloc, job.1)?,
+        end: End::Done {
+            status: 0,
+            note: Bytes::new(alloc),
+            err: Bytes::new(alloc),
+            out: Bytes::new(alloc),
+            by: By::Remote(0),
+        },
+    })
+}
+
+/// The reports of these jobs, in order.
 fn reports_of(alloc: Global, jobs: &[Job]) -> Result<ReportList, AllocError> {
     let mut reports = ReportList::new(alloc);
-    let mut number = 0;
-    for (worker, events) in jobs {
-        let mut list = EventList::new(alloc);
-        for event in *events {
-            list.try_push(*event)?;
-        }
-        reports.try_push(Report {
-            number,
-            worker: *worker,
-            events: list,
-            end: End::Done {
-                status: 0,
-                note: Bytes::new(alloc),
-                err: Bytes::new(alloc),
-                out: Bytes::new(alloc),
-                by: By::Remote(0),
-            },
-        })?;
+    let mut number: u32 = 0;
+    for job in jobs {
+        reports.try_push(report_of(alloc, number, job)?)?;
         number = number.saturating_add(1);
     }
     Ok(reports)
+}
+
+fn add_calls(calls: &mut CallList, part: &[Call]) -> Result<(), AllocError> {
+    for (caller, call, reply) in part {
+        calls.try_push(CallEntry {
+            caller: *caller,
+            call: *call,
+            reply: *reply,
+        })?;
+    }
+    Ok(())
 }
 
 /// The calls of some lists, one list after another.
 fn calls_of(alloc: Global, parts: &[&[Call]]) -> Result<CallList, AllocError> {
     let mut calls = CallList::new(alloc);
     for part in parts {
-        for (caller, call, reply) in *part {
-            calls.try_push(CallEntry {
-                caller: *caller,
-                call: *call,
-                reply: *reply,
-            })?;
-        }
+        add_calls(&mut calls, part)?;
     }
     Ok(calls)
 }
 
-/// Checks the calls of each row against these reports.
-pub(crate) fn check_rows(
-    rt: &impl Abort,
+/// What the check of these calls answers, where it may be made.
+fn checked(
+    limits: &Limits<16>,
+    calls: &CallList,
+    reports: &ReportList,
+) -> Result<Option<u64>, Fail> {
+    if !limits.are_valid() {
+        return Err("the limits are valid".into());
+    }
+    if !are_numbered(reports) {
+        return Err("the reports are numbered".into());
+    }
+    if reports.len() != limits.jobs as usize {
+        return Err("each job has a report".into());
+    }
+    Ok(check_run(limits, calls, reports))
+}
+
+fn expect_row<R: Abort>(
+    rt: &R,
+    alloc: Global,
+    limits: &Limits<16>,
+    reports: &ReportList,
+    row: &Row,
+) -> Result<(), Fail> {
+    let (parts, wanted) = row;
+    let calls = calls_of(alloc, parts)?;
+    same(rt, &checked(limits, &calls, reports)?, wanted, parts);
+    Ok(())
+}
+
+fn expect_rows<R: Abort>(
+    rt: &R,
+    alloc: Global,
+    limits: &Limits<16>,
+    reports: &ReportList,
+    rows: &[Row],
+) -> Result<(), Fail> {
+    for row in rows {
+        expect_row(rt, alloc, limits, reports, row)?;
+    }
+    Ok(())
+}
+
+/// Checks the calls of each row against the reports of these jobs.
+pub(crate) fn check_rows<R: Abort>(
+    rt: &R,
     alloc: Global,
     limits: &Limits<16>,
     jobs: &[Job],
     rows: &[Row],
-) -> Result<(), AllocError> {
+) -> Result<(), Fail> {
     let reports = reports_of(alloc, jobs)?;
-    assert!(rt; limits.are_valid());
-    assert!(rt; are_numbered(&reports));
-    assert_eq!(rt; reports.len(), limits.jobs as usize);
-    for (parts, want) in rows {
-        let calls = calls_of(alloc, parts)?;
-        assert_eq!(rt; check_run(limits, &calls, &reports), *want, "{parts:?}");
-    }
-    Ok(())
+    expect_rows(rt, alloc, limits, &reports, rows)
 }
 
 /// The events of a job that host 0 compiled at its first try.
@@ -221,17 +273,19 @@ const ONE_SLOT: &[Row] = &[
     (&[], Some(0)),
 ];
 
+const JOBS: &[Job] = &[(0, COMPILED), (1, COMPILED), (2, COMPILED)];
+
+/// One remote entry of one slot, one local slot, and three jobs.
+pub(crate) const LIMITS: Limits<16> = Limits {
+    count: 1,
+    limit: [1; 16],
+    local: [false; 16],
+    local_slots: 1,
+    jobs: 3,
+    rotate: false,
+};
+
 #[test]
 fn one_slot_for_three_callers(rt: HostRuntime) -> Result<(), Fail> {
-    let limits = Limits {
-        count: 1,
-        limit: [1; 16],
-        local: [false; 16],
-        local_slots: 1,
-        jobs: 3,
-        rotate: false,
-    };
-    let jobs: &[Job] = &[(0, COMPILED), (1, COMPILED), (2, COMPILED)];
-    check_rows(&rt, rt.alloc(), &limits, jobs, ONE_SLOT)?;
-    Ok(())
+    check_rows(&rt, rt.alloc(), &LIMITS, JOBS, ONE_SLOT)
 }

@@ -12,6 +12,11 @@ pub(crate) fn same<R: Abort, T: PartialEq + Debug, W: Debug>(
     assert_eq!(rt; shown, wanted, "{row:?}");
 }
 
+/// Two texts, and the row that they stand in.
+pub(crate) fn same_bytes<R: Abort, W: Debug>(rt: &R, shown: &[u8], wanted: &[u8], row: &W) {
+    assert_eq!(rt; shown, wanted, "{row:?}");
+}
+
 /// What holds in this row.
 pub(crate) fn holds<R: Abort, W: Debug>(rt: &R, shown: bool, row: &W) {
     assert!(rt; shown, "{row:?}");
