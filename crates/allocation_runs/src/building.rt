@@ -1,7 +1,8 @@
 //! Twelve jobs over devices in memory, as a list or as a graph.
 
-ghost use Rattle.std.specs.Prelude.{◌≤◌, length, All, IfOk};
+ghost use Rattle.std.specs.Prelude.{◌≡◌, ◌≤◌, false, length, All, IfOk};
 ghost use Rattle.farm_types.specs.Limits.{workers_max};
+ghost use Rattle.farm_program.specs.Worlds.{AreReady};
 ghost use Rattle.edge_traits.specs.Keepers.{IsIdle};
 ghost use Rattle.object_delivery.specs.ScriptedFiles.{files_state, files_shows};
 ghost use Rattle.object_delivery.specs.Staging.{keeper_view};
@@ -11,7 +12,7 @@ use edge_memory::{
     LinkScript, LinkScripts, MemClock, MemDialer, MemSink, MemSource, MemStation, Moments, Moves,
     RanList,
 };
-use edge_traits::{CallNumbers, FileList, Kit};
+use edge_traits::{CallNumbers, Clock, Dialer, FileList, Keeper, Kit, Sink, Source, Station};
 use farm_program::{Ended, farm};
 use farm_types::Bytes;
 use object_delivery::{FileKeeper, MemFiles};
@@ -131,20 +132,68 @@ fn report_count(ended: &Ended) -> usize {
     count
 }
 
-// How many objects were put, where each is whole and nothing is left of a put.
-fn all_objects(alloc: Global, kits: Vec<FileKit>) -> Result<Option<u32>, AllocError> {
-    let mut whole: u32 = 0;
-    for kit in kits {
-        match objects(alloc, &mut kit.keeper.into_files())? {
-            Some(more) => whole = whole.saturating_add(more),
-            None => return Ok(None),
-        }
+// The status of a run, and how many jobs have a report, where every slot is back.
+fn seen_of(ended: &Ended) -> Option<(u8, usize)> {
+    if is_all_back(ended) {
+        Some((ended.status, report_count(ended)))
+    } else {
+        None
     }
-    Ok(Some(whole))
 }
 
-// How a run ended that answered this, printed so, has so many reports, and put so many objects.
-fn judge(status: u8, out: &[u8], err: &[u8], reports: usize, whole: u32) -> Verdict {
+// Does the jobs of these words.
+fn run<
+    T: Threads + Wait + Sync,
+    D: Dialer + Send + Drop,
+    S: Station + Send + Drop,
+    K: Keeper + Send + Drop,
+    C: Clock + Send + Drop,
+    R: Source,
+    O: Sink,
+    E: Sink + Send,
+>(
+    rt: &T,
+    alloc: Global,
+    words: &[String],
+    input: &mut R,
+    kits: &mut Vec<Kit<D, S, K, C>>,
+    out: &mut O,
+    err: &mut E,
+) -> Option<(u8, usize)>
+where
+    D::Link: Send,
+    requires input { (R.shows input.old).ended ≡ false }
+    requires kits { AreReady 1 (λ kit. IsIdle (K.shows kit.keeper)) kits.old.items }
+    requires out { (O.shows out.old).stopped ≡ false }
+    requires err { (E.shows err.old).stopped ≡ false }
+{
+    let ended = farm(rt, alloc, words, &[], input, kits, out, err);
+    seen_of(&ended)
+}
+
+// How many objects a kit put.
+fn kit_objects(alloc: Global, kit: FileKit) -> Result<Option<u32>, AllocError> {
+    let mut files = kit.keeper.into_files();
+    objects(alloc, &mut files)
+}
+
+// How many objects were put, where each is whole and nothing is left of a put.
+fn all_objects(alloc: Global, kits: Vec<FileKit>) -> Result<Option<u32>, AllocError> {
+    let mut whole = Some(0u32);
+    for kit in kits {
+        whole = match (whole, kit_objects(alloc, kit)?) {
+            (Some(sum), Some(more)) => Some(sum.saturating_add(more)),
+            _ => None,
+        };
+    }
+    Ok(whole)
+}
+
+// How a run ended that answered this, printed so, has so many reports, and put so many objects, if each is whole.
+fn judge(status: u8, out: &[u8], err: &[u8], reports: usize, whole: Option<u32>) -> Verdict {
+    let Some(whole) = whole else {
+        return Verdict::Wrong("a put is there in part");
+    };
     let Some(seen) = std::str::from_utf8(out).ok().and_then(lines_of) else {
         return Verdict::Wrong("a line is none of this run");
     };
@@ -175,22 +224,11 @@ pub fn twelve_jobs<W: Threads + Wait + Sync>(
     let mut kits = kits(alloc, shape == Shape::Four)?;
     let mut out = MemSink::new(alloc, moves(alloc));
     let mut err = MemSink::new(alloc, moves(alloc));
-    let ended = farm(
-        rt,
-        alloc,
-        words.as_slice(),
-        &[],
-        &mut input,
-        &mut kits,
-        &mut out,
-        &mut err,
-    );
-    if !is_all_back(&ended) {
+    let words = words.as_slice();
+    let Some((status, reports)) = run(rt, alloc, words, &mut input, &mut kits, &mut out, &mut err)
+    else {
         return Ok(Verdict::Wrong("a slot isn't back"));
-    }
-    let reports = report_count(&ended);
-    match all_objects(alloc, kits)? {
-        Some(whole) => Ok(judge(ended.status, out.written(), err.written(), reports, whole)),
-        None => Ok(Verdict::Wrong("a put is there in part")),
-    }
+    };
+    let whole = all_objects(alloc, kits)?;
+    Ok(judge(status, out.written(), err.written(), reports, whole))
 }
