@@ -5,4 +5,6 @@
 mod files;
 pub mod filled;
 #[cfg(test)]
+mod same;
+#[cfg(test)]
 mod values;

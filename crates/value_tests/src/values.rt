@@ -1,10 +1,12 @@
 use crate::filled::repeated;
+use crate::same::{holds, same, same_bytes};
 use farm_types::limits::{MESSAGES_MAX, WORD_MAX, WORDS_BYTES_MAX, WORDS_MAX};
 use farm_types::{
     Bytes, Ext, Host, HostName, Items, Outcome, PlacedWords, Ran, Request, Room, Trail, Word,
     Words, exit_code, read_decimal, read_plain_decimal,
 };
-use std::alloc::Global;
+use std::alloc::{AllocError, Global};
+use std::process::Abort;
 use std::test::Fail;
 
 // Wait statuses, and their exit codes.
@@ -18,11 +20,15 @@ const EXIT_CODES: &[(u32, u8)] = &[
     (65_536, 104),
 ];
 
+fn expect_codes<R: Abort>(rt: &R, rows: &[(u32, u8)]) {
+    for (status, code) in rows {
+        same(rt, &exit_code(*status), code, status);
+    }
+}
+
 #[test]
 fn exit_codes(rt: HostRuntime) {
-    for (status, code) in EXIT_CODES {
-        assert_eq!(rt; exit_code(*status), *code, "status {status}");
-    }
+    expect_codes(&rt, EXIT_CODES);
 }
 
 // Texts, and the numbers from 1 to 255 that they are in at most 3 digits: where a zero may stand in front, and where none may.
@@ -45,29 +51,42 @@ const DECIMALS: &[(&[u8], Option<u32>, Option<u32>)] = &[
     (b":1", None, None),
 ];
 
-#[test]
-fn decimals(rt: HostRuntime) {
-    for (text, with_zeros, plain) in DECIMALS {
-        assert_eq!(rt; read_decimal(text, 3, 1, 255), *with_zeros);
-        assert_eq!(rt; read_plain_decimal(text, 3, 1, 255), *plain);
+fn expect_decimals<R: Abort>(rt: &R, rows: &[(&[u8], Option<u32>, Option<u32>)]) {
+    for (text, with_zeros, plain) in rows {
+        same(rt, &read_decimal(text, 3, 1, 255), with_zeros, text);
+        same(rt, &read_plain_decimal(text, 3, 1, 255), plain, text);
     }
-    assert_eq!(rt; read_plain_decimal(b"0", 9, 0, 999_999_999), Some(0));
-    assert_eq!(rt;
-        read_plain_decimal(b"999999999", 9, 0, 999_999_999),
-        Some(999_999_999)
-    );
 }
 
-fn request(alloc: Global, count: usize, len: usize) -> Result<Request, Fail> {
-    let word = repeated(alloc, len)?;
+// Texts of at most nine digits, and the numbers from zero that they are.
+const LONG_DECIMALS: &[(&[u8], u32)] = &[(b"0", 0), (b"999999999", 999_999_999)];
+
+fn expect_long_decimals<R: Abort>(rt: &R, rows: &[(&[u8], u32)]) {
+    for (text, number) in rows {
+        let read = read_plain_decimal(text, 9, 0, 999_999_999);
+        same(rt, &read, &Some(*number), text);
+    }
+}
+
+#[test]
+fn decimals(rt: HostRuntime) {
+    expect_decimals(&rt, DECIMALS);
+    expect_long_decimals(&rt, LONG_DECIMALS);
+}
+
+fn words_of(alloc: Global, count: usize, len: usize) -> Result<Words, AllocError> {
     let mut words = Words::new(alloc);
     for _ in 0..count {
-        words.try_push(word.copy()?)?;
+        words.try_push(repeated(alloc, len)?)?;
     }
-    Ok(Request {
-        words,
-        source: Bytes::from_slice(alloc, b"int a;")?,
-    })
+    Ok(words)
+}
+
+fn request_fits(alloc: Global, count: usize, len: usize) -> Result<bool, AllocError> {
+    let source = Bytes::from_slice(alloc, b"int a;")?;
+    let words = words_of(alloc, count, len)?;
+    let request = Request { words, source };
+    Ok(request.fits())
 }
 
 // How many words, of how many bytes each, and whether a request of them is within the limits.
@@ -82,22 +101,38 @@ const REQUESTS: &[(usize, usize, bool)] = &[
     (WORDS_BYTES_MAX / WORD_MAX + 1, WORD_MAX, false),
 ];
 
-#[test]
-fn requests_within_the_limits(rt: HostRuntime) -> Result<(), Fail> {
-    for (count, len, fits) in REQUESTS {
-        let request = request(rt.alloc(), *count, *len)?;
-        assert_eq!(rt; request.fits(), *fits, "{count} words of {len} bytes");
+fn expect_requests<R: Abort>(
+    rt: &R,
+    alloc: Global,
+    rows: &[(usize, usize, bool)],
+) -> Result<(), AllocError> {
+    for (count, len, fits) in rows {
+        same(
+            rt,
+            &request_fits(alloc, *count, *len)?,
+            fits,
+            &(*count, *len),
+        );
     }
     Ok(())
 }
 
-fn outcome(alloc: Global, status: u32, err: usize, object: usize) -> Result<Outcome, Fail> {
-    Ok(Outcome {
+#[test]
+fn requests_within_the_limits(rt: HostRuntime) -> Result<(), Fail> {
+    expect_requests(&rt, rt.alloc(), REQUESTS)?;
+    Ok(())
+}
+
+fn outcome_fits(alloc: Global, status: u32, err: usize, object: usize) -> Result<bool, AllocError> {
+    let err = repeated(alloc, err)?;
+    let object = repeated(alloc, object)?;
+    let outcome = Outcome {
         status,
-        err: repeated(alloc, err)?,
+        err,
         out: Bytes::new(alloc),
-        object: repeated(alloc, object)?,
-    })
+        object,
+    };
+    Ok(outcome.fits())
 }
 
 // A status, the bytes of the messages and of the object, and whether the outcome is within the limits.
@@ -108,30 +143,39 @@ const OUTCOMES: &[(u32, usize, usize, bool)] = &[
     (256, 3, 1, false),
 ];
 
-#[test]
-fn outcomes_within_the_limits(rt: HostRuntime) -> Result<(), Fail> {
-    for (status, err, object, fits) in OUTCOMES {
-        let outcome = outcome(rt.alloc(), *status, *err, *object)?;
-        assert_eq!(rt;
-            outcome.fits(),
-            *fits,
-            "status {status}, {err} and {object} bytes"
-        );
+fn expect_outcomes<R: Abort>(
+    rt: &R,
+    alloc: Global,
+    rows: &[(u32, usize, usize, bool)],
+) -> Result<(), AllocError> {
+    for (status, err, object, fits) in rows {
+        let seen = outcome_fits(alloc, *status, *err, *object)?;
+        same(rt, &seen, fits, &(*status, *err, *object));
     }
     Ok(())
+}
+
+#[test]
+fn outcomes_within_the_limits(rt: HostRuntime) -> Result<(), Fail> {
+    expect_outcomes(&rt, rt.alloc(), OUTCOMES)?;
+    Ok(())
+}
+
+fn three_bytes(alloc: Global) -> Result<Bytes, AllocError> {
+    let mut bytes = Bytes::from_slice(alloc, b"gc")?;
+    bytes.try_extend(b"cc")?;
+    bytes.truncate(3);
+    Ok(bytes)
 }
 
 // Each list and value is copied once.
 #[test]
 fn copies_of_bytes(rt: HostRuntime) -> Result<(), Fail> {
-    let mut bytes = Bytes::from_slice(rt.alloc(), b"gc")?;
-    bytes.try_extend(b"cc")?;
-    bytes.truncate(3);
+    let bytes = three_bytes(rt.alloc())?;
     let copied = bytes.copy()?;
-    assert_eq!(rt; copied.as_slice(), b"gcc".as_slice());
-    for (at, byte) in [(1, Some(b'c')), (3, None)] {
-        assert_eq!(rt; bytes.get(at), byte, "byte {at}");
-    }
+    same_bytes(&rt, copied.as_slice(), b"gcc", &"a copy");
+    same(&rt, &bytes.get(1), &Some(b'c'), &"byte 1");
+    same(&rt, &bytes.get(3), &None, &"byte 3");
     Ok(())
 }
 
@@ -152,38 +196,39 @@ fn copied_twice(words: &PlacedWords) -> Result<PlacedWords, Fail> {
 #[test]
 fn copies_of_words(rt: HostRuntime) -> Result<(), Fail> {
     let twice = copied_twice(&placed_words(rt.alloc())?)?;
-    assert_eq!(rt; twice.len(), 6);
-    assert!(rt; matches!(twice.get(4), Some(Word::Input(Ext::Ii))));
+    same(&rt, &twice.len(), &6, &"twice three words");
+    let is_input = matches!(twice.get(4), Some(Word::Input(Ext::Ii)));
+    holds(&rt, is_input, &"the fifth word");
     Ok(())
 }
 
 #[test]
 fn a_copy_of_a_run(rt: HostRuntime) -> Result<(), Fail> {
     let copied = Ran::nothing(rt.alloc()).copy()?;
-    assert_eq!(rt; copied.status, 0);
+    same(&rt, &copied.status, &0, &"the status");
     Ok(())
 }
 
-#[test]
-fn copies_of_hosts(rt: HostRuntime) -> Result<(), Fail> {
+fn one_host(alloc: Global) -> Result<Items<Host>, AllocError> {
+    let text = Bytes::from_slice(alloc, b"gcc")?;
     let host = Host {
-        name: HostName {
-            text: Bytes::from_slice(rt.alloc(), b"gcc")?,
-        },
+        name: HostName { text },
         port: 3632,
         limit: 4,
         local: false,
     };
-    let hosts = Items::from_slice(rt.alloc(), &[host])?;
-    let copied = hosts.copy()?;
-    let ports: Items<u16> = Items::from_vec(
-        copied
-            .as_slice()
-            .iter()
-            .map(|h| h.port)
-            .collect(rt.alloc())?,
-    );
-    assert_eq!(rt; ports.as_slice(), [3632].as_slice());
+    Items::from_slice(alloc, &[host])
+}
+
+fn ports_of(alloc: Global, hosts: &Items<Host>) -> Result<Items<u16>, AllocError> {
+    Ok(Items::from_vec(hosts.as_slice().iter().map(|h| h.port).collect(alloc)?))
+}
+
+#[test]
+fn copies_of_hosts(rt: HostRuntime) -> Result<(), Fail> {
+    let copied = one_host(rt.alloc())?.copy()?;
+    let ports = ports_of(rt.alloc(), &copied)?;
+    same(&rt, &ports.as_slice(), &[3632].as_slice(), &"the ports");
     Ok(())
 }
 
@@ -198,8 +243,8 @@ fn trail_of(alloc: Global, entries: &[u8]) -> Result<Trail<u8>, Fail> {
 #[test]
 fn a_trail_keeps_its_entries(rt: HostRuntime) -> Result<(), Fail> {
     let mut trail = trail_of(rt.alloc(), &[1, 2, 3])?;
-    assert_eq!(rt; trail.take_last(), Some(3));
+    same(&rt, &trail.take_last(), &Some(3), &"the last entry");
     let items = trail.into_items(rt.alloc())?;
-    assert_eq!(rt; items.as_slice(), [1, 2].as_slice());
+    same_bytes(&rt, items.as_slice(), &[1, 2], &"the entries before it");
     Ok(())
 }
