@@ -230,17 +230,17 @@ fn variables_of(
     Ok(variables)
 }
 
-/// The content of a file of a kit, where it is there.
-pub(crate) fn content_of<D, S, K: Keeper, C>(
+/// The content of a file of a keeper, where it is there.
+pub(crate) fn content_of<K: Keeper>(
     alloc: Global,
-    kit: &mut Kit<D, S, K, C>,
+    keeper: &mut K,
     name: &[u8],
 ) -> Result<Option<Bytes>, AllocError> {
     let path = Bytes::from_slice(alloc, name)?;
-    if kit.keeper.is_pending() || path.as_slice().ends_with(b".farm~") {
+    if keeper.is_pending() || path.as_slice().ends_with(b".farm~") {
         return Ok(None);
     }
-    match kit.keeper.fetch(alloc, &path, 1_000) {
+    match keeper.fetch(alloc, &path, 1_000) {
         Ok(object) => Ok(Some(object)),
         Err(_) => Ok(None),
     }
@@ -372,7 +372,7 @@ where
 // The file `x.o` of the last kit, where it is there.
 fn last_object(alloc: Global, kits: &mut Vec<MemKit>) -> Result<Option<Bytes>, AllocError> {
     match kits.last_mut() {
-        Some(kit) => content_of(alloc, kit, b"x.o"),
+        Some(kit) => content_of(alloc, &mut kit.keeper, b"x.o"),
         None => Ok(None),
     }
 }
@@ -383,8 +383,8 @@ pub(crate) fn run<W: Threads + Wait + Sync>(
     alloc: Global,
     script: &Script,
 ) -> Result<Seen, AllocError> {
-    let asked = asked_by(alloc, script)?;
     let mut kits = kits(alloc, script)?;
+    let asked = asked_by(alloc, script)?;
     let mut seen = told(rt, alloc, asked, &mut kits);
     seen.object = last_object(alloc, &mut kits)?;
     Ok(seen)

@@ -5,7 +5,8 @@ ghost use Rattle.edge_traits.specs.Keepers.{IsIdle};
 ghost use Rattle.object_delivery.specs.ScriptedFiles.{files_state, files_shows};
 ghost use Rattle.object_delivery.specs.Staging.{keeper_view};
 
-use crate::devices::{FIRST, Script, Seen, asked_for, kit, told};
+use crate::devices::{Asked, FIRST, Script, asked_for, kit, told};
+use crate::same::{holds, same_output};
 use edge_memory::{MemClock, MemDialer, MemKeeper, MemStation};
 use edge_traits::{CallNumbers, FileList, Kit};
 use farm_types::Bytes;
@@ -28,7 +29,9 @@ const JOB: Script = Script {
 
 // Which calls on the files fail, and what is left under the name of a file that is being written. Its creation is the first call,
 // three pieces are added, and the fifth call renames it; behind a call that failed the file is removed.
-const FAILED: &[(&[u64], Option<&[u8]>)] = &[
+type Failed = (&'static [u64], Option<&'static [u8]>);
+
+const FAILED: &[Failed] = &[
     (&[1], None),
     (&[2], None),
     (&[3], None),
@@ -101,37 +104,33 @@ fn kits(alloc: Global, fails: &[u64]) -> Result<Vec<FileKit>, AllocError>
     Ok(kits)
 }
 
-// What is seen, and the files.
-fn run<W: Threads + Wait + Sync>(
-    rt: &W,
-    alloc: Global,
-    fails: &[u64],
-) -> Result<(Seen, Option<MemFiles>), AllocError> {
+fn asked(alloc: Global) -> Result<Asked, AllocError> {
     let text = Bytes::from_slice(alloc, JOB.input)?;
-    let asked = asked_for(alloc, JOB.words, text)?;
-    let mut kits = kits(alloc, fails)?;
-    let seen = told(rt, alloc, asked, &mut kits);
-    Ok((seen, files_of(&mut kits)))
+    asked_for(alloc, JOB.words, text)
 }
 
-fn files_of(kits: &mut Vec<FileKit>) -> Option<MemFiles> {
+// The job over these kits, and then the files.
+fn run<R: Abort + Threads + Wait + Sync>(
+    rt: &R,
+    alloc: Global,
+    fails: &[u64],
+) -> Result<MemFiles, Fail> {
+    let mut kits = kits(alloc, fails)?;
+    let seen = told(rt, alloc, asked(alloc)?, &mut kits);
+    same_output(rt, &seen, 107, b"1 failed put\ntotal 1 ok 0\n", &fails);
     match kits.pop() {
-        Some(kit) => Some(kit.keeper.into_files()),
-        None => None,
+        Some(kit) => Ok(kit.keeper.into_files()),
+        None => Err("the kit is back".into()),
     }
 }
 
-// The content of a file, where it is there.
-fn content(
+fn content<F: Files>(
     alloc: Global,
-    files: &mut Option<MemFiles>,
+    files: &mut F,
     name: &[u8],
 ) -> Result<Option<Bytes>, AllocError> {
     let path = Bytes::from_slice(alloc, name)?;
-    match files {
-        Some(files) => Ok(files.load(alloc, &path, 100).ok()),
-        None => Ok(None),
-    }
+    Ok(files.load(alloc, &path, 100).ok())
 }
 
 fn is_content(file: &Option<Bytes>, wanted: Option<&[u8]>) -> bool {
@@ -142,29 +141,51 @@ fn is_content(file: &Option<Bytes>, wanted: Option<&[u8]>) -> bool {
     }
 }
 
+// A file has this content, or isn't there where there is none.
+fn expect_file<R: Abort, F: Files>(
+    rt: &R,
+    alloc: Global,
+    files: &mut F,
+    name: &[u8],
+    wanted: Option<&[u8]>,
+) -> Result<(), Fail> {
+    let left = content(alloc, files, name)?;
+    holds(rt, is_content(&left, wanted), &left);
+    Ok(())
+}
+
+fn expect_files<R: Abort, F: Files>(
+    rt: &R,
+    alloc: Global,
+    files: &mut F,
+    stays: Option<&[u8]>,
+) -> Result<(), Fail> {
+    expect_file(rt, alloc, files, b"x.o", Some(b"old"))?;
+    expect_file(rt, alloc, files, b"x.o.farm~", stays)
+}
+
 fn expect<R: Abort + Threads + Wait + Sync>(
     rt: &R,
     alloc: Global,
     fails: &[u64],
     stays: Option<&[u8]>,
 ) -> Result<(), Fail> {
-    let (seen, mut files) = run(rt, alloc, fails)?;
-    let old = content(alloc, &mut files, b"x.o")?;
-    let left = content(alloc, &mut files, b"x.o.farm~")?;
-    assert_eq!(rt; seen.status, 107);
-    assert_eq!(rt;
-        seen.out.as_slice(),
-        b"1 failed put\ntotal 1 ok 0\n".as_slice()
-    );
-    assert!(rt; is_content(&old, Some(b"old")));
-    assert!(rt; is_content(&left, stays), "{:?}", left);
+    let mut files = run(rt, alloc, fails)?;
+    expect_files(rt, alloc, &mut files, stays)
+}
+
+fn expect_rows<R: Abort + Threads + Wait + Sync>(
+    rt: &R,
+    alloc: Global,
+    rows: &[Failed],
+) -> Result<(), Fail> {
+    for (fails, stays) in rows {
+        expect(rt, alloc, fails, *stays)?;
+    }
     Ok(())
 }
 
 #[test]
 fn a_failed_put_leaves_the_old_file(rt: HostRuntime) -> Result<(), Fail> {
-    for (fails, stays) in FAILED {
-        expect(&rt, rt.alloc(), fails, *stays)?;
-    }
-    Ok(())
+    expect_rows(&rt, rt.alloc(), FAILED)
 }

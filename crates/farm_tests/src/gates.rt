@@ -4,8 +4,9 @@ ghost use Rattle.std.specs.Prelude.{◌≡◌, length, All, IfOk};
 ghost use Rattle.edge_traits.specs.Keepers.{IsIdle};
 ghost use Rattle.edge_memory.specs.Keepers.{keeper_state, keeper_shows};
 
-use crate::devices::{Seen, asked_for, told};
+use crate::devices::{Asked, Seen, asked_for, told};
 use crate::kits::{empty_keeper, standing_clock};
+use crate::same::same_output;
 use edge_gates::{GateDialer, GateStation};
 use edge_memory::{LinkScripts, MemClock, MemDialer, MemKeeper, MemStation, RanList};
 use edge_traits::{CallNumbers, Dialer, Kit, Station};
@@ -52,6 +53,13 @@ fn two_kits<D: Drop, S: Drop>(
     Ok(kits)
 }
 
+// The jobs of a row, by two workers.
+fn asked(alloc: Global, row: &Row) -> Result<Asked, AllocError> {
+    let text = Bytes::from_slice(alloc, row.jobs)?;
+    let words = ["build", "--workers", "2", "--hosts", row.hosts];
+    asked_for(alloc, &words, text)
+}
+
 // What two workers print of the jobs of a row, over these dialers and stations.
 fn printed<W: Threads + Wait + Sync, D: Dialer + Send + Drop, S: Station + Send + Drop>(
     rt: &W,
@@ -63,10 +71,8 @@ fn printed<W: Threads + Wait + Sync, D: Dialer + Send + Drop, S: Station + Send 
 where
     D::Link: Send,
 {
-    let text = Bytes::from_slice(alloc, row.jobs)?;
-    let words = ["build", "--workers", "2", "--hosts", row.hosts];
-    let asked = asked_for(alloc, &words, text)?;
     let mut kits = two_kits(alloc, dialers, stations)?;
+    let asked = asked(alloc, row)?;
     Ok(told(rt, alloc, asked, &mut kits))
 }
 
@@ -81,8 +87,7 @@ where
     D::Link: Send,
 {
     let seen = printed(rt, alloc, row, dialers, stations)?;
-    assert_eq!(rt; seen.status, 0);
-    assert_eq!(rt; seen.out.as_slice(), row.out.as_bytes());
+    same_output(rt, &seen, 0, row.out.as_bytes(), &row.hosts);
     Ok(())
 }
 
@@ -136,11 +141,19 @@ const LOCAL: Row = Row {
     out: "1 local stat 00000000\n2 local stat 00000000\ntotal 2 ok 2\n",
 };
 
+// Over stations of which no run may be called while one of the other's hasn't ended.
+fn expect_runs<R: Abort + Threads + Wait + Sync>(
+    rt: &R,
+    alloc: Global,
+    row: &Row,
+) -> Result<(), Fail> {
+    let stations = GateStation::solo(rt, alloc)?;
+    let dialers = (idle_dialer(alloc), idle_dialer(alloc));
+    expect(rt, alloc, row, dialers, stations)
+}
+
 // Two jobs that stay here, and one local slot: no run may be called while the other hasn't ended.
 #[test]
 fn one_run_at_one_local_slot(rt: HostRuntime) -> Result<(), Fail> {
-    let alloc = rt.alloc();
-    let stations = GateStation::solo(&rt, alloc)?;
-    let dialers = (idle_dialer(alloc), idle_dialer(alloc));
-    expect(&rt, alloc, &LOCAL, dialers, stations)
+    expect_runs(&rt, rt.alloc(), &LOCAL)
 }

@@ -1,6 +1,7 @@
 //! What `farm graph` prints and answers.
 
 use crate::devices::{FIRST, Script, run};
+use crate::same::{same_items, same_output};
 use std::alloc::Global;
 use std::process::Abort;
 use std::sync::Wait;
@@ -8,6 +9,7 @@ use std::test::Fail;
 use std::thread::Threads;
 
 // What is printed and answered.
+#[derive(Clone, Copy)]
 struct Told {
     status: u8,
     out: &'static [u8],
@@ -153,18 +155,25 @@ fn check_row<R: Abort + Threads + Wait + Sync>(
     told: &Told,
 ) -> Result<(), Fail> {
     let seen = run(rt, alloc, script)?;
-    assert_eq!(rt; seen.status, told.status, "{:?}", script.input);
-    assert_eq!(rt; seen.out.as_slice(), told.out, "{:?}", script.input);
-    assert_eq!(rt; seen.err.as_slice(), told.err, "{:?}", script.input);
+    same_output(rt, &seen, told.status, told.out, &script.input);
+    same_items(rt, seen.err.as_slice(), told.err, &script.input);
+    Ok(())
+}
+
+fn check_rows<R: Abort + Threads + Wait + Sync>(
+    rt: &R,
+    alloc: Global,
+    rows: &[(Script, Told)],
+) -> Result<(), Fail> {
+    for (script, told) in rows {
+        check_row(rt, alloc, script, told)?;
+    }
     Ok(())
 }
 
 #[test]
 fn graphs_end_by_their_needs(rt: HostRuntime) -> Result<(), Fail> {
-    for (script, told) in ROWS {
-        check_row(&rt, rt.alloc(), script, told)?;
-    }
-    Ok(())
+    check_rows(&rt, rt.alloc(), ROWS)
 }
 
 const WHOLE: Told = Told {
@@ -173,16 +182,25 @@ const WHOLE: Told = Told {
     err: b"",
 };
 
+const ONE_WORKER: Script = Script {
+    words: &["graph", "--workers", "16"],
+    input: DIAMOND,
+    kits: 1,
+    ..GRAPH
+};
+
+const BY_WORKERS: &[(Script, Told)] = &[
+    (ONE_WORKER, WHOLE),
+    (
+        Script {
+            kits: 16,
+            ..ONE_WORKER
+        },
+        WHOLE,
+    ),
+];
+
 #[test]
 fn a_graph_ends_alike_by_any_workers(rt: HostRuntime) -> Result<(), Fail> {
-    for kits in [1, 16] {
-        let script = Script {
-            words: &["graph", "--workers", "16"],
-            input: DIAMOND,
-            kits,
-            ..GRAPH
-        };
-        check_row(&rt, rt.alloc(), &script, &WHOLE)?;
-    }
-    Ok(())
+    check_rows(&rt, rt.alloc(), BY_WORKERS)
 }

@@ -8,13 +8,18 @@ ghost use Rattle.edge_memory.specs.Keepers.{keeper_state, keeper_shows};
 
 use crate::devices::{Page, asked_for, call};
 use crate::kits::empty_keeper;
+use crate::same::{holds, same};
 use edge_gates::GateStation;
 use edge_memory::{LinkScripts, MemDialer, MemKeeper};
-use edge_traits::{Bounds, CallNumbers, Clock, EdgeFault, Kit, Sink, Station, StationFault};
+use edge_traits::{
+    Bounds, CallNumbers, Clock, Dialer, EdgeFault, Keeper, Kit, Sink, Station, StationFault,
+};
 use farm_types::{Bytes, Ran, Word};
 use std::alloc::{AllocError, Global};
+use std::process::Abort;
 use std::sync::Wait;
 use std::test::Fail;
+use std::thread::Threads;
 use std::{str, thread};
 
 // A station whose second run tells that it has begun, and waits until the other end of its gate is asked.
@@ -174,31 +179,66 @@ fn held_kits<'a, R: Wait>(
 
 const TWO_JOBS: &[u8] = b"scc -E a.c\nscc -E b.c\n";
 
-#[test]
-fn a_line_tells_of_a_job_while_the_next_one_is_done(rt: HostRuntime) -> Result<(), Fail> {
-    let alloc = rt.alloc();
-    let (held, asked) = GateStation::pair(&rt, alloc)?;
-    let mut kits = held_kits(&rt, alloc, held)?;
+const WORDS: &[&str] = &["watch", "--workers", "1", "--lines", "100"];
+
+// The status of a watched build of two jobs.
+fn watch<
+    W: Threads + Wait + Sync,
+    D: Dialer + Send + Drop,
+    S: Station + Send + Drop,
+    K: Keeper + Send + Drop,
+    C: Clock + Send + Drop,
+    O: Sink,
+    E: Sink + Send,
+>(
+    rt: &W,
+    alloc: Global,
+    kits: &mut Vec<Kit<D, S, K, C>>,
+    out: &mut O,
+    err: &mut E,
+) -> Result<u8, AllocError>
+where
+    D::Link: Send,
+    requires two { length kits.old.items ≡ 2 }
+    requires idle { All (λ kit. IsIdle (K.shows kit.keeper)) kits.old.items }
+    requires out { (O.shows out.old).stopped ≡ false }
+    requires err { (E.shows err.old).stopped ≡ false }
+{
+    let text = Bytes::from_slice(alloc, TWO_JOBS)?;
+    let asked = asked_for(alloc, WORDS, text)?;
+    Ok(call(rt, alloc, asked, kits, out, err))
+}
+
+fn expect_lines<R: Abort>(rt: &R, lines: &str) {
+    holds(rt, lines.contains("ended 1 of 2 busy "), &lines);
+    holds(
+        rt,
+        lines.ends_with("watch last ended 2 of 2 busy 0\n"),
+        &lines,
+    );
+}
+
+fn expect_told<R: Abort>(rt: &R, status: u8, out: &Bytes, err: &Bytes) {
+    same(rt, &status, &0, &"the status");
+    holds(rt, out.as_slice().ends_with(b"total 2 ok 2\n"), out);
+    expect_lines(rt, str::from_utf8(err.as_slice()).unwrap_or(""));
+}
+
+fn expect_held<R: Abort + Threads + Wait + Sync>(rt: &R, alloc: Global) -> Result<(), Fail> {
+    let (held, asked) = GateStation::pair(rt, alloc)?;
+    let mut kits = held_kits(rt, alloc, held)?;
     let mut out = Page::new(alloc);
     let mut err = AskingSink {
         page: Page::new(alloc),
         gate: asked,
         alloc,
     };
-    let words = ["watch", "--workers", "1", "--lines", "100"];
-    let asked = asked_for(alloc, &words, Bytes::from_slice(alloc, TWO_JOBS)?)?;
-    let status = call(&rt, alloc, asked, &mut kits, &mut out, &mut err);
-    let lines = str::from_utf8(err.page.text.as_slice()).unwrap_or("");
-    assert_eq!(rt; status, 0);
-    assert!(rt;
-        out.text.as_slice().ends_with(b"total 2 ok 2\n"),
-        "{:?}",
-        out.text
-    );
-    assert!(rt; lines.contains("ended 1 of 2 busy "), "{lines}");
-    assert!(rt;
-        lines.ends_with("watch last ended 2 of 2 busy 0\n"),
-        "{lines}"
-    );
+    let status = watch(rt, alloc, &mut kits, &mut out, &mut err)?;
+    expect_told(rt, status, &out.text, &err.page.text);
     Ok(())
+}
+
+#[test]
+fn a_line_tells_of_a_job_while_the_next_one_is_done(rt: HostRuntime) -> Result<(), Fail> {
+    expect_held(&rt, rt.alloc())
 }

@@ -11,8 +11,9 @@ ghost use Rattle.rehearsal.specs.Loops.{IsLoop, loop_kits, AllCompilers};
 
 use crate::devices::{Page, content_of, strings};
 use crate::kits::{LoopKit, one_kit};
+use crate::same::{same, same_items};
 use edge_memory::MemSource;
-use edge_traits::CallNumbers;
+use edge_traits::{CallNumbers, Keeper};
 use farm_program::{Ended, farm};
 use farm_types::Bytes;
 use job_driver::run_means;
@@ -64,24 +65,42 @@ fn status_of<W: Threads + Wait + Sync>(
     Ok(ended.status)
 }
 
-fn expect_object<R: Abort>(rt: &R, alloc: Global, kit: &mut LoopKit) -> Result<(), Fail> {
-    let Some(object) = content_of(alloc, kit, b"j1.o")? else {
+fn expect_object<R: Abort, K: Keeper>(rt: &R, alloc: Global, keeper: &mut K) -> Result<(), Fail> {
+    let Some(object) = content_of(alloc, keeper, b"j1.o")? else {
         return Err("the object stands".into());
     };
-    assert_eq!(rt; object.as_slice(), b"SCO1\ndef j1 496 7 * 1 +\n".as_slice());
+    same_items(
+        rt,
+        object.as_slice(),
+        b"SCO1\ndef j1 496 7 * 1 +\n",
+        &"j1.o",
+    );
     Ok(())
+}
+
+fn expect_objects<R: Abort>(rt: &R, alloc: Global, kits: &mut [LoopKit]) -> Result<(), Fail> {
+    for kit in kits.iter_mut() {
+        expect_object(rt, alloc, &mut kit.keeper)?;
+    }
+    Ok(())
+}
+
+fn tell_what_runs_mean(kits: &[LoopKit]) {
+    for kit in kits {
+        run_means(&kit.dialer, &kit.station, &kit.keeper, &kit.clock);
+        loops_are_fully_honest(&kit.station);
+    }
+}
+
+fn expect_build<R: Abort + Threads + Wait + Sync>(rt: &R, alloc: Global) -> Result<(), Fail> {
+    let mut kits = one_kit(alloc)?;
+    tell_what_runs_mean(kits.as_slice());
+    let status = status_of(rt, alloc, &mut kits)?;
+    same(rt, &status, &0, &"the status");
+    expect_objects(rt, alloc, kits.as_mut_slice())
 }
 
 #[test]
 fn a_build_over_loops_puts_what_the_compiler_leaves(rt: HostRuntime) -> Result<(), Fail> {
-    let mut kits = one_kit(rt.alloc())?;
-    for kit in kits.iter() {
-        run_means(&kit.dialer, &kit.station, &kit.keeper, &kit.clock);
-        loops_are_fully_honest(&kit.station);
-    }
-    assert_eq!(rt; status_of(&rt, rt.alloc(), &mut kits)?, 0);
-    for kit in kits.iter_mut() {
-        expect_object(&rt, rt.alloc(), kit)?;
-    }
-    Ok(())
+    expect_build(&rt, rt.alloc())
 }

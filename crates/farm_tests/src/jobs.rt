@@ -1,6 +1,7 @@
 //! What `farm` prints, answers and puts, job by job.
 
 use crate::devices::{FIRST, Script, Seen, run};
+use crate::same::{holds, same_items, same_output};
 use farm_types::Bytes;
 use std::alloc::Global;
 use std::process::Abort;
@@ -264,63 +265,66 @@ fn is_object(seen: &Option<Bytes>, expected: Option<&[u8]>) -> bool {
     }
 }
 
-fn is_as_expected(seen: &Seen, row: &Row) -> bool {
-    is_object(&seen.object, row.object)
-        && seen.status == row.status
-        && seen.out.as_slice() == row.out
-        && seen.err.as_slice() == row.err
+fn check_seen<R: Abort>(rt: &R, at: usize, seen: &Seen, row: &Row) {
+    let place = ("row", at, seen.status, &seen.out, &seen.err);
+    same_output(rt, seen, row.status, row.out, &place);
+    same_items(rt, seen.err.as_slice(), row.err, &place);
+    holds(rt, is_object(&seen.object, row.object), &place);
 }
 
-fn check_row<R: Abort + Threads + Wait + Sync>(
+fn check_rows<R: Abort + Threads + Wait + Sync>(
     rt: &R,
     alloc: Global,
-    at: usize,
-    row: &Row,
+    rows: &[Row],
 ) -> Result<(), Fail> {
-    let seen = run(rt, alloc, &row.script)?;
-    assert!(rt;
-        is_as_expected(&seen, row),
-        "row {at}: {} {:?} {:?}",
-        seen.status,
-        seen.out,
-        seen.err
-    );
+    for (at, row) in rows.iter().enumerate() {
+        let seen = run(rt, alloc, &row.script)?;
+        check_seen(rt, at, &seen, row);
+    }
     Ok(())
 }
 
 #[test]
 fn jobs_end_as_their_devices_let_them(rt: HostRuntime) -> Result<(), Fail> {
-    for (at, row) in JOBS.iter().enumerate() {
-        check_row(&rt, rt.alloc(), at, row)?;
-    }
-    Ok(())
+    check_rows(&rt, rt.alloc(), JOBS)
 }
 
-// Jobs that no host gets, whichever worker has them: they stay here by their words, or there is no host for them.
-const STAYING: &[(&[&str], &[u8], &[u8])] = &[
-    (
-        &["build", "--hosts", "H --localslots=1", "--workers", "16"],
-        b"scc -c x.c y.c\nscc -march=native -c x.c\nscc -c conftest.c\n",
-        b"1 local stat 00000000\n2 local stat 00000000\n3 local stat 00000000\ntotal 3 ok 3\n",
-    ),
-    (
-        &["build", "--workers", "16"],
-        b"scc -c x.c\nscc -c y.c\nscc -c z.c\n",
-        b"1 here stat 00000000\n2 here stat 00000000\n3 here stat 00000000\ntotal 3 ok 3\n",
-    ),
-    (
-        &[
-            "build",
-            "--hosts",
-            "localhost/1",
-            "--no-fallback",
-            "--workers",
-            "3",
-        ],
-        b"scc -c x.c\nscc -c y.c\nscc -c z.c\n",
-        b"1 here stat 00000000\n2 here stat 00000000\n3 here stat 00000000\ntotal 3 ok 3\n",
-    ),
-];
+// Jobs that stay here by their words.
+const STAY: Script = Script {
+    words: &["build", "--hosts", "H --localslots=1", "--workers", "16"],
+    input: b"scc -c x.c y.c\nscc -march=native -c x.c\nscc -c conftest.c\n",
+    quiet: true,
+    dial_fails: 1,
+    ..FIRST
+};
+
+const LOCAL: &[u8] =
+    b"1 local stat 00000000\n2 local stat 00000000\n3 local stat 00000000\ntotal 3 ok 3\n";
+
+// Jobs for which there is no host.
+const NO_HOST: Script = Script {
+    words: &["build", "--workers", "16"],
+    input: b"scc -c x.c\nscc -c y.c\nscc -c z.c\n",
+    ..STAY
+};
+
+const LOCAL_HOST: Script = Script {
+    words: &[
+        "build",
+        "--hosts",
+        "localhost/1",
+        "--no-fallback",
+        "--workers",
+        "3",
+    ],
+    ..NO_HOST
+};
+
+const HERE: &[u8] =
+    b"1 here stat 00000000\n2 here stat 00000000\n3 here stat 00000000\ntotal 3 ok 3\n";
+
+// Jobs that no host gets, whichever worker has them, and what is printed.
+const STAYING: &[(Script, &[u8])] = &[(STAY, LOCAL), (NO_HOST, HERE), (LOCAL_HOST, HERE)];
 
 fn check_staying<R: Abort + Threads + Wait + Sync>(
     rt: &R,
@@ -329,31 +333,26 @@ fn check_staying<R: Abort + Threads + Wait + Sync>(
     out: &[u8],
 ) -> Result<(), Fail> {
     let seen = run(rt, alloc, script)?;
-    assert_eq!(rt; seen.status, 0, "{:?} {}", script.words, script.kits);
-    assert_eq!(rt;
-        seen.out.as_slice(),
-        out,
-        "{:?} {}",
-        script.words,
-        script.kits
-    );
+    same_output(rt, &seen, 0, out, &(script.words, script.kits));
+    Ok(())
+}
+
+fn check_all_staying<R: Abort + Threads + Wait + Sync>(
+    rt: &R,
+    alloc: Global,
+    rows: &[(Script, &[u8])],
+    kits: usize,
+) -> Result<(), Fail> {
+    for (script, out) in rows {
+        check_staying(rt, alloc, &Script { kits, ..*script }, out)?;
+    }
     Ok(())
 }
 
 #[test]
 fn jobs_stay_here_whoever_has_them(rt: HostRuntime) -> Result<(), Fail> {
     for kits in [1, 2, 4, 16] {
-        for &(words, input, out) in STAYING {
-            let script = Script {
-                words,
-                input,
-                kits,
-                quiet: true,
-                dial_fails: 1,
-                ..FIRST
-            };
-            check_staying(&rt, rt.alloc(), &script, out)?;
-        }
+        check_all_staying(&rt, rt.alloc(), STAYING, kits)?;
     }
     Ok(())
 }

@@ -25,6 +25,8 @@ mod loops;
 #[cfg(test)]
 mod rehearsals;
 #[cfg(test)]
+mod same;
+#[cfg(test)]
 mod services;
 #[cfg(test)]
 mod watching;

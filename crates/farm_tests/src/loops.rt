@@ -7,8 +7,9 @@ ghost use Rattle.edge_memory.specs.Keepers.{keeper_state, keeper_shows};
 
 use crate::devices::{Seen, asked_for, content_of, told};
 use crate::kits::{empty_keeper, standing_clock};
+use crate::same::{holds, same, same_output};
 use edge_memory::{MemClock, MemKeeper};
-use edge_traits::{Exchange, Kit};
+use edge_traits::{Exchange, Keeper, Kit};
 use farm_types::Bytes;
 use loop_link::LoopDialer;
 use rehearsal::compiler_table;
@@ -76,50 +77,67 @@ fn loop_kits(alloc: Global, count: usize) -> Result<Vec<LoopKit>, AllocError>
     Ok(kits)
 }
 
+fn push_job(alloc: Global, text: &mut Bytes, number: u32) -> Result<(), AllocError> {
+    let line = format!(in alloc; "scc -I. -DN=3 -O2 -MD -c f{number}.c -o f{number}.o\n")?;
+    text.try_extend(line.as_bytes())
+}
+
 fn job_list(alloc: Global) -> Result<Bytes, AllocError> {
     let mut text = Bytes::new(alloc);
     for number in 1..13 {
-        let line = format!(in alloc; "scc -I. -DN=3 -O2 -MD -c f{number}.c -o f{number}.o\n")?;
-        text.try_extend(line.as_bytes())?;
+        push_job(alloc, &mut text, number)?;
     }
     Ok(text)
+}
+
+fn push_line(alloc: Global, text: &mut Bytes, number: u32) -> Result<(), AllocError> {
+    let line = format!(in alloc; "{number} remote 127.0.0.1:3632 stat 00000000\n")?;
+    text.try_extend(line.as_bytes())
 }
 
 fn lines(alloc: Global) -> Result<Bytes, AllocError> {
     let mut text = Bytes::new(alloc);
     for number in 1..13 {
-        let line = format!(in alloc; "{number} remote 127.0.0.1:3632 stat 00000000\n")?;
-        text.try_extend(line.as_bytes())?;
+        push_line(alloc, &mut text, number)?;
     }
     text.try_extend(b"total 12 ok 12\n")?;
     Ok(text)
 }
 
-// Whether the object of this number stands in a kit's files, with its own item.
-fn has_object(alloc: Global, kit: &mut LoopKit, number: u32) -> Result<bool, AllocError> {
-    let name = format!(in alloc; "f{number}.o")?;
-    let object = format!(in alloc; "SCO1\ndef f{number} 3\n")?;
-    match content_of(alloc, kit, name.as_bytes())? {
+fn is_object<K: Keeper>(
+    alloc: Global,
+    keeper: &mut K,
+    name: &str,
+    object: &str,
+) -> Result<bool, AllocError> {
+    match content_of(alloc, keeper, name.as_bytes())? {
         Some(content) => Ok(content.as_slice() == object.as_bytes()),
         None => Ok(false),
     }
 }
 
-// How many of the twelve objects stand in a kit's files, each with its own item.
-fn objects_in(alloc: Global, kit: &mut LoopKit) -> Result<u32, AllocError> {
+// Whether the object of this number stands in a keeper's files, with its own item.
+fn has_object<K: Keeper>(alloc: Global, keeper: &mut K, number: u32) -> Result<bool, AllocError> {
+    let name = format!(in alloc; "f{number}.o")?;
+    let object = format!(in alloc; "SCO1\ndef f{number} 3\n")?;
+    is_object(alloc, keeper, name.as_str(), object.as_str())
+}
+
+// How many of the twelve objects stand in a keeper's files, each with its own item.
+fn objects_in<K: Keeper>(alloc: Global, keeper: &mut K) -> Result<u32, AllocError> {
     let mut found: u32 = 0;
     for number in 1..13 {
-        if has_object(alloc, kit, number)? {
+        if has_object(alloc, keeper, number)? {
             found = found.saturating_add(1);
         }
     }
     Ok(found)
 }
 
-fn all_objects(alloc: Global, kits: &mut Vec<LoopKit>) -> Result<u32, AllocError> {
+fn all_objects(alloc: Global, kits: &mut [LoopKit]) -> Result<u32, AllocError> {
     let mut found: u32 = 0;
     for kit in kits.iter_mut() {
-        found = found.saturating_add(objects_in(alloc, kit)?);
+        found = found.saturating_add(objects_in(alloc, &mut kit.keeper)?);
     }
     Ok(found)
 }
@@ -183,9 +201,24 @@ fn build_twelve<W: Threads + Wait + Sync>(
 
 fn expect_printed<R: Abort>(rt: &R, alloc: Global, seen: &Seen) -> Result<(), Fail> {
     let lines = lines(alloc)?;
-    assert_eq!(rt; seen.status, 0);
-    assert_eq!(rt; seen.out.as_slice(), lines.as_slice());
-    assert!(rt; seen.err.is_empty());
+    same_output(rt, seen, 0, lines.as_slice(), &"twelve jobs");
+    holds(rt, seen.err.is_empty(), &"no messages");
+    Ok(())
+}
+
+fn expect_build<R: Abort + Threads + Wait + Sync>(
+    rt: &R,
+    alloc: Global,
+    kits: &mut Vec<LoopKit>,
+) -> Result<(), Fail>
+    requires some { 1 ≤ length kits.old.items }
+    requires most { length kits.old.items ≤ workers_max }
+    requires idle { All (λ kit. IsIdle (keeper_shows (keeper_state kit.keeper))) kits.old.items }
+{
+    let seen = build_twelve(rt, alloc, kits)?;
+    expect_printed(rt, alloc, &seen)?;
+    let objects = all_objects(alloc, kits.as_mut_slice())?;
+    same(rt, &objects, &12, &"objects");
     Ok(())
 }
 
@@ -198,11 +231,9 @@ fn expect_twelve<R: Abort + Threads + Wait + Sync>(
     requires most { count ≤ workers_max }
 {
     let mut kits = loop_kits(alloc, count)?;
-    let seen = build_twelve(rt, alloc, &mut kits)?;
-    expect_printed(rt, alloc, &seen)?;
-    let objects = all_objects(alloc, &mut kits)?;
+    expect_build(rt, alloc, &mut kits)?;
     let sent = is_sent_by_any(alloc, kits, REQUEST)?;
-    assert_eq!(rt; (objects, sent), (12, true));
+    holds(rt, sent, &"the first request");
     Ok(())
 }
 

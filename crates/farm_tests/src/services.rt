@@ -1,8 +1,9 @@
 //! Requests to the daemon's service, whose station is the sample compiler.
 
+use crate::same::{same, same_items};
 use daemon_service::{Compilers, Served, serve_connection};
 use edge_memory::{LinkScript, MemLink, Moves};
-use edge_traits::CallNumbers;
+use edge_traits::{CallNumbers, Station};
 use farm_types::Bytes;
 use rehearsal::compiler_table;
 use sample_compiler::SampleStation;
@@ -12,7 +13,9 @@ use std::process::Abort;
 use std::test::Fail;
 
 // What a client sends, `scc -c a.i -o a.o` on one line of source; the status; and the reply.
-const SERVED: &[(&[u8], u32, &[u8])] = &[
+type Answered = (&'static [u8], u32, &'static [u8]);
+
+const SERVED: &[Answered] = &[
     (
         b"DIST00000001ARGC00000005ARGV00000003sccARGV00000002-cARGV00000003a.iARGV00000002-oARGV00000003a.oDOTI0000000bint a = 1;\n",
         0,
@@ -38,11 +41,20 @@ fn script(alloc: Global, gives: &[u8], most: u32) -> Result<LinkScript, AllocErr
     })
 }
 
-fn serve_link(alloc: Global, script: LinkScript, table: &Compilers) -> (Served, Bytes) {
+fn serve_at<S: Station>(
+    alloc: Global,
+    script: LinkScript,
+    station: &mut S,
+    table: &Compilers,
+) -> (Served, Bytes) {
     let mut link = MemLink::new(alloc, script);
-    let mut station = SampleStation::new(FileMap::new(alloc));
-    let served = serve_connection(alloc, &mut link, &mut station, table);
+    let served = serve_connection(alloc, &mut link, station, table);
     (served, link.into_sent())
+}
+
+fn serve_link(alloc: Global, script: LinkScript, table: &Compilers) -> (Served, Bytes) {
+    let mut station = SampleStation::new(FileMap::new(alloc));
+    serve_at(alloc, script, &mut station, table)
 }
 
 // Serves one connection that gives this, and answers what was written too.
@@ -60,16 +72,20 @@ fn expect<R: Abort>(
     wanted: (u32, &[u8]),
 ) -> Result<(), Fail> {
     let (served, written) = serve(alloc, gives, most)?;
-    assert_eq!(rt; served, Served::Answered(wanted.0));
-    assert_eq!(rt; written.as_slice(), wanted.1);
+    same(rt, &served, &Served::Answered(wanted.0), &most);
+    same_items(rt, written.as_slice(), wanted.1, &most);
+    Ok(())
+}
+
+fn expect_rows<R: Abort>(rt: &R, alloc: Global, rows: &[Answered]) -> Result<(), Fail> {
+    for (gives, status, reply) in rows {
+        expect(rt, alloc, gives, 7, (*status, reply))?;
+        expect(rt, alloc, gives, 1_000, (*status, reply))?;
+    }
     Ok(())
 }
 
 #[test]
 fn the_service_answers_with_what_the_compiler_leaves(rt: HostRuntime) -> Result<(), Fail> {
-    for (gives, status, reply) in SERVED {
-        expect(&rt, rt.alloc(), gives, 7, (*status, reply))?;
-        expect(&rt, rt.alloc(), gives, 1_000, (*status, reply))?;
-    }
-    Ok(())
+    expect_rows(&rt, rt.alloc(), SERVED)
 }

@@ -1,14 +1,20 @@
 //! Builds that are watched.
 
-ghost use Rattle.std.specs.Prelude.{IfOk};
+ghost use Rattle.std.specs.Prelude.{◌≡◌, false, length, All, IfOk};
+ghost use Rattle.edge_traits.specs.Keepers.{IsIdle};
 ghost use Rattle.farm_machine.specs.Usable.{AreDoable, IsUsable};
 
 use crate::devices::{FIRST, Page, Script, kits, run};
-use farm_types::{HostVec, Hosts, JobConfig, Jobs};
+use crate::same::{holds, same, same_output};
+use edge_traits::{Clock, Dialer, Keeper, Kit, Sink, Station};
+use farm_types::{Bytes, HostVec, Hosts, JobConfig, Jobs};
 use job_driver::{LineEnd, build_watched};
 use job_list::parse;
 use std::alloc::{AllocError, Global};
+use std::process::Abort;
+use std::sync::Wait;
 use std::test::Fail;
+use std::thread::Threads;
 
 const FOUR_JOBS: &[u8] = b"scc -c a.c\nscc -c b.c\nscc -c c.c\nscc -c d.c\n";
 
@@ -39,22 +45,60 @@ fn here_alone(alloc: Global) -> JobConfig
     }
 }
 
-#[test]
-fn the_last_line_says_that_all_jobs_have_ended(rt: HostRuntime) -> Result<(), Fail> {
-    let alloc = rt.alloc();
-    let script = Script { kits: 3, ..FIRST };
-    let mut kits = kits(alloc, &script)?;
-    assert!(rt; kits.len() == 3);
+// Watches four jobs by two of these workers, and answers whether the lines were printed whole, and how many reports there are.
+fn watch<
+    W: Threads + Wait + Sync,
+    D: Dialer + Send + Drop,
+    S: Station + Send + Drop,
+    K: Keeper + Send + Drop,
+    C: Clock + Send + Drop,
+    E: Sink + Send,
+>(
+    rt: &W,
+    alloc: Global,
+    kits: &mut Vec<Kit<D, S, K, C>>,
+    err: &mut E,
+) -> Result<(bool, usize), AllocError>
+where
+    D::Link: Send,
+    requires three { length kits.old.items ≡ 3 }
+    requires idle { All (λ kit. IsIdle (K.shows kit.keeper)) kits.old.items }
+    requires err { (E.shows err.old).stopped ≡ false }
+{
     let jobs = four_jobs(alloc)?;
     let config = here_alone(alloc);
+    let watched = build_watched(rt, alloc, &jobs, &config, kits, 2, 3, err)?;
+    let whole = watched.printed == LineEnd::Whole && watched.told;
+    Ok((whole, watched.built.reports.as_slice().len()))
+}
+
+fn expect_lines<R: Abort>(rt: &R, lines: &Bytes) {
+    let text = lines.as_slice();
+    holds(rt, text.starts_with(b"watch 1 ended "), lines);
+    holds(
+        rt,
+        text.ends_with(b"\nwatch last ended 4 of 4 busy 0\n"),
+        lines,
+    );
+}
+
+const THREE_KITS: Script = Script { kits: 3, ..FIRST };
+
+fn expect_watched<R: Abort + Threads + Wait + Sync>(rt: &R, alloc: Global) -> Result<(), Fail> {
+    let mut kits = kits(alloc, &THREE_KITS)?;
+    if kits.len() != 3 {
+        return Err("there are three kits".into());
+    }
     let mut err = Page::new(alloc);
-    let watched = build_watched(&rt, alloc, &jobs, &config, &mut kits, 2, 3, &mut err)?;
-    let text = err.text.as_slice();
-    assert!(rt; watched.printed == LineEnd::Whole && watched.told);
-    assert!(rt; text.starts_with(b"watch 1 ended "));
-    assert!(rt; text.ends_with(b"\nwatch last ended 4 of 4 busy 0\n"));
-    assert_eq!(rt; watched.built.reports.as_slice().len(), 4);
+    let seen = watch(rt, alloc, &mut kits, &mut err)?;
+    same(rt, &seen, &(true, 4), &"whole lines, and reports");
+    expect_lines(rt, &err.text);
     Ok(())
+}
+
+#[test]
+fn the_last_line_says_that_all_jobs_have_ended(rt: HostRuntime) -> Result<(), Fail> {
+    expect_watched(&rt, rt.alloc())
 }
 
 // The words of a watched build of the first run's job.
@@ -72,39 +116,50 @@ const WATCH: Script = Script {
 
 const DONE: &[u8] = b"1 remote H:3632 stat 00000000\ntotal 1 ok 1\n";
 
-// The kits; whether programs print nothing; how the error sink begins and ends.
-type WatchRow = (usize, bool, &'static [u8], &'static [u8]);
+// The script, and how the error sink begins and ends.
+type WatchRow = (Script, &'static [u8], &'static [u8]);
 
 const WATCHES: &[WatchRow] = &[
     (
-        2,
-        true,
+        Script {
+            kits: 2,
+            quiet: true,
+            ..WATCH
+        },
         b"watch 1 ended ",
         b"\nwatch last ended 1 of 1 busy 0\n",
     ),
     (
-        2,
-        false,
+        Script { kits: 2, ..WATCH },
         b"watch 1 ended ",
         b"\nwatch last ended 1 of 1 busy 0\nnote\n",
     ),
-    (1, false, b"note\n", b"note\n"),
+    (WATCH, b"note\n", b"note\n"),
 ];
+
+fn expect_messages<R: Abort>(rt: &R, kits: usize, err: &Bytes, row: &WatchRow) {
+    let (_, begin, end) = row;
+    let text = err.as_slice();
+    holds(rt, text.starts_with(begin), err);
+    holds(rt, text.ends_with(end), err);
+    holds(rt, kits == 2 || text.len() == end.len(), err);
+}
+
+fn expect_watches<R: Abort + Threads + Wait + Sync>(
+    rt: &R,
+    alloc: Global,
+    rows: &[WatchRow],
+) -> Result<(), Fail> {
+    for row in rows {
+        let kits = row.0.kits;
+        let seen = run(rt, alloc, &row.0)?;
+        same_output(rt, &seen, 0, DONE, &("kits", kits));
+        expect_messages(rt, kits, &seen.err, row);
+    }
+    Ok(())
+}
 
 #[test]
 fn lines_come_before_what_a_build_prints(rt: HostRuntime) -> Result<(), Fail> {
-    for &(kits, quiet, begin, end) in WATCHES {
-        let script = Script {
-            kits,
-            quiet,
-            ..WATCH
-        };
-        let seen = run(&rt, rt.alloc(), &script)?;
-        assert_eq!(rt; seen.status, 0, "{kits} kits");
-        assert_eq!(rt; seen.out.as_slice(), DONE, "{kits} kits");
-        assert!(rt; seen.err.as_slice().starts_with(begin), "{:?}", seen.err);
-        assert!(rt; seen.err.as_slice().ends_with(end), "{:?}", seen.err);
-        assert!(rt; kits == 2 || seen.err.len() == end.len(), "{:?}", seen.err);
-    }
-    Ok(())
+    expect_watches(&rt, rt.alloc(), WATCHES)
 }

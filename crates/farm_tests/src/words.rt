@@ -2,14 +2,18 @@
 
 use crate::command_rows::{BUILDS, COMMANDS, DONE, Row};
 use crate::devices::{FIRST, Script, Seen, run};
+use crate::same::{holds, same, same_items, same_output};
 use std::alloc::Global;
 use std::process::Abort;
 use std::sync::Wait;
 use std::test::Fail;
 use std::thread::Threads;
 
+// Words, and a text that tells of them.
+type Line = (&'static [&'static str], &'static str);
+
 // Builds that compile here: the compile gives an empty object.
-const HERE: &[(&[&str], &str)] = &[
+const HERE: &[Line] = &[
     (&["build"], "1 here stat 00000000\ntotal 1 ok 1\n"),
     (
         &["build", "--no-fallback", "--hosts", "localhost"],
@@ -18,7 +22,7 @@ const HERE: &[(&[&str], &str)] = &[
 ];
 
 // Words that don't fit, and the place of the first that doesn't.
-const BAD_WORDS: &[(&[&str], &str)] = &[
+const BAD_WORDS: &[Line] = &[
     (&[], "0"),
     (&["make"], "0"),
     (&["build", "--workers", "0"], "2"),
@@ -44,7 +48,7 @@ const BAD_WORDS: &[(&[&str], &str)] = &[
 ];
 
 // What the help of each command begins with.
-const HELP: &[(&[&str], &str)] = &[
+const HELP: &[Line] = &[
     (
         &["--help"],
         "Usage: farm build --hosts 'build1/4 build2/4' --workers 8 <jobs\n",
@@ -59,7 +63,9 @@ const HELP: &[(&[&str], &str)] = &[
 const UNREAD: &str = "farm: cannot read the job list\n";
 
 // Inputs that are no job list, or can't be read: which read fails, where 0 is none; the status, and what is said.
-const INPUTS: &[(&[u8], u64, u8, &str)] = &[
+type Input = (&'static [u8], u64, u8, &'static str);
+
+const INPUTS: &[Input] = &[
     (b"", 0, 109, "farm: job list: fault 3 at line 0\n"),
     (b"# gcc\n\n", 0, 109, "farm: job list: fault 3 at line 0\n"),
     (
@@ -84,122 +90,166 @@ const INPUTS: &[(&[u8], u64, u8, &str)] = &[
     (b"gcc -c 'x.c'\n", 1, 107, UNREAD),
 ];
 
-// Whether nothing but this was printed, and whether there is an object exactly where the status is 0 and a job ran.
-fn shows(seen: &Seen, status: u8, out: &str, err: &str) -> bool {
-    seen.status == status
-        && seen.out.as_slice() == out.as_bytes()
-        && seen.err.as_slice() == err.as_bytes()
-        && seen.object.is_some() == (out == DONE)
+// What is wanted of a run: its status, and what is printed.
+#[derive(Drop)]
+struct Wanted<'a> {
+    status: u8,
+    out: &'a str,
+    err: &'a str,
 }
 
-// Nothing but this is printed in the run of a script.
+// Nothing but this is printed in the run of a script, and there is an object exactly where the status is 0 and a job ran.
 fn check_run<R: Abort + Threads + Wait + Sync>(
     rt: &R,
     alloc: Global,
     script: &Script,
-    wanted: (u8, &str, &str),
+    wanted: &Wanted,
 ) -> Result<(), Fail> {
     let seen = run(rt, alloc, script)?;
-    assert!(rt;
-        shows(&seen, wanted.0, wanted.1, wanted.2),
-        "{:?}: {} {:?} {:?}",
-        script.words,
-        seen.status,
-        seen.out,
-        seen.err
-    );
+    check_seen(rt, script.words, &seen, wanted);
     Ok(())
+}
+
+fn check_seen<R: Abort>(rt: &R, words: &[&str], seen: &Seen, wanted: &Wanted) {
+    let place = (words, seen.status, &seen.out, &seen.err);
+    same_output(rt, seen, wanted.status, wanted.out.as_bytes(), &place);
+    same_items(rt, seen.err.as_slice(), wanted.err.as_bytes(), &place);
+    same(rt, &seen.object.is_some(), &(wanted.out == DONE), &place);
 }
 
 fn check_rows<R: Abort + Threads + Wait + Sync>(
     rt: &R,
     alloc: Global,
     rows: &[Row],
+    first: &Script,
 ) -> Result<(), Fail> {
     for row in rows {
         let script = Script {
             words: row.words,
             env: row.env,
-            ..FIRST
+            ..*first
         };
-        check_run(rt, alloc, &script, (row.status, row.out, row.err))?;
+        let wanted = Wanted {
+            status: row.status,
+            out: row.out,
+            err: row.err,
+        };
+        check_run(rt, alloc, &script, &wanted)?;
     }
     Ok(())
 }
 
 #[test]
 fn commands_answer_by_their_words(rt: HostRuntime) -> Result<(), Fail> {
-    check_rows(&rt, rt.alloc(), COMMANDS)?;
-    check_rows(&rt, rt.alloc(), BUILDS)
+    check_rows(&rt, rt.alloc(), COMMANDS, &FIRST)?;
+    check_rows(&rt, rt.alloc(), BUILDS, &FIRST)
 }
 
-// What is printed in the run of these words begins with this.
-fn check_begin<R: Abort + Threads + Wait + Sync>(
+// What these words print, which is this alone, and there is an object.
+fn check_here<R: Abort + Threads + Wait + Sync>(
     rt: &R,
     alloc: Global,
-    words: &'static [&'static str],
-    begin: &str,
-) -> Result<Seen, Fail> {
-    let seen = run(rt, alloc, &Script { words, ..FIRST })?;
-    assert_eq!(rt; seen.status, 0, "{words:?}");
-    assert!(rt;
-        seen.out.as_slice().starts_with(begin.as_bytes()),
-        "{words:?}"
-    );
-    Ok(seen)
+    rows: &[Line],
+    first: &Script,
+) -> Result<(), Fail> {
+    for &(words, out) in rows {
+        let seen = run(rt, alloc, &Script { words, ..*first })?;
+        same_output(rt, &seen, 0, out.as_bytes(), &words);
+        holds(rt, seen.object.is_some(), &words);
+    }
+    Ok(())
 }
 
 #[test]
 fn this_machine_compiles_where_no_host_does(rt: HostRuntime) -> Result<(), Fail> {
-    for &(words, out) in HERE {
-        let seen = check_begin(&rt, rt.alloc(), words, out)?;
-        assert_eq!(rt; seen.out.len(), out.len(), "{words:?}");
-        assert!(rt; seen.object.is_some(), "{words:?}");
-    }
-    Ok(())
+    check_here(&rt, rt.alloc(), HERE, &FIRST)
 }
 
 fn check_bad_words<R: Abort + Threads + Wait + Sync>(
     rt: &R,
     alloc: Global,
-    words: &'static [&'static str],
+    script: &Script,
     place: &str,
 ) -> Result<(), Fail> {
-    let script = Script {
-        words,
-        read_fails: 1,
-        ..FIRST
-    };
     let err = format!(in alloc; "farm: bad words at word {place}\n")?;
-    check_run(rt, alloc, &script, (101, "", err.as_str()))
+    let wanted = Wanted {
+        status: 101,
+        out: "",
+        err: err.as_str(),
+    };
+    check_run(rt, alloc, script, &wanted)
 }
+
+fn check_all_bad_words<R: Abort + Threads + Wait + Sync>(
+    rt: &R,
+    alloc: Global,
+    rows: &[Line],
+    unread: &Script,
+) -> Result<(), Fail> {
+    for &(words, place) in rows {
+        check_bad_words(rt, alloc, &Script { words, ..*unread }, place)?;
+    }
+    Ok(())
+}
+
+// The input can't be read, and isn't.
+const NO_INPUT: Script = Script {
+    read_fails: 1,
+    ..FIRST
+};
 
 #[test]
 fn words_that_do_not_fit_are_named_by_their_place(rt: HostRuntime) -> Result<(), Fail> {
-    for &(words, place) in BAD_WORDS {
-        check_bad_words(&rt, rt.alloc(), words, place)?;
+    check_all_bad_words(&rt, rt.alloc(), BAD_WORDS, &NO_INPUT)
+}
+
+fn check_help<R: Abort + Threads + Wait + Sync>(
+    rt: &R,
+    alloc: Global,
+    rows: &[Line],
+    first: &Script,
+) -> Result<(), Fail> {
+    for &(words, usage) in rows {
+        let seen = run(rt, alloc, &Script { words, ..*first })?;
+        same(rt, &seen.status, &0, &words);
+        holds(
+            rt,
+            seen.out.as_slice().starts_with(usage.as_bytes()),
+            &words,
+        );
+        holds(rt, seen.err.is_empty(), &words);
     }
     Ok(())
 }
 
 #[test]
 fn help_is_printed(rt: HostRuntime) -> Result<(), Fail> {
-    for &(words, usage) in HELP {
-        let seen = check_begin(&rt, rt.alloc(), words, usage)?;
-        assert!(rt; seen.err.is_empty(), "{words:?}");
+    check_help(&rt, rt.alloc(), HELP, &FIRST)
+}
+
+fn check_inputs<R: Abort + Threads + Wait + Sync>(
+    rt: &R,
+    alloc: Global,
+    rows: &[Input],
+    first: &Script,
+) -> Result<(), Fail> {
+    for &(input, read_fails, status, err) in rows {
+        let script = Script {
+            input,
+            read_fails,
+            ..*first
+        };
+        let wanted = Wanted {
+            status,
+            out: "",
+            err,
+        };
+        check_run(rt, alloc, &script, &wanted)?;
     }
     Ok(())
 }
 
 #[test]
 fn inputs_without_a_job_are_refused(rt: HostRuntime) -> Result<(), Fail> {
-    for &(input, read_fails, status, err) in INPUTS {
-        let script = Script {
-            input,
-            read_fails,
-            ..FIRST
-        };
-        check_run(&rt, rt.alloc(), &script, (status, "", err))?;
-    }
-    Ok(())
+    check_inputs(&rt, rt.alloc(), INPUTS, &FIRST)
 }

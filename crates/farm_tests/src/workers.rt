@@ -1,13 +1,17 @@
 //! Many jobs, by one worker and by several.
 
-ghost use Rattle.std.specs.Prelude.{◌≡◌, false, IfOk};
+ghost use Rattle.std.specs.Prelude.{◌≡◌, ◌≤◌, false, length, All, IfOk};
+ghost use Rattle.farm_types.specs.Limits.{workers_max};
+ghost use Rattle.edge_traits.specs.Keepers.{IsIdle};
+ghost use Rattle.edge_memory.specs.Keepers.{keeper_state, keeper_shows};
 ghost use Rattle.edge_memory.specs.Sinks.{sink_state, sink_shows};
 
 use crate::devices::{
-    FIRST, MemKit, Page, Script, asked_for, call, content_of, kits, numbers, told,
+    FIRST, MemKit, Page, Script, Seen, asked_for, call, content_of, kits, numbers, told,
 };
+use crate::same::{same, same_items, same_output};
 use edge_memory::{MemSink, Moves};
-use edge_traits::{CallNumbers, Sink};
+use edge_traits::{CallNumbers, Keeper, Sink};
 use farm_types::Bytes;
 use std::alloc::{AllocError, Global};
 use std::process::Abort;
@@ -15,44 +19,81 @@ use std::sync::Wait;
 use std::test::Fail;
 use std::thread::Threads;
 
+fn push_job(alloc: Global, text: &mut Bytes, number: u32) -> Result<(), AllocError> {
+    let line = format!(in alloc; "scc -I. -DN=3 -O2 -MD -c f{number}.c -o f{number}.o\n")?;
+    text.try_extend(line.as_bytes())
+}
+
 // Each of twelve jobs has an object of its own name.
 fn twelve_jobs(alloc: Global) -> Result<Bytes, AllocError> {
     let mut text = Bytes::new(alloc);
     for number in 1..13 {
-        let line = format!(in alloc; "scc -I. -DN=3 -O2 -MD -c f{number}.c -o f{number}.o\n")?;
-        text.try_extend(line.as_bytes())?;
+        push_job(alloc, &mut text, number)?;
     }
     Ok(text)
+}
+
+fn push_line(alloc: Global, text: &mut Bytes, number: u32) -> Result<(), AllocError> {
+    let line = format!(in alloc; "{number} remote H:3632 stat 00000000\n")?;
+    text.try_extend(line.as_bytes())
 }
 
 fn twelve_lines(alloc: Global) -> Result<Bytes, AllocError> {
     let mut text = Bytes::new(alloc);
     for number in 1..13 {
-        let line = format!(in alloc; "{number} remote H:3632 stat 00000000\n")?;
-        text.try_extend(line.as_bytes())?;
+        push_line(alloc, &mut text, number)?;
     }
     text.try_extend(b"total 12 ok 12\n")?;
     Ok(text)
 }
 
-// How many of the twelve objects stand in a kit's files.
-fn objects_of(alloc: Global, kit: &mut MemKit) -> Result<u32, AllocError> {
+// Whether the object of this number stands in a keeper's files.
+fn has_object<K: Keeper>(alloc: Global, keeper: &mut K, number: u32) -> Result<bool, AllocError> {
+    let name = format!(in alloc; "f{number}.o")?;
+    Ok(content_of(alloc, keeper, name.as_bytes())?.is_some())
+}
+
+// How many of the twelve objects stand in a keeper's files.
+fn objects_of<K: Keeper>(alloc: Global, keeper: &mut K) -> Result<u32, AllocError> {
     let mut found: u32 = 0;
     for number in 1..13 {
-        let name = format!(in alloc; "f{number}.o")?;
-        if content_of(alloc, kit, name.as_bytes())?.is_some() {
+        if has_object(alloc, keeper, number)? {
             found = found.saturating_add(1);
         }
     }
     Ok(found)
 }
 
-fn objects_in(alloc: Global, kits: &mut Vec<MemKit>) -> Result<u32, AllocError> {
+fn objects_in(alloc: Global, kits: &mut [MemKit]) -> Result<u32, AllocError> {
     let mut found: u32 = 0;
     for kit in kits.iter_mut() {
-        found = found.saturating_add(objects_of(alloc, kit)?);
+        found = found.saturating_add(objects_of(alloc, &mut kit.keeper)?);
     }
     Ok(found)
+}
+
+const WORDS: &[&str] = &["build", "--hosts", "H:3632/4 localhost/2", "--workers", "4"];
+
+const QUIET: Script = Script {
+    quiet: true,
+    ..FIRST
+};
+
+fn status_of<W: Threads + Wait + Sync, O: Sink>(
+    rt: &W,
+    alloc: Global,
+    kits: &mut Vec<MemKit>,
+    out: &mut O,
+) -> Result<u8, AllocError>
+    requires some { 1 ≤ length kits.old.items }
+    requires most { length kits.old.items ≤ workers_max }
+    requires idle { All (λ kit. IsIdle (keeper_shows (keeper_state kit.keeper))) kits.old.items }
+    requires out { (O.shows out.old).stopped ≡ false }
+{
+    let text = twelve_jobs(alloc)?;
+    let asked = asked_for(alloc, WORDS, text)?;
+    let mut err = Page::new(alloc);
+    Ok(call(rt, alloc, asked, kits, out, &mut err))
 }
 
 // The status of twelve jobs over so many kits, and how many objects stand.
@@ -66,15 +107,17 @@ fn twelve<W: Threads + Wait + Sync, O: Sink>(
 {
     let script = Script {
         kits: number,
-        quiet: true,
-        ..FIRST
+        ..QUIET
     };
-    let words = ["build", "--hosts", "H:3632/4 localhost/2", "--workers", "4"];
-    let asked = asked_for(alloc, &words, twelve_jobs(alloc)?)?;
     let mut kits = kits(alloc, &script)?;
-    let mut err = Page::new(alloc);
-    let status = call(rt, alloc, asked, &mut kits, out, &mut err);
-    Ok((status, objects_in(alloc, &mut kits)?))
+    let status = status_of(rt, alloc, &mut kits, out)?;
+    Ok((status, objects_in(alloc, kits.as_mut_slice())?))
+}
+
+fn expect_lines<R: Abort>(rt: &R, alloc: Global, out: &Bytes, row: &usize) -> Result<(), Fail> {
+    let lines = twelve_lines(alloc)?;
+    same_items(rt, out.as_slice(), lines.as_slice(), row);
+    Ok(())
 }
 
 fn expect_all<R: Abort + Threads + Wait + Sync>(
@@ -82,11 +125,10 @@ fn expect_all<R: Abort + Threads + Wait + Sync>(
     alloc: Global,
     number: usize,
 ) -> Result<(), Fail> {
-    let lines = twelve_lines(alloc)?;
     let mut out = Page::new(alloc);
-    assert_eq!(rt; twelve(rt, alloc, number, &mut out)?, (0, 12));
-    assert_eq!(rt; out.text.as_slice(), lines.as_slice());
-    Ok(())
+    let ended = twelve(rt, alloc, number, &mut out)?;
+    same(rt, &ended, &(0, 12), &number);
+    expect_lines(rt, alloc, &out.text, &number)
 }
 
 #[test]
@@ -115,7 +157,8 @@ fn expect_stopped<R: Abort + Threads + Wait + Sync>(
     number: usize,
 ) -> Result<(), Fail> {
     let mut out = stopped_sink(alloc)?;
-    assert_eq!(rt; twelve(rt, alloc, number, &mut out)?, (100, 12));
+    let ended = twelve(rt, alloc, number, &mut out)?;
+    same(rt, &ended, &(100, 12), &number);
     Ok(())
 }
 
@@ -135,6 +178,18 @@ fn long_command(alloc: Global, count: u32) -> Result<Bytes, AllocError> {
     Ok(text)
 }
 
+// What is seen of a compile of so many words.
+fn long_build<W: Threads + Wait + Sync>(
+    rt: &W,
+    alloc: Global,
+    count: u32,
+) -> Result<Seen, AllocError> {
+    let mut kits = kits(alloc, &FIRST)?;
+    let text = long_command(alloc, count)?;
+    let asked = asked_for(alloc, &["build", "--hosts", "H"], text)?;
+    Ok(told(rt, alloc, asked, &mut kits))
+}
+
 // A compile of so many words is done at this place.
 fn expect_place<R: Abort + Threads + Wait + Sync>(
     rt: &R,
@@ -143,12 +198,8 @@ fn expect_place<R: Abort + Threads + Wait + Sync>(
     place: &str,
 ) -> Result<(), Fail> {
     let line = format!(in alloc; "1 {place} stat 00000000\ntotal 1 ok 1\n")?;
-    let text = long_command(alloc, count)?;
-    let asked = asked_for(alloc, &["build", "--hosts", "H"], text)?;
-    let mut kits = kits(alloc, &FIRST)?;
-    let seen = told(rt, alloc, asked, &mut kits);
-    assert_eq!(rt; seen.status, 0);
-    assert_eq!(rt; seen.out.as_slice(), line.as_bytes());
+    let seen = long_build(rt, alloc, count)?;
+    same_output(rt, &seen, 0, line.as_bytes(), &count);
     Ok(())
 }
 

@@ -17,6 +17,3 @@ pub use numbers::Count;
 pub use run::{Rehearsed, rehearse};
 pub use station::StillStation;
 pub use workload_runs::runs_of_jobs;
-
-#[cfg(test)]
-mod tests;
