@@ -1,8 +1,10 @@
 //! The clock and the standard streams.
 
+use crate::same::same;
 use edge_real::{StdSink, StdSource, WallClock};
 use edge_traits::{Clock, EdgeFault, Sink, Source};
 use std::io::pipe;
+use std::process::Abort;
 use std::test::Fail;
 use std::time::{Duration, Instant};
 
@@ -40,10 +42,11 @@ fn streams_end_and_break(rt: HostRuntime) -> Result<(), Fail> {
     let (reader, writer) = pipe(&rt)?;
     let mut sink = StdSink::new(writer);
     let mut source = StdSource::new(reader);
-    assert_eq!(rt; write_two(&mut sink), Ok(2));
-    assert_eq!(rt; read_some(&mut source).0, Ok(2));
+    same(&rt, &write_two(&mut sink), &Ok(2), &"a write");
+    same(&rt, &read_some(&mut source).0, &Ok(2), &"a read");
     drop(source);
-    assert_eq!(rt; write_two(&mut sink), Err(EdgeFault::Failed));
+    let broken = Err(EdgeFault::Failed);
+    same(&rt, &write_two(&mut sink), &broken, &"nobody reads");
     Ok(())
 }
 
@@ -51,24 +54,29 @@ fn streams_end_and_break(rt: HostRuntime) -> Result<(), Fail> {
 fn a_stream_without_its_other_end_is_at_its_end(rt: HostRuntime) -> Result<(), Fail> {
     let (reader, writer) = pipe(&rt)?;
     drop(writer);
-    assert_eq!(rt; read_some(&mut StdSource::new(reader)).0, Ok(0));
+    let read = read_some(&mut StdSource::new(reader)).0;
+    same(&rt, &read, &Ok(0), &"nobody writes");
     let mut none = [0u8; 0];
-    assert_eq!(rt; write_two(&mut StdSink::new(none.as_mut_slice())), Ok(0));
+    let written = write_two(&mut StdSink::new(none.as_mut_slice()));
+    same(&rt, &written, &Ok(0), &"no room");
     Ok(())
 }
 
 /// What three reads of two bytes at most give of `abc`.
 const READS: &[(usize, &[u8; 2])] = &[(2, b"ab"), (1, b"c-"), (0, b"--")];
 
+fn expect_reads<R: Abort, S: Source>(rt: &R, source: &mut S, rows: &[(usize, &[u8; 2])]) {
+    for (count, bytes) in rows {
+        let (given, room) = read_some(source);
+        same(rt, &given, &Ok(*count), bytes);
+        same(rt, &room, *bytes, bytes);
+    }
+}
+
 #[test]
 fn streams_in_memory_give_and_keep_their_bytes(rt: HostRuntime) -> Result<(), Fail> {
-    let mut source = StdSource::new(b"abc".as_slice());
-    for (count, bytes) in READS {
-        let (given, room) = read_some(&mut source);
-        assert_eq!(rt; given, Ok(*count));
-        assert_eq!(rt; &room, *bytes);
-    }
+    expect_reads(&rt, &mut StdSource::new(b"abc".as_slice()), READS);
     let mut sink = StdSink::new(Vec::new(rt.alloc()));
-    assert_eq!(rt; write_two(&mut sink), Ok(2));
+    same(&rt, &write_two(&mut sink), &Ok(2), &"a write");
     Ok(())
 }
