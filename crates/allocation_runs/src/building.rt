@@ -3,6 +3,8 @@
 ghost use Rattle.std.specs.Prelude.{◌≡◌, ◌≤◌, false, length, All, IfOk};
 ghost use Rattle.farm_types.specs.Limits.{workers_max};
 ghost use Rattle.farm_program.specs.Worlds.{AreReady};
+ghost use Rattle.edge_memory.specs.Sinks.{sink_shows, sink_state};
+ghost use Rattle.edge_memory.specs.Sources.{source_shows, source_state};
 ghost use Rattle.edge_traits.specs.Keepers.{IsIdle};
 ghost use Rattle.object_delivery.specs.ScriptedFiles.{files_state, files_shows};
 ghost use Rattle.object_delivery.specs.Staging.{keeper_view};
@@ -12,7 +14,7 @@ use edge_memory::{
     LinkScript, LinkScripts, MemClock, MemDialer, MemSink, MemSource, MemStation, Moments, Moves,
     RanList,
 };
-use edge_traits::{CallNumbers, Clock, Dialer, FileList, Keeper, Kit, Sink, Source, Station};
+use edge_traits::{CallNumbers, FileList, Kit};
 use farm_program::{Ended, farm};
 use farm_types::Bytes;
 use object_delivery::{FileKeeper, MemFiles};
@@ -142,30 +144,19 @@ fn seen_of(ended: &Ended) -> Option<(u8, usize)> {
 }
 
 // Does the jobs of these words.
-fn run<
-    T: Threads + Wait + Sync,
-    D: Dialer + Send + Drop,
-    S: Station + Send + Drop,
-    K: Keeper + Send + Drop,
-    C: Clock + Send + Drop,
-    R: Source,
-    O: Sink,
-    E: Sink + Send,
->(
-    rt: &T,
+fn run<W: Threads + Wait + Sync>(
+    rt: &W,
     alloc: Global,
     words: &[String],
-    input: &mut R,
-    kits: &mut Vec<Kit<D, S, K, C>>,
-    out: &mut O,
-    err: &mut E,
+    input: &mut MemSource,
+    kits: &mut Vec<FileKit>,
+    out: &mut MemSink,
+    err: &mut MemSink,
 ) -> Option<(u8, usize)>
-where
-    D::Link: Send,
-    requires input { (R.shows input.old).ended ≡ false }
-    requires kits { AreReady 1 (λ kit. IsIdle (K.shows kit.keeper)) kits.old.items }
-    requires out { (O.shows out.old).stopped ≡ false }
-    requires err { (E.shows err.old).stopped ≡ false }
+    requires input { (source_shows (source_state input.old)).ended ≡ false }
+    requires kits { AreReady 1 (λ kit. IsIdle (keeper_view (files_shows (files_state kit.keeper.files)) kit.keeper.pending)) kits.old.items }
+    requires out { (sink_shows (sink_state out.old)).stopped ≡ false }
+    requires err { (sink_shows (sink_state err.old)).stopped ≡ false }
 {
     let ended = farm(rt, alloc, words, &[], input, kits, out, err);
     seen_of(&ended)
