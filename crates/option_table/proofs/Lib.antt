@@ -4,4 +4,4 @@ pub mod Pieces
 pub mod Positions
 pub mod Searching
 pub mod Sorting
-pub mod TableRows
+pub mod Indexing

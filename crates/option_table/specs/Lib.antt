@@ -3,6 +3,7 @@ pub mod Faults
 pub mod Spans
 pub mod Searches
 pub mod Reasons
+pub mod Held
 pub mod Gcc
 pub mod Scc
 pub mod Listing

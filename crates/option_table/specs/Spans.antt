@@ -1,5 +1,5 @@
 -- The places of a table's rows, sorted, and the span of each second byte.
-use Rattle.std.specs.Prelude.{◌≡◌, ℕ, ◌<◌, ◌≤◌, ◌^◌, true, nat_eq, List, ◌∷◌, length, IsTrue}
+use Rattle.std.specs.Prelude.{◌≡◌, ℕ, ◌+◌, ◌-◌, ◌<◌, ◌≤◌, ◌^◌, true, nat_eq, List, ◌∷◌, length, take, drop, IsTrue}
 use Rattle.std.specs.List.{list_any, slice_index}
 use Rattle.std.specs.List.Sorted.{IsNonDecreasingBy}
 use Rattle.option_table.specs.declared.row.OptionRow.{OptionRow}
@@ -40,6 +40,11 @@ pub record IsIndexed (rows : List OptionRow) (places starts : List ℕ) : Type 0
   pub table : IsTrue (is_table rows)
   pub all : AreAllPlaces rows places
   pub spans : AreStarts rows places starts
+
+-- the places from the start of a letter to that of the next one
+abbrev pub span_of : List ℕ → List ℕ → ℕ → List ℕ
+span_of places starts letter =
+    take (slice_index starts (letter + 1) - slice_index starts letter) (drop (slice_index starts letter) places)
 
 -- every place of a row with this second byte is among the places
 abbrev pub IsSpan : List OptionRow → ℕ → List ℕ → Type 0

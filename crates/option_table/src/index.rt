@@ -1,9 +1,9 @@
 //! The places of rows, sorted, and the span of each second byte.
 
-ghost use Rattle.std.specs.Prelude.{◌≡◌, ◌<◌, ◌≤◌, ◌^◌, ℕ, length, slice_index, nat_lt};
+ghost use Rattle.std.specs.Prelude.{◌≡◌, ◌+◌, ◌<◌, ◌≤◌, ◌^◌, ℕ, length, slice_index, nat_lt};
 ghost use Rattle.std.specs.Ordering.{nat_cmp};
 ghost use Rattle.std.specs.Cmp.Lexicographic.{slice_cmp};
-ghost use Rattle.option_table.specs.Spans.{spelling_at, letter_at, sort_key, IsStart, AreAllPlaces, AreSorted, AreStarts};
+ghost use Rattle.option_table.specs.Spans.{spelling_at, letter_at, sort_key, IsStart, AreAllPlaces, AreSorted, AreStarts, span_of};
 
 use crate::row::OptionRow;
 use std::cmp::Ordering;
@@ -63,6 +63,18 @@ fn start_of(rows: &[OptionRow], places: &[u32], letter: u32) -> u32
         { u32::from(letter_at(rows, *place)) < letter },
     );
     start as u32
+}
+
+// The places from the start of this letter to that of the next one.
+pub(crate) fn span_of<'a>(places: &'a [u32], starts: &[u32], letter: u8) -> &'a [u32]
+    requires letters { length starts.now ≡ 257 }
+    requires order { slice_index starts.now letter ≤ slice_index starts.now (letter + 1) }
+    requires within { slice_index starts.now (letter + 1) ≤ length places.now }
+    ensures { result.now ≡ span_of places.now starts.now letter }
+{
+    let start = starts[letter as usize] as usize;
+    let end = starts[letter as usize + 1] as usize;
+    &places[start..end]
 }
 
 fn compare(rows: &[OptionRow], one: u32, other: u32) -> Ordering

@@ -3,6 +3,7 @@
 
 mod fault;
 mod gcc;
+mod held;
 mod index;
 mod listing;
 pub mod reasons;
@@ -13,7 +14,7 @@ mod spelling;
 mod table;
 
 pub use fault::TableFault;
-pub use gcc::gcc_table;
+pub use gcc::{GCC_ROWS, gcc_table};
 pub use listing::is_listing;
 pub use row::{Effect, Form, OptionRow};
 pub use scc::scc_table;

@@ -71,10 +71,34 @@ impl OptionRow {
     }
 }
 
-// The rows of a table, one a line: its spelling, its form, and its effect.
+// A row of a constant table.
+#[derive(Clone, Copy, Debug)]
+pub(crate) struct ConstantRow {
+    pub spelling: &'static str,
+    pub form: Form,
+    pub effect: Effect,
+}
+
+impl ConstantRow {
+    ghost use Rattle.option_table.specs.Held.{constant_row};
+
+    // The row.
+    pub fn row(&self) -> OptionRow
+        requires { length self.now.spelling.now ≤ SPELLING_MAX }
+        ensures { result ≡ constant_row self.now }
+    {
+        OptionRow::new(self.spelling, self.form, self.effect)
+    }
+}
+
+// The rows of a constant table, one a line: its spelling, its form, and its effect.
 macro_rules! rows {
     ($($spelling:literal $form:ident $effect:ident $(($why:path))?;)*) => {
-        [$(OptionRow::new($spelling, Form::$form, Effect::$effect $(($why))?)),*]
+        [$(ConstantRow {
+            spelling: $spelling,
+            form: Form::$form,
+            effect: Effect::$effect $(($why))?,
+        }),*]
     };
 }
 

@@ -1,11 +1,14 @@
 //! A table of options, and the row that fits a word.
 
-ghost use Rattle.std.specs.Prelude.{◌≡◌, ◌<◌, ◌↔◌, ◌^◌, ℕ, length, Some, IfSome, IsNone, IsSomeAnd, IsOk, IfOk, IfErr, Err, IsTrue};
+ghost use Rattle.std.specs.Prelude.{◌≡◌, ◌<◌, ◌≤◌, ◌↔◌, ◌^◌, ℕ, length, MatchOption, Some, IfSome, IsNone, IsSomeAnd, IsOk, IfOk, IfErr, Err, IsTrue};
 ghost use Rattle.std.specs.List.{list_all, slice_get};
 ghost use Rattle.option_table.specs.Rows.{fits_not, is_table};
+ghost use Rattle.option_table.specs.Held.{IsEntry};
+ghost use Rattle.option_table.specs.Searches.{length_at};
 
 use crate::fault::{TableFault, fault_of};
-use crate::index::{LETTERS, second_byte, sorted_places, spans};
+use crate::held::{Entry, Held};
+use crate::index::{second_byte, sorted_places, span_of, spans};
 use crate::row::OptionRow;
 use crate::search::{equal_place, longest_place};
 use farm_types::Bytes;
@@ -26,21 +29,19 @@ pub struct Found {
 /// and for each byte the span of the places whose spelling has it there.
 #[derive(Debug, Drop)]
 pub struct OptionTable<const N: usize> {
-    rows: [OptionRow; N],
-    places: [u32; N],
-    starts: [u32; LETTERS],
+    pub(crate) held: Held<N>,
 }
 
 impl<const N: usize> Model for OptionTable<N> {
     ghost use Rattle.std.specs.Prelude.{List};
     ghost use Rattle.option_table.specs.declared.row.OptionRow.{OptionRow};
-    ghost use Rattle.option_table.specs.Spans.{IsIndexed};
+    ghost use Rattle.option_table.specs.Held.{held_rows, IsHeld};
 
     ghost Value = { List OptionRow };
 
-    ghost view = { λ t. t.rows };
+    ghost view = { λ t. held_rows t.held };
 
-    ghost invariant = { λ t. IsIndexed t.rows t.places t.starts };
+    ghost invariant = { λ t. IsHeld N t.held };
 }
 
 impl<const N: usize> OptionTable<N> {
@@ -64,9 +65,11 @@ impl<const N: usize> OptionTable<N> {
                 let places = sorted_places(&rows);
                 let starts = spans(&rows, &places);
                 Ok(OptionTable {
-                    rows,
-                    places,
-                    starts,
+                    held: Held::Own {
+                        rows,
+                        places,
+                        starts,
+                    },
                 })
             }
         }
@@ -78,7 +81,10 @@ impl<const N: usize> OptionTable<N> {
         ensures there { slice_get self.now at ≡ Some result }
         ensures value { result ≡ row_at self.now at }
     {
-        self.rows[at as usize].copy()
+        match &self.held {
+            Held::Own { rows, .. } => rows[at as usize].copy(),
+            Held::Constant { rows, .. } => rows[at as usize].row(),
+        }
     }
 
     /// The row that fits a word, or None where no row does.
@@ -92,7 +98,7 @@ impl<const N: usize> OptionTable<N> {
         match self.place(word.as_slice()) {
             Some(row) => Some(Found {
                 row,
-                joined: self.rows[row as usize].spelling.len(),
+                joined: self.length_at(row),
             }),
             None => None,
         }
@@ -106,19 +112,42 @@ impl<const N: usize> OptionTable<N> {
         ensures table { IsTrue (is_table self.now) }
     {
         let places = self.span(second_byte(word));
-        match equal_place(&self.rows, places, word) {
+        match equal_place(self, places, word) {
             Some(place) => Some(place),
-            None => longest_place(&self.rows, places, word),
+            None => longest_place(self, places, word),
         }
     }
 
     // The places whose spelling has this second byte.
     fn span(&self, letter: u8) -> &[u32]
-        ensures { IsSpan self.now letter result.now }
+        ensures span { IsSpan self.now letter result.now }
+        ensures table { IsTrue (is_table self.now) }
+        ensures count { length self.now ≡ N }
     {
-        let start = self.starts[letter as usize] as usize;
-        let end = self.starts[letter as usize + 1] as usize;
-        let places = self.places.as_slice();
-        &places[start..end]
+        match &self.held {
+            Held::Own { places, starts, .. } => span_of(
+                places.as_slice(),
+                starts.as_slice(),
+                letter,
+            ),
+            Held::Constant { places, starts, .. } => span_of(places, starts, letter),
+        }
+    }
+
+    // The row at a place.
+    pub(crate) fn entry(&self, place: u32) -> Option<Entry<'_>>
+        ensures { MatchOption result (length self.now ≤ place) (λ entry. IsEntry self.now place entry) }
+    {
+        self.held.entry(place)
+    }
+
+    // The length of the spelling at a place; 0 past the end.
+    pub(crate) fn length_at(&self, place: u32) -> usize
+        ensures { result ≡ length_at self.now place }
+    {
+        match self.entry(place) {
+            Some(entry) => entry.spelling.len(),
+            None => 0,
+        }
     }
 }

@@ -1,7 +1,16 @@
-use Rattle.std.proofs.Common.{ap, ◌∙◌}
-use Rattle.option_table.specs.Rows.{is_table}
-use Rattle.option_table.proofs.TableRows.{gcc_rows_are_table}
+use Rattle.std.proofs.Common.{refl, arith}
+use Rattle.option_table.specs.Gcc.{gcc_rows}
+use Rattle.option_table.proofs.Indexing.{indexed_by_test}
 use Rattle.option_table.proofs.gcc.gcc_table.Goals as goal
 
-pub unwrap-requires : goal.unwrap-requires
-unwrap-requires c = c.new.ensures.right.1 (ap is_table c.listed_rows.ensures ∙ gcc_rows_are_table)
+pub invariant_of-result : goal.invariant_of-result
+invariant_of-result c = record {
+  count = refl;
+  indexed = indexed_by_test _ _ _ (omega arith) refl;
+  letters = refl;
+  fit = refl;
+}
+
+pub returns : goal.returns
+unfolding gcc_rows
+returns c = refl
