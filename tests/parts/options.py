@@ -1,4 +1,4 @@
-"""Requests with options for farmd: `served PORT RUNS`, `refused PORT RUNS`, and `hostile PORT FOLDER --compiler NAME=PATH..`."""
+"""Requests with options for farmd: `served PORT RUNS`, `refused PORT RUNS`, `local PORT RUNS`, and `hostile PORT FOLDER --compiler NAME=PATH..`."""
 import os
 import sys
 import time
@@ -22,6 +22,10 @@ def lines():
             yield [line] if "-prefix-map=" in line else line.split(" ")
 
 
+# What begins the answer to each kind of line, and how often it runs. A line of `local` is answered with status 28,416.
+ANSWERS = {"served": (1, b"DONE00000001"), "refused": (0, b""), "local": (0, b"DONE00000001STAT00006f00")}
+
+
 def through():
     """Each line runs, or none does."""
     runs = sys.argv[3]
@@ -31,8 +35,9 @@ def through():
         reply = ask("probe", options, b"int a;\n")
         ran = os.path.getsize(runs) - before
         count += 1
-        wanted = (1, b"DONE00000001") if KIND == "served" else (0, b"")
-        expect(f"{' '.join(options)} is to be {KIND}:", (ran, reply[:12]) == wanted, f"{ran} runs, {reply[:60]!r}")
+        runs_wanted, front = ANSWERS[KIND]
+        answered = reply.startswith(front) if front else not reply
+        expect(f"{' '.join(options)} is to be {KIND}:", ran == runs_wanted and answered, f"{ran} runs, {reply[:60]!r}")
     expect("commands are read", count)
     print(f"{len(failures)} of {count} aren't {KIND}" if failures else f"{count} commands are {KIND}")
 
@@ -61,13 +66,6 @@ def hostile():
                 expect(f"{compiler} {' '.join(options)}:", not reply and not made, f"made {made}, {reply[:80]!r}")
                 for name in made:
                     os.remove(os.path.join(outside, name))
-    # what is let through and writes beside the object writes into the folder of the run
-    for options in (["-fstack-usage"], ["-fcallgraph-info"], ["-O2", "-fopt-info-all=wrote"], ["-ftime-trace"], ["-O2", "-fsave-optimization-record"]):
-        for compiler in compilers:
-            ask(compiler, options, sources[0])
-            count += 1
-    made = os.listdir(outside)
-    expect("written outside the folder of a run:", not made, made)
     # the doors serve on
     for compiler in compilers:
         reply = ask(compiler, ["-O2"], sources[0])

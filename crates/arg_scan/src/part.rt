@@ -7,7 +7,7 @@ ghost use Rattle.arg_scan.specs.Roles.{role_of, option_role, operand_of, owed, p
 
 use crate::names::{Ending, ending_of, last_name};
 use farm_types::Bytes;
-use option_table::{Effect, Form, OptionTable};
+use option_table::{Effect, Form, GCC_ROWS, OptionTable};
 
 /// Where the operand of an option stands.
 #[derive(Clone, Copy, Debug, PartialEq, Eq)]
@@ -64,7 +64,12 @@ impl Part {
 }
 
 /// What a word is used as, by its place and the option whose operand it is.
-pub fn part_of(table: &OptionTable<64>, owner: Option<Effect>, at: usize, word: &Bytes) -> Part
+pub fn part_of(
+    table: &OptionTable<GCC_ROWS>,
+    owner: Option<Effect>,
+    at: usize,
+    word: &Bytes,
+) -> Part
     requires { table.now ≡ gcc_rows }
     ensures { result ≡ part_of owner at word.now }
 {
@@ -79,7 +84,7 @@ pub fn part_of(table: &OptionTable<64>, owner: Option<Effect>, at: usize, word: 
 
 // What a word is in a place where an option may stand.
 #[tactic(auto, unfolding(crate::specs::Roles::role_of))]
-fn role_of(table: &OptionTable<64>, word: &Bytes) -> Role
+fn role_of(table: &OptionTable<GCC_ROWS>, word: &Bytes) -> Role
     requires { table.now ≡ gcc_rows }
     ensures { result ≡ role_of word.now }
 {
@@ -98,7 +103,7 @@ fn role_of(table: &OptionTable<64>, word: &Bytes) -> Role
     }
 }
 
-fn option_role(table: &OptionTable<64>, word: &Bytes) -> Role
+fn option_role(table: &OptionTable<GCC_ROWS>, word: &Bytes) -> Role
     requires { table.now ≡ gcc_rows }
     ensures { result ≡ option_role (found gcc_rows word.now) word.now }
 {

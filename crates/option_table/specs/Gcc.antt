@@ -128,7 +128,6 @@ gcc_rows =
     -- a compile of preprocessed text doesn't give the same
     row (codes "-P") form.None (effect.Local reason.side_file) ∷
     row (codes "-finput-charset=") form.Joined (effect.Local reason.side_file) ∷
-    row (codes "-fpreprocessed") form.None (effect.Local reason.side_file) ∷
     row (codes "-fno-preprocessed") form.None (effect.Local reason.side_file) ∷
     row (codes "-fdirectives-only") form.None (effect.Local reason.side_file) ∷
     row (codes "-frewrite-") form.Joined (effect.Local reason.side_file) ∷
