@@ -7,6 +7,8 @@ bin = $(DESTDIR)$(PREFIX)/bin
 man = $(DESTDIR)$(PREFIX)/share/man/man1
 completions = $(DESTDIR)$(PREFIX)/share/bash-completion/completions
 units = $(DESTDIR)$(PREFIX)/lib/systemd/system
+boxes = $(DESTDIR)$(PREFIX)/lib/farmd
+BOXED = gcc g++ cc c++ clang clang++
 defaults = $(DESTDIR)/etc/default
 
 .PHONY: bench bench-jobs bench-wire build checks demo dist gate install test test-all uninstall
@@ -61,25 +63,30 @@ test-all: test
 build:
 	tools/prove $(PROGRAMS)
 
-# The programs, farmcc, their manual pages, the completion for bash, and the unit of farmd for systemd, below PREFIX; what the unit is started with,
+# The programs, farmcc, farmd-box with a link for each usual compiler, manual pages, the completion for bash, and the unit of farmd for systemd, below
+# PREFIX; what the unit is started with,
 # in /etc/default/farmd, unless it is there already. DESTDIR stands before these where a package is made. What isn't built yet is proved
 # and built.
 install:
 	@for program in $(PROGRAMS); do [ -x crates/$$program/out/$$program ] || exec tools/prove $(PROGRAMS); done
-	install -d $(bin) $(man) $(completions) $(units)
+	install -d $(bin) $(man) $(completions) $(units) $(boxes)
 	for program in $(PROGRAMS); do \
 	  install -m 755 crates/$$program/out/$$program $(bin)/$$program && \
 	  install -m 644 man/$$program.1 $(man)/$$program.1 && \
 	  install -m 644 contrib/completions/farm $(completions)/$$program || exit 1; \
 	done
 	install -m 755 contrib/farmcc $(bin)/farmcc
-	sed 's|/usr/local/bin/farmd|$(PREFIX)/bin/farmd|' contrib/farmd.service >$(units)/farmd.service
+	install -m 755 contrib/farmd-box $(boxes)/farmd-box
+	for name in $(BOXED); do ln -sf farmd-box $(boxes)/$$name || exit 1; done
+	sed 's|/usr/local/bin/farmd|$(PREFIX)/bin/farmd|; s|/usr/local/lib/farmd/|$(PREFIX)/lib/farmd/|g' contrib/farmd.service >$(units)/farmd.service
 	chmod 644 $(units)/farmd.service
 	[ -e $(defaults)/farmd ] || { install -d $(defaults) && install -m 644 contrib/farmd.default $(defaults)/farmd; }
 
 uninstall:
 	for program in $(PROGRAMS); do rm -f $(bin)/$$program $(man)/$$program.1 $(completions)/$$program; done
-	rm -f $(units)/farmd.service $(bin)/farmcc
+	rm -f $(units)/farmd.service $(bin)/farmcc $(boxes)/farmd-box
+	for name in $(BOXED); do rm -f $(boxes)/$$name; done
+	[ ! -d $(boxes) ] || rmdir --ignore-fail-on-non-empty $(boxes)
 	if cmp -s contrib/farmd.default $(defaults)/farmd; then rm -f $(defaults)/farmd; fi
 
 # An archive of what `make install` puts in place, with the SHA-256 sums of its files and how it was made, in dist/ or in the folder that ARCHIVES

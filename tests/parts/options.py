@@ -8,6 +8,7 @@ from wire import compile_request, exchange
 
 KIND, PORT = sys.argv[1], int(sys.argv[2])
 SECRET = "a line that only this machine has"
+REFUSAL = b"not let through: "
 
 
 def ask(compiler, options, source):
@@ -22,8 +23,9 @@ def lines():
             yield [line] if "-prefix-map=" in line else line.split(" ")
 
 
-# What begins the answer to each kind of line, and how often it runs. A line of `local` is answered with status 28,416.
-ANSWERS = {"served": (1, b"DONE00000001"), "refused": (0, b""), "local": (0, b"DONE00000001STAT00006f00")}
+# Of each kind of line how often it runs, what begins the reply, and whether that says that a word isn't let through. 00006f00 is the status 28,416.
+REFUSED = b"DONE00000001STAT00006f00"
+ANSWERS = {"served": (1, b"DONE00000001", False), "refused": (0, REFUSED, True), "local": (0, REFUSED, False)}
 
 
 def through():
@@ -35,9 +37,9 @@ def through():
         reply = ask("probe", options, b"int a;\n")
         ran = os.path.getsize(runs) - before
         count += 1
-        runs_wanted, front = ANSWERS[KIND]
-        answered = reply.startswith(front) if front else not reply
-        expect(f"{' '.join(options)} is to be {KIND}:", ran == runs_wanted and answered, f"{ran} runs, {reply[:60]!r}")
+        wanted = ANSWERS[KIND]
+        seen = (ran, reply[:len(wanted[1])], REFUSAL in reply)
+        expect(f"{' '.join(options)} is to be {KIND}:", seen == wanted, f"{ran} runs, {reply[:90]!r}")
     expect("commands are read", count)
     print(f"{len(failures)} of {count} aren't {KIND}" if failures else f"{count} commands are {KIND}")
 
@@ -63,7 +65,7 @@ def hostile():
                 reply = ask(compiler, options, source)
                 count += 1
                 made = os.listdir(outside)
-                expect(f"{compiler} {' '.join(options)}:", not reply and not made, f"made {made}, {reply[:80]!r}")
+                expect(f"{compiler} {' '.join(options)}:", REFUSAL in reply and not made, f"made {made}, {reply[:90]!r}")
                 for name in made:
                     os.remove(os.path.join(outside, name))
     # the doors serve on

@@ -3,7 +3,7 @@ use access_list::Rule;
 use daemon_service::Compiler;
 use daemon_words::{
     Command, DoorPlace, Options, compilers_of, door_place, help_text, parse_words, rules_of,
-    settings_of, trusts_options, version_text,
+    settings_of, tools_of, trusts_options, version_text,
 };
 use std::alloc::{AllocError, Global};
 use std::process::Abort;
@@ -33,6 +33,15 @@ const BAD: &[(&[&str], usize)] = &[
     (&["--cache", "0128"], 1),
     (&["--cache"], 1),
     (&["--cache", "1", "--cache", "2"], 2),
+    (&["--tools", "bin"], 1),
+    (&["--tools", "/opt/gcc/"], 1),
+    (&["--tools", "/"], 1),
+    (&["--tools", "/opt/../etc"], 1),
+    (&["--tools"], 1),
+    (&["--job-lifetime", "1000001"], 1),
+    (&["--job-lifetime", "060"], 1),
+    (&["--job-lifetime", "-1"], 1),
+    (&["--job-lifetime", "1", "--job-lifetime", "1"], 2),
     (&["--port", "1", "--help"], 2),
     (&["--help", "--help"], 1),
     (&["--version", "x"], 1),
@@ -59,8 +68,14 @@ const GOOD: &[&str] = &[
     "128",
     "--allow",
     "10.0.0.0/8",
+    "--tools",
+    "/opt/a..b",
+    "--job-lifetime",
+    "0",
     "--compiler",
     "cc=a=b",
+    "--tools",
+    "/opt/gcc",
 ];
 
 fn owned(alloc: Global, words: &[&str]) -> Result<Vec<String>, AllocError> {
@@ -135,12 +150,26 @@ const OPTIONS: Options = Options {
     jobs: Some(16),
     serve: Some(7),
     cache: Some(128),
+    job_lifetime: Some(0),
     compilers: 2,
     rules: 2,
+    tools: 2,
 };
+
+fn expect_tools<R: Abort>(rt: &R, alloc: Global, words: &[String]) -> Result<(), Fail> {
+    let tools = tools_of(alloc, words)?;
+    let [first, second] = tools.as_slice() else {
+        return Err("there are two folders of tools".into());
+    };
+    same_items(rt, first.as_str().as_bytes(), b"/opt/a..b", &"the first folder");
+    same_items(rt, second.as_str().as_bytes(), b"/opt/gcc", &"the second folder");
+    Ok(())
+}
 
 fn expect_options<R: Abort>(rt: &R, alloc: Global, words: &[String]) -> Result<(), Fail> {
     expect_read(rt, words, Ok(Command::Serve(OPTIONS)));
+    same(rt, &OPTIONS.job_lifetime(), &None, &"no limit of time");
+    expect_tools(rt, alloc, words)?;
     expect_compilers(rt, alloc, words)?;
     expect_rules(rt, alloc, words)
 }
@@ -167,6 +196,7 @@ fn expect_no_options<R: Abort>(rt: &R, words: &[String]) -> Result<(), Fail> {
         return Err("it serves".into());
     };
     same(rt, &options.serve(), &100_000, &"no words");
+    same(rt, &options.job_lifetime(), &Some(600), &"no words");
     Ok(())
 }
 
@@ -240,31 +270,46 @@ fn bad_place(alloc: Global, row: &Numbered, count: u8) -> Result<Option<usize>, 
     Ok(parse_words(words.as_slice()).err())
 }
 
-// An option may stand 64 times: the 65th is a bad word.
-fn expect_most<R: Abort>(rt: &R, alloc: Global, rows: &[Numbered]) -> Result<(), Fail> {
-    for row in rows {
-        same(rt, &bad_place(alloc, row, 65)?, &Some(129), row);
-        same(rt, &bad_place(alloc, row, 64)?, &None, row);
+// An option may stand this often: once more is a bad word.
+fn expect_most<R: Abort>(rt: &R, alloc: Global, rows: &[(Numbered, u8)]) -> Result<(), Fail> {
+    for (row, most) in rows {
+        let place = 2 * usize::from(*most) + 1;
+        same(rt, &bad_place(alloc, row, most.saturating_add(1))?, &Some(place), row);
+        same(rt, &bad_place(alloc, row, *most)?, &None, row);
     }
     Ok(())
 }
 
-const NUMBERED: &[Numbered] = &[
-    Numbered {
-        option: "--compiler",
-        begin: "c",
-        end: "=x",
-    },
-    Numbered {
-        option: "--allow",
-        begin: "10.0.0.",
-        end: "",
-    },
+const NUMBERED: &[(Numbered, u8)] = &[
+    (
+        Numbered {
+            option: "--compiler",
+            begin: "c",
+            end: "=x",
+        },
+        64,
+    ),
+    (
+        Numbered {
+            option: "--allow",
+            begin: "10.0.0.",
+            end: "",
+        },
+        64,
+    ),
+    (
+        Numbered {
+            option: "--tools",
+            begin: "/opt/",
+            end: "",
+        },
+        16,
+    ),
 ];
 
-// The 65th compiler, and the 65th rule, is a bad word.
+// The 65th compiler, the 65th rule and the 17th folder of tools are bad words.
 #[test]
-fn the_sixty_fifth(rt: HostRuntime) -> Result<(), Fail> {
+fn one_too_many(rt: HostRuntime) -> Result<(), Fail> {
     expect_most(&rt, rt.alloc(), NUMBERED)
 }
 

@@ -26,10 +26,10 @@ use Rattle.daemon_words.specs.declared.options.Options.{Options}
 use Rattle.daemon_words.specs.declared.command.Command.{Command}
 use Rattle.daemon_words.specs.declared.command.Command.TheVariants.{Help, Version, Serve}
 use Rattle.daemon_words.specs.Names.{option_named}
-use Rattle.daemon_words.specs.Options.{row_of, is_of, count_in, name_in, named_in, IsWithin, AreWithin, IsSpelled, ValueFits, GivenBy}
+use Rattle.daemon_words.specs.Options.{row_of, is_of, count_in, name_in, named_in, IsWithin, AreWithin, IsSpelled, ValueFits, GivenBy, tools_max, job_lifetime_max}
 use Rattle.daemon_words.specs.Options.{Says, Reads, options}
 use Rattle.daemon_words.specs.Commands.{asked, served, trusts, settings_of, placed, ByFirst, ReadWords}
-use Rattle.daemon_words.specs.Tables.{SaysRule, RuleIn, AreRules, compilers_of}
+use Rattle.daemon_words.specs.Tables.{SaysRule, RuleIn, AreRules, compilers_of, tools_of}
 
 abbrev as_command : Command → Result Command ℕ
 as_command command = Ok command
@@ -40,7 +40,9 @@ one_spelled option.Listen value n m p q = one_address value n m p q
 one_spelled option.Jobs value n m p q = one_plain _ _ _ _ n m p q
 one_spelled option.Serve value n m p q = one_plain _ _ _ _ n m p q
 one_spelled option.Cache value n m p q = one_plain _ _ _ _ n m p q
+one_spelled option.JobLifetime value n m p q = one_plain _ _ _ _ n m p q
 one_spelled option.Compiler value n m p q = absurd p
+one_spelled option.Tools value n m p q = absurd p
 one_spelled option.Allow value n m p q = absurd p
 one_spelled option.Deny value n m p q = absurd p
 
@@ -58,8 +60,11 @@ one_saying words items a b p q = λ i. record {
   jobs = one_given option.Jobs (value_in (codes "--jobs") items) a.jobs b.jobs p.jobs q.jobs i;
   serve = one_given option.Serve (value_in (codes "--serve") items) a.serve b.serve p.serve q.serve i;
   cache = one_given option.Cache (value_in (codes "--cache") items) a.cache b.cache p.cache q.cache i;
+  job_lifetime = one_given option.JobLifetime (value_in (codes "--job-lifetime") items) a.job_lifetime b.job_lifetime
+      p.job_lifetime q.job_lifetime i;
   compilers = (p.compilers ∙ sym q.compilers) i;
   rules = (p.rules ∙ sym q.rules) i;
+  tools = (p.tools ∙ sym q.tools) i;
 }
 
 one_reading : (words : List (List ℕ)) (r s : Result Options ℕ) → Reads words r → Reads words s → r ≡ s
@@ -101,6 +106,8 @@ one_in value a b (Some option.Listen) p q = p ∙ sym q
 one_in value a b (Some option.Jobs) p q = p ∙ sym q
 one_in value a b (Some option.Serve) p q = p ∙ sym q
 one_in value a b (Some option.Cache) p q = p ∙ sym q
+one_in value a b (Some option.Tools) p q = p ∙ sym q
+one_in value a b (Some option.JobLifetime) p q = p ∙ sym q
 one_in value a b None p q = p ∙ sym q
 
 pub same_rules : (words : List (List ℕ)) (a b : List Rule) → AreRules words a → AreRules words b → a ≡ b
@@ -132,6 +139,8 @@ found_small value (Some rule) (Some option.Listen) is = absurd (cc is)
 found_small value (Some rule) (Some option.Jobs) is = absurd (cc is)
 found_small value (Some rule) (Some option.Serve) is = absurd (cc is)
 found_small value (Some rule) (Some option.Cache) is = absurd (cc is)
+found_small value (Some rule) (Some option.Tools) is = absurd (cc is)
+found_small value (Some rule) (Some option.JobLifetime) is = absurd (cc is)
 found_small value (Some rule) None is = absurd (cc is)
 
 all_small : (words : List (List ℕ)) (rules : List Rule) → AreRules words rules → All IsSmall rules
@@ -179,26 +188,41 @@ counted kind before (item ∷ items) stand =
 abbrev pub most_of : Kind → ℕ
 most_of kind.Compiler = compilers_max
 most_of kind.Rule = rules_max
+most_of kind.Tools = tools_max
 
 room_by : (kind : Kind) (option : Option OptionName) (before : List (List ℕ)) (value : List ℕ) → is_of kind option ≡ true
     → ValueFits option before value → count_in kind before < most_of kind
 room_by kind None before value holds fits = absurd fits
 room_by kind.Compiler (Some option.Compiler) before value holds fits = fits.room
 room_by kind.Rule (Some option.Compiler) before value holds fits = absurd (cc holds)
+room_by kind.Tools (Some option.Compiler) before value holds fits = absurd (cc holds)
 room_by kind.Compiler (Some option.Port) before value holds fits = absurd (cc holds)
 room_by kind.Rule (Some option.Port) before value holds fits = absurd (cc holds)
+room_by kind.Tools (Some option.Port) before value holds fits = absurd (cc holds)
 room_by kind.Compiler (Some option.Listen) before value holds fits = absurd (cc holds)
 room_by kind.Rule (Some option.Listen) before value holds fits = absurd (cc holds)
+room_by kind.Tools (Some option.Listen) before value holds fits = absurd (cc holds)
 room_by kind.Compiler (Some option.Jobs) before value holds fits = absurd (cc holds)
 room_by kind.Rule (Some option.Jobs) before value holds fits = absurd (cc holds)
+room_by kind.Tools (Some option.Jobs) before value holds fits = absurd (cc holds)
 room_by kind.Compiler (Some option.Serve) before value holds fits = absurd (cc holds)
 room_by kind.Rule (Some option.Serve) before value holds fits = absurd (cc holds)
+room_by kind.Tools (Some option.Serve) before value holds fits = absurd (cc holds)
 room_by kind.Compiler (Some option.Allow) before value holds fits = absurd (cc holds)
 room_by kind.Rule (Some option.Allow) before value holds fits = fits.room
+room_by kind.Tools (Some option.Allow) before value holds fits = absurd (cc holds)
 room_by kind.Compiler (Some option.Deny) before value holds fits = absurd (cc holds)
 room_by kind.Rule (Some option.Deny) before value holds fits = fits.room
+room_by kind.Tools (Some option.Deny) before value holds fits = absurd (cc holds)
 room_by kind.Compiler (Some option.Cache) before value holds fits = absurd (cc holds)
 room_by kind.Rule (Some option.Cache) before value holds fits = absurd (cc holds)
+room_by kind.Tools (Some option.Cache) before value holds fits = absurd (cc holds)
+room_by kind.Compiler (Some option.Tools) before value holds fits = absurd (cc holds)
+room_by kind.Rule (Some option.Tools) before value holds fits = absurd (cc holds)
+room_by kind.Tools (Some option.Tools) before value holds fits = fits.room
+room_by kind.Compiler (Some option.JobLifetime) before value holds fits = absurd (cc holds)
+room_by kind.Rule (Some option.JobLifetime) before value holds fits = absurd (cc holds)
+room_by kind.Tools (Some option.JobLifetime) before value holds fits = absurd (cc holds)
 
 room : (kind : Kind) (before : List Item) (name : List ℕ) (value : Option (List ℕ)) → follows options before name ≡ true
     → HasValue options before name value → is_of kind (option_named name) ≡ true
@@ -240,6 +264,8 @@ found_few value (Some rule) (Some option.Listen) is = absurd (cc is)
 found_few value (Some rule) (Some option.Jobs) is = absurd (cc is)
 found_few value (Some rule) (Some option.Serve) is = absurd (cc is)
 found_few value (Some rule) (Some option.Cache) is = absurd (cc is)
+found_few value (Some rule) (Some option.Tools) is = absurd (cc is)
+found_few value (Some rule) (Some option.JobLifetime) is = absurd (cc is)
 found_few value (Some rule) None is = absurd (cc is)
 
 rules_few : (words : List (List ℕ)) (rules : List Rule) → AreRules words rules → length rules ≤ count_in kind.Rule words
@@ -313,6 +339,8 @@ says_within words items given says = record {
   jobs = within_by 1 workers_max option.Jobs (positive_within 2 workers_max) (value_in (codes "--jobs") items) given.jobs says.jobs;
   serve = within_by 1 connections_max option.Serve (positive_within 6 connections_max)
       (value_in (codes "--serve") items) given.serve says.serve;
+  job_lifetime = within_by 0 job_lifetime_max option.JobLifetime (λ value n is. (is.number.low, is.number.high))
+      (value_in (codes "--job-lifetime") items) given.job_lifetime says.job_lifetime;
   cache = within_by 1 cache_max option.Cache (positive_within 3 cache_max) (value_in (codes "--cache") items) given.cache says.cache;
 }
 
@@ -390,3 +418,12 @@ compilers_none f (x ∷ y ∷ rest) few = absurd (omega (arith, few))
 pub all_compilers : {A : Type 0} (f : A → List ℕ) (rest : List A) (found all : List Compiler) → length rest < 2
     → found ++ compilers_of (map f rest) ≡ all → found ≡ all
 all_compilers f rest found all few is = sym (append-nil found) ∙ ap (λ l. found ++ l) (sym (compilers_none f rest few)) ∙ is
+
+tools_none : {A : Type 0} (f : A → List ℕ) (rest : List A) → length rest < 2 → tools_of (map f rest) ≡ []
+tools_none f [] few = refl
+tools_none f (x ∷ []) few = refl
+tools_none f (x ∷ y ∷ rest) few = absurd (omega (arith, few))
+
+pub all_tools : {A : Type 0} (f : A → List ℕ) (rest : List A) (found all : List (List ℕ)) → length rest < 2
+    → found ++ tools_of (map f rest) ≡ all → found ≡ all
+all_tools f rest found all few is = sym (append-nil found) ∙ ap (λ l. found ++ l) (sym (tools_none f rest few)) ∙ is

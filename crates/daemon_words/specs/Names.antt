@@ -14,4 +14,6 @@ option_named word =
     else (if bytes_eq word (codes "--allow") then Some option.Allow
     else (if bytes_eq word (codes "--deny") then Some option.Deny
     else (if bytes_eq word (codes "--cache") then Some option.Cache
-    else None)))))))
+    else (if bytes_eq word (codes "--tools") then Some option.Tools
+    else (if bytes_eq word (codes "--job-lifetime") then Some option.JobLifetime
+    else None)))))))))

@@ -1,9 +1,10 @@
 -- What the options say, by their words: each option is a name and a value.
 use Rattle.std.specs.Prelude.{◌≡◌, ℕ, ◌+◌, ◌*◌, ◌<◌, ◌≤◌, ◌==◌, ◌||◌, ◌&&◌, Bool, true, false, List, [], ◌∷◌, length, take, drop, codes}
-use Rattle.std.specs.Prelude.{bytes_eq, Option, Some, None, Result, Ok, Err, if◌then◌else◌}
+use Rattle.std.specs.Prelude.{bytes_eq, Option, Some, None, unwrap_or, Result, Ok, Err, if◌then◌else◌}
 use Rattle.std.specs.List.{position_or_len}
 use Rattle.farm_types.specs.Decimals.{IsPlainDecimal}
 use Rattle.farm_types.specs.Limits.{workers_max, connections_max, cache_max, compilers_max, port_max, rules_max}
+use Rattle.served_words.specs.Folders.{is_tool_folder}
 use Rattle.option_words.specs.declared.table.Row.{Row}
 use Rattle.option_words.specs.Items.{Item, value_in}
 use Rattle.option_words.specs.Tables.{Table}
@@ -20,11 +21,25 @@ use Rattle.daemon_words.specs.Names.{option_named}
 
 -- ---- the options
 
+-- ---- their limits
+
+-- the most folders of tools
+abbrev pub tools_max : ℕ
+tools_max = 16
+
+-- the most seconds of a compile that may be given, and the seconds where none are
+abbrev pub job_lifetime_max : ℕ
+job_lifetime_max = 1000000
+
+abbrev pub job_lifetime_default : ℕ
+job_lifetime_default = 600
+
 -- it may stand more than once
 abbrev pub repeats : OptionName → Bool
 repeats option.Compiler = true
 repeats option.Allow = true
 repeats option.Deny = true
+repeats option.Tools = true
 repeats _ = false
 
 -- what is known of an option: each has a value
@@ -37,6 +52,7 @@ abbrev pub is_of : Kind → Option OptionName → Bool
 is_of kind.Compiler (Some option.Compiler) = true
 is_of kind.Rule (Some option.Allow) = true
 is_of kind.Rule (Some option.Deny) = true
+is_of kind.Tools (Some option.Tools) = true
 is_of _ _ = false
 
 -- how many of these options are of this kind
@@ -80,6 +96,11 @@ pub record AddsCompiler (before : List (List ℕ)) (value : List ℕ) : Type 0 w
   pub other : named_in before (name_in value) ≡ false
   pub room : count_in kind.Compiler before < compilers_max
 
+-- one folder of tools more
+pub record AddsTools (before : List (List ℕ)) (value : List ℕ) : Type 0 where
+  pub folder : is_tool_folder value ≡ true
+  pub room : count_in kind.Tools before < tools_max
+
 -- the number that the value of an option spells
 abbrev pub IsSpelled : OptionName → List ℕ → ℕ → Type 0
 IsSpelled option.Port value n = IsPlainDecimal 5 1 port_max value n
@@ -87,6 +108,7 @@ IsSpelled option.Listen value n = IsAddress value n
 IsSpelled option.Jobs value n = IsPlainDecimal 2 1 workers_max value n
 IsSpelled option.Serve value n = IsPlainDecimal 6 1 connections_max value n
 IsSpelled option.Cache value n = IsPlainDecimal 3 1 cache_max value n
+IsSpelled option.JobLifetime value n = IsPlainDecimal 7 0 job_lifetime_max value n
 IsSpelled _ value n = ⊥
 
 -- a word may be the value of this option, behind these words
@@ -95,6 +117,7 @@ ValueFits None before value = ⊥
 ValueFits (Some option.Compiler) before value = AddsCompiler before value
 ValueFits (Some option.Allow) before value = AddsRule true before value
 ValueFits (Some option.Deny) before value = AddsRule false before value
+ValueFits (Some option.Tools) before value = AddsTools before value
 ValueFits (Some name) before value = (n : ℕ) × IsSpelled name value n
 
 -- the options of `farmd`
@@ -118,8 +141,10 @@ pub record Says (words : List (List ℕ)) (items : List Item) (given : Options) 
   pub jobs : GivenBy option.Jobs (value_in (codes "--jobs") items) given.jobs
   pub serve : GivenBy option.Serve (value_in (codes "--serve") items) given.serve
   pub cache : GivenBy option.Cache (value_in (codes "--cache") items) given.cache
+  pub job_lifetime : GivenBy option.JobLifetime (value_in (codes "--job-lifetime") items) given.job_lifetime
   pub compilers : given.compilers ≡ count_in kind.Compiler words
   pub rules : given.rules ≡ count_in kind.Rule words
+  pub tools : given.tools ≡ count_in kind.Tools words
 
 -- What these words say; or the place, from 0, of the first that isn't right. That of a missing word is their number.
 abbrev pub Reads : List (List ℕ) → Result Options ℕ → Type 0
@@ -137,6 +162,7 @@ pub record AreWithin (options : Options) : Type 0 where
   pub jobs : IsWithin 1 workers_max options.jobs
   pub serve : IsWithin 1 connections_max options.serve
   pub cache : IsWithin 1 cache_max options.cache
+  pub job_lifetime : IsWithin 0 job_lifetime_max options.job_lifetime
 
 -- the bytes of a number of MiB
 abbrev pub mebibytes : Option ℕ → Option ℕ
@@ -146,3 +172,11 @@ mebibytes (Some n) = Some (n * 1048576)
 -- how many bytes the book of each door's station may have, where there are books
 abbrev pub book_bound : Options → Option ℕ
 book_bound options = mebibytes options.cache
+
+-- a number of seconds; 0 says that there is none
+abbrev pub seconds : ℕ → Option ℕ
+seconds n = if n == 0 then None else Some n
+
+-- the most seconds that a compile may take, where there is a limit
+abbrev pub job_lifetime : Options → Option ℕ
+job_lifetime options = seconds (unwrap_or options.job_lifetime job_lifetime_default)

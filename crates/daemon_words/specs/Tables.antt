@@ -18,6 +18,12 @@ compilers_of [] = []
 compilers_of (word ∷ []) = []
 compilers_of (word ∷ value ∷ more) = if bytes_eq word (codes "--compiler") then compiler_in value ∷ compilers_of more else compilers_of more
 
+-- the folders of tools that these words name, in their order
+abbrev pub tools_of : List (List ℕ) → List (List ℕ)
+tools_of [] = []
+tools_of (word ∷ []) = []
+tools_of (word ∷ value ∷ more) = if bytes_eq word (codes "--tools") then value ∷ tools_of more else tools_of more
+
 -- the rule that a value says, or that it says none
 abbrev pub SaysRule : Bool → List ℕ → Option Rule → Type 0
 SaysRule allow value (Some rule) = RuleOf allow value rule

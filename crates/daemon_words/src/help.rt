@@ -23,6 +23,11 @@ Options, in any order:
   --deny ADDRESS[/BITS]    leave peers of this network
   --cache N                answer repeated compiles from memory: at most N MiB at
                            each of these doors, 1 to 128
+  --tools FOLDER           let requests name FOLDER, or one below, as one of a
+                           compiler's own parts: -B, --sysroot= and the like; up
+                           to 16 times
+  --job-lifetime SECONDS   end a compile after SECONDS, 0 to 1000000, in place of
+                           600; 0 for none
   --trust-options          before all others: run requests with any options,
                            also those that read, write or run other things
 

@@ -15,4 +15,4 @@ pub use help::{help_text, version_text};
 pub use laws::one_reading;
 pub use name::OptionName;
 pub use options::Options;
-pub use tables::{compilers_of, rules_of};
+pub use tables::{compilers_of, rules_of, tools_of};

@@ -23,13 +23,18 @@ pub enum OptionName {
     Deny,
     /// `--cache`
     Cache,
+    /// `--tools`
+    Tools,
+    /// `--job-lifetime`
+    JobLifetime,
 }
 
-// What may be given up to 64 times.
+// What may be given more than once.
 #[derive(Clone, Copy, Debug, PartialEq, Eq)]
 pub(crate) enum Kind {
     Compiler,
     Rule,
+    Tools,
 }
 
 impl OptionName {
@@ -39,7 +44,7 @@ impl OptionName {
     {
         matches!(
             self,
-            OptionName::Compiler | OptionName::Allow | OptionName::Deny
+            OptionName::Compiler | OptionName::Allow | OptionName::Deny | OptionName::Tools
         )
     }
 }
@@ -52,6 +57,7 @@ impl Kind {
         match (self, option) {
             (Kind::Compiler, Some(OptionName::Compiler)) => true,
             (Kind::Rule, Some(OptionName::Allow | OptionName::Deny)) => true,
+            (Kind::Tools, Some(OptionName::Tools)) => true,
             _ => false,
         }
     }
@@ -70,6 +76,8 @@ pub(crate) fn parse_option(word: &str) -> Option<OptionName>
         "--allow" => Some(OptionName::Allow),
         "--deny" => Some(OptionName::Deny),
         "--cache" => Some(OptionName::Cache),
+        "--tools" => Some(OptionName::Tools),
+        "--job-lifetime" => Some(OptionName::JobLifetime),
         _ => None,
     }
 }

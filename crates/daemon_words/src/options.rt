@@ -2,14 +2,16 @@
 
 ghost use Rattle.std.specs.Prelude.{◌≡◌, unwrap_or};
 ghost use Rattle.farm_types.specs.Limits.{connections_max, port_default, workers_default};
-ghost use Rattle.daemon_words.specs.Options.{book_bound};
+ghost use Rattle.daemon_words.specs.Options.{book_bound, job_lifetime};
 
 use farm_types::limits::{CONNECTIONS_MAX, PORT_DEFAULT, WORKERS_DEFAULT};
 
 /// The bytes of one MiB.
 const MEBIBYTE: u64 = 1_048_576;
+/// The seconds of a compile where none are given.
+const JOB_LIFETIME_DEFAULT: u32 = 600;
 
-/// What the options say; of the compilers and the rules, how many there are.
+/// What the options say; of the compilers, the rules and the folders of tools, how many there are.
 #[derive(Clone, Copy, Debug, PartialEq, Eq)]
 pub struct Options {
     /// 1 to 65,535.
@@ -22,8 +24,11 @@ pub struct Options {
     pub serve: Option<u32>,
     /// 1 to 128, in MiB.
     pub cache: Option<u8>,
+    /// 0 to 1,000,000, in seconds.
+    pub job_lifetime: Option<u32>,
     pub compilers: u32,
     pub rules: u32,
+    pub tools: u32,
 }
 
 impl Options {
@@ -62,6 +67,16 @@ impl Options {
         match self.cache {
             Some(mebibytes) => Some(u64::from(mebibytes) * MEBIBYTE),
             None => None,
+        }
+    }
+
+    /// The most seconds that a compile may take: 600 where none are given. None for as long as it takes, where 0 is given.
+    pub fn job_lifetime(&self) -> Option<u32>
+        ensures { result ≡ job_lifetime self.now }
+    {
+        match self.job_lifetime.unwrap_or(JOB_LIFETIME_DEFAULT) {
+            0 => None,
+            seconds => Some(seconds),
         }
     }
 }

@@ -11,7 +11,8 @@ ghost use Rattle.daemon_words.specs.Options.{GivenBy, Reads, Says, row_of};
 use crate::name::{Kind, OptionName, parse_option};
 use crate::options::Options;
 use crate::setting::{
-    count_in, is_value, read_cache, read_jobs, read_listen, read_port, read_serve,
+    count_in, is_value, read_cache, read_job_lifetime, read_jobs, read_listen, read_port,
+    read_serve,
 };
 use option_words::{OptionTable, Row, check_options, value_of};
 
@@ -90,6 +91,15 @@ fn cache_in(value: Option<&str>) -> Option<u8>
     }
 }
 
+fn job_lifetime_in(value: Option<&str>) -> Option<u32>
+    ensures { GivenBy names.JobLifetime (option_copied value.entry) result }
+{
+    match value {
+        Some(word) => read_job_lifetime(word.as_bytes()),
+        None => None,
+    }
+}
+
 // What options say.
 fn options_in(words: &[String]) -> Options
     requires { (items : List Item) × AreOptions says.options (map string_bytes words.now) items }
@@ -101,8 +111,10 @@ fn options_in(words: &[String]) -> Options
         jobs: jobs_in(value_of(&DaemonOptions, words, "--jobs")),
         serve: serve_in(value_of(&DaemonOptions, words, "--serve")),
         cache: cache_in(value_of(&DaemonOptions, words, "--cache")),
+        job_lifetime: job_lifetime_in(value_of(&DaemonOptions, words, "--job-lifetime")),
         compilers: count_in(Kind::Compiler, words) as u32,
         rules: count_in(Kind::Rule, words) as u32,
+        tools: count_in(Kind::Tools, words) as u32,
     }
 }
 

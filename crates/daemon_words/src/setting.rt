@@ -4,7 +4,7 @@ ghost use Rattle.std.specs.Prelude.{◌≡◌, ◌≤◌, ◌&&◌, ℕ, true, f
 ghost use Rattle.daemon_words.specs.declared.name.OptionName.TheVariants as names;
 ghost use Rattle.daemon_words.specs.Names.{option_named};
 ghost use Rattle.daemon_words.specs.Options as says;
-ghost use Rattle.daemon_words.specs.Options.{AddsCompiler, AddsRule, IsCompiler, IsSpelled, ValueFits, named_in};
+ghost use Rattle.daemon_words.specs.Options.{AddsCompiler, AddsRule, AddsTools, IsCompiler, IsSpelled, ValueFits, named_in};
 
 use crate::name::{Kind, OptionName, parse_option};
 use access_list::{parse_rule, place_of, read_address};
@@ -12,6 +12,12 @@ use farm_types::limits::{
     CACHE_MAX, COMPILERS_MAX, CONNECTIONS_MAX, PORT_MAX, RULES_MAX, WORKERS_MAX,
 };
 use farm_types::read_plain_decimal;
+use served_words::is_tool_folder;
+
+/// The most folders of tools.
+const TOOLS_MAX: usize = 16;
+/// The most seconds of a compile that may be given.
+const JOB_LIFETIME_MAX: u32 = 1_000_000;
 
 /// The name of a compiler: what stands before the first `=`.
 pub(crate) fn name_in(value: &[u8]) -> &[u8]
@@ -88,6 +94,14 @@ fn adds_rule(before: &[String], allow: bool, value: &[u8]) -> bool
     parse_rule(allow, value).is_ok()
 }
 
+// Whether a value is one folder of tools more.
+fn adds_tools(before: &[String], value: &[u8]) -> bool
+    ensures yes { result ≡ true → AddsTools (map string_bytes before.now) value.now }
+    ensures no { result ≡ false → AddsTools (map string_bytes before.now) value.now → ⊥ }
+{
+    count_in(Kind::Tools, before) < TOOLS_MAX && is_tool_folder(value)
+}
+
 /// The port that a value spells.
 pub(crate) fn read_port(value: &[u8]) -> Option<u16>
     ensures found { IfSome result (IsSpelled names.Port value.now) }
@@ -145,6 +159,14 @@ pub(crate) fn read_cache(value: &[u8]) -> Option<u8>
     }
 }
 
+/// The number of seconds that a value spells.
+pub(crate) fn read_job_lifetime(value: &[u8]) -> Option<u32>
+    ensures found { IfSome result (IsSpelled names.JobLifetime value.now) }
+    ensures none { IfNone result ((n : ℕ) → IsSpelled names.JobLifetime value.now n → ⊥) }
+{
+    read_plain_decimal(value, 7, 0, JOB_LIFETIME_MAX)
+}
+
 /// Whether a word may be the value of an option behind these words.
 pub(crate) fn is_value(option: Option<OptionName>, before: &[String], value: &[u8]) -> bool
     ensures yes { result ≡ true → ValueFits option (map string_bytes before.now) value.now }
@@ -157,6 +179,8 @@ pub(crate) fn is_value(option: Option<OptionName>, before: &[String], value: &[u
         Some(OptionName::Jobs) => read_jobs(value).is_some(),
         Some(OptionName::Serve) => read_serve(value).is_some(),
         Some(OptionName::Cache) => read_cache(value).is_some(),
+        Some(OptionName::JobLifetime) => read_job_lifetime(value).is_some(),
+        Some(OptionName::Tools) => adds_tools(before, value),
         Some(OptionName::Allow) => adds_rule(before, true, value),
         Some(OptionName::Deny) => adds_rule(before, false, value),
         None => false,

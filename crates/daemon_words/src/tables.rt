@@ -1,4 +1,4 @@
-//! The compilers and the rules that the words name.
+//! The compilers, the rules and the folders of tools that the words name.
 
 ghost use Rattle.std.specs.Prelude.{◌≡◌, map, string_bytes, IfOk};
 ghost use Rattle.daemon_words.specs.Names.{option_named};
@@ -32,6 +32,21 @@ fn compiler_in(alloc: Global, value: &[u8]) -> Result<Compiler, AllocError>
         name: Bytes::from_slice(alloc, name_in(value))?,
         program: Bytes::from_slice(alloc, program_in(value))?,
     })
+}
+
+/// The folders of tools that the words name, in their order.
+pub fn tools_of(alloc: Global, words: &[String]) -> Result<Vec<String>, AllocError>
+    ensures { IfOk result (λ tools. map string_bytes tools.items ≡ tables.tools_of (map string_bytes words.now)) }
+{
+    let mut tools = Vec::new(alloc);
+    let mut rest = words;
+    'gathering: while let [word, value, more @ ..] = rest {
+        if word.as_str() == "--tools" {
+            tools.push(String::from_str(alloc, value.as_str())?)?;
+        }
+        rest = more;
+    }
+    Ok(tools)
 }
 
 /// The compilers that the words name, in their order.

@@ -10,29 +10,29 @@ use Rattle.served_words.specs.Served.{operand_at, owed, is_word_served, is_serve
 next : (n : ℕ) → suc n ≡ n + 1
 next n = omega arith
 
-module _ (words : List Word) where
-  choice : (n : ℕ) (served : Bool) → is_served_at words n ≡ served → unserved_below words n ≡ None
-      → unserved_below words (suc n) ≡ (if served then None else Some n)
-  choice n served is before = ap (λ t. option_or t (if is_served_at words n then None else Some n)) before
+module _ (tools : List (List ℕ)) (words : List Word) where
+  choice : (n : ℕ) (served : Bool) → is_served_at tools words n ≡ served → unserved_below tools words n ≡ None
+      → unserved_below tools words (suc n) ≡ (if served then None else Some n)
+  choice n served is before = ap (λ t. option_or t (if is_served_at tools words n then None else Some n)) before
       ∙ ap (λ b. if b then None else Some n) is
 
-  pub none_yet : (n : ℕ) → is_served_at words n ≡ true → unserved_below words n ≡ None → unserved_below words (n + 1) ≡ None
-  none_yet n is before = ap (unserved_below words) (sym (next n)) ∙ choice n true is before
+  pub none_yet : (n : ℕ) → is_served_at tools words n ≡ true → unserved_below tools words n ≡ None → unserved_below tools words (n + 1) ≡ None
+  none_yet n is before = ap (unserved_below tools words) (sym (next n)) ∙ choice n true is before
 
   -- what was found stays the first
-  pub stays : (at more : ℕ) → is_served_at words at ≡ false → unserved_below words at ≡ None
-      → unserved_below words (more + (at + 1)) ≡ Some at
+  pub stays : (at more : ℕ) → is_served_at tools words at ≡ false → unserved_below tools words at ≡ None
+      → unserved_below tools words (more + (at + 1)) ≡ Some at
   stays at zero is before =
       let none : 0 + (at + 1) ≡ suc at = omega arith in
-      ap (unserved_below words) none ∙ choice at false is before
+      ap (unserved_below tools words) none ∙ choice at false is before
   stays at (suc more) is before =
       let grown : suc more + (at + 1) ≡ suc (more + (at + 1)) = omega arith in
-      ap (unserved_below words) grown
-      ∙ ap (λ t. option_or t (if is_served_at words (more + (at + 1)) then None else Some (more + (at + 1)))) (stays at more is before)
+      ap (unserved_below tools words) grown
+      ∙ ap (λ t. option_or t (if is_served_at tools words (more + (at + 1)) then None else Some (more + (at + 1)))) (stays at more is before)
 
   pub served_is : (at : ℕ) (operand : Option Operand) (word : Word) → operand ≡ operand_at words at → word ≡ get_or words at Output
-      → is_word_served operand word ≡ is_served_at words at
-  served_is at operand word owner is = ap (λ o. is_word_served o word) owner ∙ ap (is_word_served (operand_at words at)) is
+      → is_word_served tools operand word ≡ is_served_at tools words at
+  served_is at operand word owner is = ap (λ o. is_word_served tools o word) owner ∙ ap (is_word_served tools (operand_at words at)) is
 
   pub owed_is : (at : ℕ) (operand : Option Operand) (word : Word) → operand ≡ operand_at words at → word ≡ get_or words at Output
       → owed operand word ≡ operand_at words (at + 1)

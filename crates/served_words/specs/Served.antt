@@ -1,13 +1,17 @@
 -- Which words of a command are let through.
-use Rattle.std.specs.Prelude.{ℕ, zero, suc, ◌==◌, nat_le, Bool, true, false, not, ◌&&◌, ◌||◌, nat_eq, List, [], ◌∷◌, length, get_or}
+use Rattle.std.specs.Prelude.{ℕ, zero, suc, ◌==◌, nat_le, Bool, true, false, not, ◌&&◌, ◌||◌, nat_eq, List, [], ◌∷◌, length, take, drop, get_or}
 use Rattle.std.specs.Prelude.{codes, Option, Some, None, is_some, bytes_eq, if◌then◌else◌}
-use Rattle.std.specs.List.{list_any, list_all, starts_with}
+use Rattle.std.specs.List.{list_any, list_all, starts_with, position_or_len}
 use Rattle.std.specs.Option.{option_or, option_map}
 use Rattle.farm_types.specs.declared.placed.Word.{Word}
 use Rattle.farm_types.specs.declared.placed.Word.TheVariants.{Text, Input, Output}
 use Rattle.served_words.specs.declared.operand.Operand.{Operand}
-use Rattle.served_words.specs.declared.operand.Operand.TheVariants.{Path, Flag, Setting}
-use Rattle.served_words.specs.Spellings.{option_words, link_words, long_words, name_fronts, reaching_fronts, path_fronts, piece_fronts}
+use Rattle.served_words.specs.declared.operand.Operand.TheVariants.{Folder, Flag, Setting}
+use Rattle.served_words.specs.Spellings.{option_words, levels, link_words, long_words, specs_words, name_fronts, path_fronts}
+use Rattle.served_words.specs.Spellings.{piece_words, piece_fronts}
+use Rattle.served_words.specs.Reaching.{reaching_fronts}
+use Rattle.served_words.specs.BackEnd.{back_end_names, sanitizer_names, target_names}
+use Rattle.served_words.specs.Folders.{is_in_tools, names_tools}
 
 -- the word begins with this
 abbrev pub begins_with : List ℕ → List ℕ → Bool
@@ -39,8 +43,30 @@ reaches_out word = begins reaching_fronts word
 unfoldable pub has_path_front : List ℕ → Bool
 has_path_front word = begins path_fronts word
 
-unfoldable pub is_known_piece : List ℕ → Bool
-is_known_piece piece = begins piece_fronts piece
+unfoldable pub is_level : List ℕ → Bool
+is_level word = is_one levels word
+
+unfoldable pub is_specs_word : List ℕ → Bool
+is_specs_word word = is_one specs_words word
+
+unfoldable pub is_back_end_name : List ℕ → Bool
+is_back_end_name name = is_one back_end_names name
+
+unfoldable pub is_sanitizer_name : List ℕ → Bool
+is_sanitizer_name name = is_one sanitizer_names name
+
+unfoldable pub is_target_name : List ℕ → Bool
+is_target_name name = is_one target_names name
+
+-- the name of an option of LLVM that builds send
+abbrev pub is_flag_name : List ℕ → Bool
+is_flag_name name = is_back_end_name name || is_sanitizer_name name || is_target_name name
+
+unfoldable pub is_piece_word : List ℕ → Bool
+is_piece_word piece = is_one piece_words piece
+
+unfoldable pub has_piece_front : List ℕ → Bool
+has_piece_front piece = begins piece_fronts piece
 
 -- a letter, a digit, or one of `#+,-.:=_`
 abbrev pub is_plain_byte : ℕ → Bool
@@ -59,37 +85,59 @@ is_path_byte b = not ((b == 64) || (b == 124))
 abbrev pub is_path : List ℕ → Bool
 is_path word = list_all is_path_byte word
 
+-- what stands before the first of these bytes, or all
+unfoldable pub before : ℕ → List ℕ → List ℕ
+before byte word = take (position_or_len (λ b. b == byte) word) word
+
+-- A word for the assembler is known by the bytes up to the next comma, if it stands in the table of words, or by what it begins with.
+unfoldable pub is_known_piece : List ℕ → Bool
+is_known_piece rest = is_piece_word (before 44 rest) || (has_piece_front rest && not (reaches_out rest))
+
 -- each word for the assembler is known: each that stands behind a comma
 abbrev pub are_pieces_known : List ℕ → Bool
 are_pieces_known [] = true
 are_pieces_known (b ∷ bs) = (not (b == 44) || is_known_piece bs) && are_pieces_known bs
 
+-- messages of gcc about its optimisations, to standard error: what stands behind a `=` is a file
+abbrev pub is_report : List ℕ → Bool
+is_report word = begins_with (codes "-fopt-info") word && is_plain word && not (list_any (λ b. b == 61) word)
+
 -- a word by itself: an option without an operand, or with one that stands in the same word
-abbrev pub is_option_served : List ℕ → Bool
-is_option_served word =
+abbrev pub is_option_served : List (List ℕ) → List ℕ → Bool
+is_option_served tools word =
     if begins_with (codes "-Wa,") word then is_plain word && are_pieces_known word else
-    if is_option_word word || is_link_word word || is_long_word word then true else
+    if begins_with (codes "-fopt-info") word then is_report word else
+    if is_option_word word || is_level word || is_link_word word || is_long_word word || is_specs_word word then true else
+    if names_tools tools word then true else
     if has_path_front word then is_path word else
     has_name_front word && is_plain word && not (reaches_out word)
 
 -- the operand that an option takes from the next word
 abbrev pub operand_of : List ℕ → Option Operand
 operand_of word =
-    if bytes_eq word (codes "-B") then Some Path else
+    if bytes_eq word (codes "-B") || bytes_eq word (codes "-resource-dir") then Some Folder else
     if bytes_eq word (codes "-mllvm") then Some Flag else
     if bytes_eq word (codes "--param") || bytes_eq word (codes "-target") then Some Setting else None
 
-abbrev pub is_operand_served : Operand → List ℕ → Bool
-is_operand_served Path word = begins_with (codes "/") word && is_path word
-is_operand_served Flag word = begins_with (codes "-") word && is_plain word && not (reaches_out word)
-is_operand_served Setting word = not (begins_with (codes "-") word) && is_plain word
+-- an option of LLVM without its one or two dashes
+abbrev pub undashed : List ℕ → List ℕ
+undashed word = if begins_with (codes "--") word then drop 2 word else drop 1 word
+
+-- one dash or two, a name of the table, and no value or one behind a `=`
+abbrev pub is_flag_served : List ℕ → Bool
+is_flag_served word = begins_with (codes "-") word && is_plain word && is_flag_name (before 61 (undashed word))
+
+abbrev pub is_operand_served : List (List ℕ) → Operand → List ℕ → Bool
+is_operand_served tools Folder word = is_in_tools tools word
+is_operand_served tools Flag word = is_flag_served word
+is_operand_served tools Setting word = not (begins_with (codes "-") word) && is_plain word
 
 -- a word of this use; one that stands for a file of the station's own is let through where it is no operand
-abbrev pub is_word_served : Option Operand → Word → Bool
-is_word_served None (Text bytes) = is_some (operand_of bytes) || is_option_served bytes
-is_word_served None other = true
-is_word_served (Some operand) (Text bytes) = is_operand_served operand bytes
-is_word_served (Some operand) other = false
+abbrev pub is_word_served : List (List ℕ) → Option Operand → Word → Bool
+is_word_served tools None (Text bytes) = is_some (operand_of bytes) || is_option_served tools bytes
+is_word_served tools None other = true
+is_word_served tools (Some operand) (Text bytes) = is_operand_served tools operand bytes
+is_word_served tools (Some operand) other = false
 
 -- the operand that the next word is, after a word of this use
 abbrev pub owed : Option Operand → Word → Option Operand
@@ -102,15 +150,16 @@ abbrev pub operand_at : List Word → ℕ → Option Operand
 operand_at words zero = None
 operand_at words (suc at) = owed (operand_at words at) (get_or words at Output)
 
-abbrev pub is_served_at : List Word → ℕ → Bool
-is_served_at words at = is_word_served (operand_at words at) (get_or words at Output)
+abbrev pub is_served_at : List (List ℕ) → List Word → ℕ → Bool
+is_served_at tools words at = is_word_served tools (operand_at words at) (get_or words at Output)
 
 -- the least place below n with a word that isn't let through
-abbrev pub unserved_below : List Word → ℕ → Option ℕ
-unserved_below words zero = None
-unserved_below words (suc n) = option_or (unserved_below words n) (if is_served_at words n then None else Some n)
+abbrev pub unserved_below : List (List ℕ) → List Word → ℕ → Option ℕ
+unserved_below tools words zero = None
+unserved_below tools words (suc n) = option_or (unserved_below tools words n) (if is_served_at tools words n then None else Some n)
 
--- the place of the first word that isn't let through; the first of all names the program, and is
-abbrev pub first_unserved : List Word → Option ℕ
-first_unserved [] = None
-first_unserved (program ∷ words) = option_map suc (unserved_below words (length words))
+-- The place of the first word that isn't let through, where these are the folders of tools. The first of all words names the program,
+-- and is let through.
+abbrev pub first_unserved : List Word → List (List ℕ) → Option ℕ
+first_unserved [] tools = None
+first_unserved (program ∷ words) tools = option_map suc (unserved_below tools words (length words))

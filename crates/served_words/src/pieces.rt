@@ -1,9 +1,18 @@
 //! The words for the assembler.
 
 ghost use Rattle.std.specs.Prelude.{◌≡◌};
-ghost use Rattle.served_words.specs.Served.{are_pieces_known};
+ghost use Rattle.served_words.specs.Served.{is_known_piece, are_pieces_known};
 
-use crate::spellings::is_known_piece;
+use crate::assembler::{has_piece_front, is_piece_word};
+use crate::reaching::reaches_out;
+use crate::words::before;
+
+/// Whether a word for the assembler is known that begins here.
+fn is_known_piece(rest: &[u8]) -> bool
+    ensures { result ≡ is_known_piece rest.now }
+{
+    is_piece_word(before(b',', rest)) || (has_piece_front(rest) && !reaches_out(rest))
+}
 
 /// Whether each word for the assembler is known: each that stands behind a comma.
 pub fn are_pieces_known(word: &[u8]) -> bool

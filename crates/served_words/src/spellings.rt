@@ -1,11 +1,12 @@
-//! The spellings that tell which words of a command are let through.
+//! The spellings of words that are let through.
 
-ghost use Rattle.std.specs.Prelude.{◌≡◌, nat_eq, bytes_eq};
-ghost use Rattle.std.specs.List.{list_any, starts_with};
-ghost use Rattle.served_words.specs.Served.{is_option_word, is_link_word, is_long_word, has_name_front, reaches_out, has_path_front, is_known_piece};
+ghost use Rattle.std.specs.Prelude.{◌≡◌};
+ghost use Rattle.served_words.specs.Served.{is_option_word, is_level, is_link_word, is_long_word, is_specs_word, has_name_front, has_path_front};
+
+use crate::lists::{begins, is_one};
 
 /// The words that are let through as they stand.
-const OPTION_WORDS: [&str; 32] = [
+const OPTION_WORDS: [&str; 33] = [
     "-c",
     "-S",
     "-o",
@@ -38,6 +39,13 @@ const OPTION_WORDS: [&str; 32] = [
     "-pass-exit-codes",
     "-EL",
     "-EB",
+    "-fxray-instrument",
+];
+
+/// The levels of optimisation.
+const LEVELS: [&str; 15] = [
+    "-O", "-O0", "-O1", "-O2", "-O3", "-O4", "-O5", "-O6", "-O7", "-O8", "-O9", "-Os", "-Og",
+    "-Oz", "-Ofast",
 ];
 
 /// The words for the linker that are let through, though nothing is linked.
@@ -76,12 +84,21 @@ const LONG_WORDS: [&str; 14] = [
     "--driver-mode=g++",
 ];
 
+/// The files of specs that are let through: gcc looks for such a name in its own folders, and then in the folder of the run, which has no such file.
+const SPECS_WORDS: [&str; 6] = [
+    "--specs=nano.specs",
+    "-specs=nano.specs",
+    "--specs=nosys.specs",
+    "-specs=nosys.specs",
+    "--specs=rdimon.specs",
+    "-specs=rdimon.specs",
+];
+
 /// What a word begins with whose name and value are plain bytes.
-const NAME_FRONTS: [&str; 15] = [
+const NAME_FRONTS: [&str; 14] = [
     "-f",
     "-m",
     "-W",
-    "-O",
     "-g",
     "-std=",
     "-stdlib=",
@@ -95,100 +112,32 @@ const NAME_FRONTS: [&str; 15] = [
     "--unwindlib=",
 ];
 
-/// What a word begins with, or an operand of `-mllvm`, that would have a compiler load or run a program, read a file of the server's, or compile otherwise than once; none of these is let through.
-const REACHING_FRONTS: [&str; 31] = [
-    "-fplugin",
-    "-fpass-plugin",
-    "-fmodule",
-    "-fprebuilt-",
-    "-fimplicit-module",
-    "-fno-preprocessed",
-    "-fdirectives-only",
-    "-fself-test",
-    "-fcompare-debug",
-    "-fdump-",
-    "-fprofile",
-    "-fauto-profile",
-    "-fbranch-probabilities",
-    "-fproc-stat-report",
-    "-foptimization-record-file",
-    "-fcrash-diagnostics-dir",
-    "-fthinlto-index",
-    "-fbuild-session",
-    "-fembed-offload",
-    "-fopenmp-targets",
-    "-foffload",
-    "-mllvm",
-    "-module",
-    "-main-file",
-    "-gen-",
-    "-Wp,",
-    "-Wl,",
-    "-Wa,",
-    "-load",
-    "-plugin",
-    "-info-output-file",
-];
-
-/// What a word begins with whose value names a path that is only written into the object, or where a compiler's own parts stand.
-const PATH_FRONTS: [&str; 10] = [
+/// What a word begins with whose value is only written into the object or compared with names.
+const PATH_FRONTS: [&str; 9] = [
     "-fdebug-prefix-map=",
     "-ffile-prefix-map=",
     "-fmacro-prefix-map=",
     "-fcoverage-prefix-map=",
     "-fdebug-compilation-dir=",
     "-frandom-seed=",
-    "-B/",
-    "--sysroot=/",
-    "--gcc-toolchain=/",
-    "--gcc-install-dir=/",
-];
-
-/// What a word for the assembler begins with, behind `-Wa,` or a later comma.
-const PIECE_FRONTS: [&str; 36] = [
-    "-m",
-    "-I",
-    "-L",
-    "-W",
-    "-K",
-    "-J",
-    "-R",
-    "-Z",
-    "-g",
-    "-n",
-    "-q",
-    "-EL",
-    "-EB",
-    "--32",
-    "--64",
-    "--x32",
-    "--divide",
-    "--execstack",
-    "--noexecstack",
-    "--warn",
-    "--no-warn",
-    "--fatal-warnings",
-    "--gdwarf",
-    "--gen-debug",
-    "--gstabs",
-    "--compress-debug-sections",
-    "--nocompress-debug-sections",
-    "--keep-locals",
-    "--strip-local-absolute",
-    "--size-check=",
-    "--elf-stt-common=",
-    "--generate-missing-build-notes=",
-    "--hash-size=",
-    "--reduce-memory-overheads",
-    "--no-pad-sections",
-    "--defsym=",
+    "-Rpass=",
+    "-Rpass-missed=",
+    "-Rpass-analysis=",
 ];
 
 /// Whether the word is one of `OPTION_WORDS`.
 pub fn is_option_word(word: &[u8]) -> bool
     ensures { result ≡ is_option_word word.now }
 {
-    let spellings: [&str; 32] = OPTION_WORDS;
+    let spellings: [&str; 33] = OPTION_WORDS;
+    is_one(spellings.as_slice(), word)
+}
+
+/// Whether the word is one of `LEVELS`.
+pub fn is_level(word: &[u8]) -> bool
+    ensures { result ≡ is_level word.now }
+{
+    let spellings: [&str; 15] = LEVELS;
     is_one(spellings.as_slice(), word)
 }
 
@@ -208,19 +157,19 @@ pub fn is_long_word(word: &[u8]) -> bool
     is_one(spellings.as_slice(), word)
 }
 
+/// Whether the word is one of `SPECS_WORDS`.
+pub fn is_specs_word(word: &[u8]) -> bool
+    ensures { result ≡ is_specs_word word.now }
+{
+    let spellings: [&str; 6] = SPECS_WORDS;
+    is_one(spellings.as_slice(), word)
+}
+
 /// Whether the word begins with one of `NAME_FRONTS`.
 pub fn has_name_front(word: &[u8]) -> bool
     ensures { result ≡ has_name_front word.now }
 {
-    let spellings: [&str; 15] = NAME_FRONTS;
-    begins(spellings.as_slice(), word)
-}
-
-/// Whether the word begins with one of `REACHING_FRONTS`.
-pub fn reaches_out(word: &[u8]) -> bool
-    ensures { result ≡ reaches_out word.now }
-{
-    let spellings: [&str; 31] = REACHING_FRONTS;
+    let spellings: [&str; 14] = NAME_FRONTS;
     begins(spellings.as_slice(), word)
 }
 
@@ -228,38 +177,6 @@ pub fn reaches_out(word: &[u8]) -> bool
 pub fn has_path_front(word: &[u8]) -> bool
     ensures { result ≡ has_path_front word.now }
 {
-    let spellings: [&str; 10] = PATH_FRONTS;
+    let spellings: [&str; 9] = PATH_FRONTS;
     begins(spellings.as_slice(), word)
-}
-
-/// Whether the word begins with one of `PIECE_FRONTS`.
-pub fn is_known_piece(word: &[u8]) -> bool
-    ensures { result ≡ is_known_piece word.now }
-{
-    let spellings: [&str; 36] = PIECE_FRONTS;
-    begins(spellings.as_slice(), word)
-}
-
-/// Whether the word begins with one of these.
-fn begins(fronts: &[&str], word: &[u8]) -> bool
-    ensures { result ≡ list_any (λ front. starts_with nat_eq word.now front.now) fronts.now }
-{
-    for front in fronts {
-        if word.starts_with(front.as_bytes()) {
-            return true;
-        }
-    }
-    false
-}
-
-/// Whether the word is one of these.
-fn is_one(words: &[&str], word: &[u8]) -> bool
-    ensures { result ≡ list_any (λ one. bytes_eq one.now word.now) words.now }
-{
-    for one in words {
-        if one.as_bytes() == word {
-            return true;
-        }
-    }
-    false
 }

@@ -1,7 +1,9 @@
 //! Shapes of words.
 
 ghost use Rattle.std.specs.Prelude.{◌≡◌};
-ghost use Rattle.served_words.specs.Served.{is_plain_byte, is_plain, is_path_byte, is_path};
+ghost use Rattle.served_words.specs.Served.{before, is_plain_byte, is_plain, is_path_byte, is_path};
+
+use access_list::place_of;
 
 /// A letter, a digit, or one of `#+,-.:=_`.
 fn is_plain_byte(byte: u8) -> bool
@@ -29,4 +31,11 @@ pub fn is_path(word: &[u8]) -> bool
     ensures { result ≡ is_path word.now }
 {
     word.iter().all(|&byte| is_path_byte(byte))
+}
+
+/// What stands before the first of these bytes, or all.
+pub fn before(byte: u8, word: &[u8]) -> &[u8]
+    ensures { result.now ≡ before byte word.now }
+{
+    &word[..place_of(byte, word)]
 }

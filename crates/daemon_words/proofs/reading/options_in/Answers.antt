@@ -1,5 +1,5 @@
 use Rattle.std.proofs.Common.{string_bytes, Global, map, arith}
-use Rattle.daemon_words.specs.declared.name.Kind.TheVariants.{Compiler, Rule}
+use Rattle.daemon_words.specs.declared.name.Kind.TheVariants.{Compiler, Rule, Tools}
 use Rattle.daemon_words.proofs.Meaning.{few_counted}
 use Rattle.daemon_words.proofs.reading.options_in.Goals as goal
 
@@ -10,3 +10,7 @@ overflow_cast-result c = omega
 pub overflow_cast-result-2 : goal.overflow_cast-result-2
 overflow_cast-result-2 c =
     omega (arith, c.count_in-2.ensures.count, few_counted Rule (map (string_bytes {Z = Global}) c.args.words.now) c.requires.0 c.requires.1)
+
+pub overflow_cast-result-3 : goal.overflow_cast-result-3
+overflow_cast-result-3 c =
+    omega (arith, c.count_in-3.ensures.count, few_counted Tools (map (string_bytes {Z = Global}) c.args.words.now) c.requires.0 c.requires.1)
