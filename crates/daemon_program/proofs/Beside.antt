@@ -1,7 +1,8 @@
 -- Doors whose stations stand beside books, and the same doors without them.
 use Rattle.std.proofs.Common.{◌≡◌, ℕ, suc, ◌+◌, List, [], ◌∷◌, ◌++◌, length, map, reverse, take, drop, refl, sym, ◌∙◌, ap, subst}
 use Rattle.std.proofs.Common.{append_assoc, length-append, length-drop, arith}
-use Rattle.std.specs.Prelude.{Result, Ok, Err, IfOk, IfErr}
+use Rattle.std.specs.Prelude.{All, Result, Ok, Err, IfOk, IfErr}
+use Rattle.std.proofs.lemmas.List.Elements.{All-append, All-cons, All-nil}
 use Rattle.std.proofs.Math.Seq.{take-append_seam, take-length, drop-append-add}
 use Rattle.std.proofs.lemmas.List.{length-map, map-append, reverse-append, reverse-reverse, take-append-drop}
 use Rattle.farm_types.specs.declared.placed.Word.{Word}
@@ -39,6 +40,12 @@ one_back f doors more all before after kit pushed popped so_far =
     ∙ ap (λ l. doors ++ l) (sym (reverse-append (map f after) (f kit ∷ [])))
     ∙ ap (λ l. doors ++ reverse l) (sym kits)
     ∙ so_far
+
+-- what holds of all but the last holds of all, if it holds of the last
+pub one_more_within : {K : Type 0} (P : K → Type 0) (front all : List K) (last : K) → all ≡ front ++ last ∷ [] → All P front → P last
+    → All P all
+one_more_within P front all last are most one =
+    subst (All P) (sym are) (All-append P front (last ∷ []) most (All-cons P last [] one (All-nil P)))
 
 pub all_moved : {K : Type 0} (left all moved : List K) → left ++ reverse moved ≡ reverse all → moved ++ reverse left ≡ all
 all_moved left all moved are =

@@ -1,11 +1,13 @@
 -- Where nothing failed, every connection is answered by what it gave.
 use Rattle.std.proofs.Common.{◌≡◌, ℕ, suc, ◌⊎◌, inl, inr, Bool, true, false, List, [], ◌∷◌, ◌++◌, take, refl, ◌∙◌, ap}
-use Rattle.std.specs.Prelude.{◌||◌, if◌then◌else◌}
+use Rattle.std.specs.Prelude.{◌||◌, Result, if◌then◌else◌}
 use Rattle.std.specs.List.{list_any}
 use Rattle.std.proofs.lemmas.List.Folds.{list_any-append}
 use Rattle.farm_types.specs.Exits.{memory_status, fault_status}
 use Rattle.farm_types.specs.declared.placed.Word.{Word}
 use Rattle.farm_types.specs.declared.ran.Ran.{Ran}
+use Rattle.edge_traits.specs.declared.faults.Bounds.{Bounds}
+use Rattle.edge_traits.specs.declared.faults.StationFault.{StationFault}
 use Rattle.edge_traits.specs.Doors.{DoorView}
 use Rattle.edge_traits.specs.Stations.{StationView}
 use Rattle.edge_traits.specs.Sinks.{SinkView}
@@ -115,12 +117,12 @@ either_status status answer (inl is) (inr memory) = inr (is ∙ memory)
 either_status status answer (inr memory) none = inr memory
 
 module _ {A S : Type 0} (door : A → DoorView) (station : S → StationView) (ran : S → List Word → List ℕ → Ran → Type 0)
-    (words : List (List ℕ)) (options : Options) (olds news : List (DoorKit A S)) (old new : SinkView) (answer : ℕ) where
+    (goes : S → List Word → List ℕ → Bounds → Result Ran StationFault → S → Type 0) (words : List (List ℕ)) (options : Options) (olds news : List (DoorKit A S)) (old new : SinkView) (answer : ℕ) where
   goes_on : IsSmooth door station ran options olds news old new → DidStop old new → ⊥
   goes_on smooth (inl rose) = smooth.sink rose
   goes_on smooth (inr stop) = cc (stop, smooth.going)
 
-  pub completed : Serves door station ran words options olds news old new answer → IsSmooth door station ran options olds news old new
+  pub completed : Serves door station ran goes words options olds news old new answer → IsSmooth door station ran options olds news old new
       → Completed door station ran words options olds news answer
   completed (unserved same wants) smooth = nothing same (never old new (goes_on smooth) answer wants.told wants.noticed)
   completed (served config log is none_kept done others ends) smooth =

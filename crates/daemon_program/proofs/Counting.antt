@@ -29,10 +29,10 @@ use Rattle.daemon_worker.specs.declared.log.DoorKit.{DoorKit}
 use Rattle.daemon_worker.specs.declared.log.Entry.{Entry}
 use Rattle.daemon_worker.specs.declared.log.Met.{Met}
 use Rattle.daemon_worker.specs.declared.log.Met.TheVariants as met
-use Rattle.daemon_worker.specs.Paths.{MetCalls, Path, DoorsPaths}
+use Rattle.daemon_worker.specs.Paths.{MetCalls, Path, DoorPath, DoorsPaths}
 use Rattle.daemon_worker.specs.Logs.{DoorsServed}
 use Rattle.daemon_worker.proofs.Logging.{few_entries}
-use Rattle.object_cache.specs.Entries.{Entry as Kept}
+use Rattle.object_cache.specs.Entries.{Entry as Kept, sizes}
 use Rattle.object_cache.specs.Keys.{is_cacheable}
 use Rattle.object_cache.specs.Books.{BookView, new_book, after_miss, Keeps}
 use Rattle.object_cache.specs.declared.book.Stats.{Stats}
@@ -40,9 +40,11 @@ use Rattle.object_cache.specs.Stations.{Cached, cached_shows, CacheRun, hit, mis
 use Rattle.cache_laws.proofs.Cacheable.{cacheable}
 use Rattle.daemon_program.proofs.Beside.{first_of, whole, count_ok}
 use Rattle.std.proofs.lemmas.List.{length-map}
+use Rattle.std.proofs.lemmas.Simd.{map-map}
 use Rattle.farm_types.specs.Limits.{connections_max, workers_max}
 use Rattle.daemon_program.specs.Books.{plain_kit, book_of, stats_of}
-use Rattle.daemon_program.specs.Counts.{is_compile_status, is_compiled, compiled_in, is_failed, AreShort, AreCounted, DoorsCounted}
+use Rattle.daemon_program.specs.Counts.{is_compile_status, is_compiled, compiled_in, is_failed, AreShort, AreCounted, failures, beside_goes}
+use Rattle.daemon_program.specs.Counts.{DoorKept, DoorsKept, BooksKept}
 
 -- ---- programs, answers
 
@@ -107,13 +109,11 @@ or_parts : (a b : Bool) → (a || b) ≡ false → (a ≡ false) × (b ≡ false
 or_parts true b is = absurd (cc is)
 or_parts false b is = (refl, is)
 
-few_run : {E : Type 0} (words : List Word) (input : List ℕ) (result : Result Ran E) → length (run_entries words input result) ≤ 1
-few_run words input (Ok ran) = omega arith
-few_run words input (Err fault) = omega arith
-
-one_run : {E : Type 0} (words : List Word) (input : List ℕ) (result : Result Ran E) (ran : Ran) → result ≡ Ok ran
-    → length (run_entries words input result) ≡ 1
-one_run words input result ran is = ap (λ r. length (run_entries words input r)) is
+-- a run left something or failed
+one_of : (words : List Word) (input : List ℕ) (result : Result Ran RunStop)
+    → length (run_entries words input result) + length (failures result) ≡ 1
+one_of words input (Ok ran) = refl
+one_of words input (Err fault) = refl
 
 -- ---- books
 
@@ -126,9 +126,17 @@ chosen_counts : (b : Bool) (entry : Kept) (old new : BookView) → MatchBool b (
 chosen_counts true entry old new is = kept_counts entry old new is
 chosen_counts false entry old new is = (ap (λ b. b.hits) is, ap (λ b. b.misses) is)
 
-module _ {S : Type 0} (shows : S → StationView) where
+kept_bound : (entry : Kept) (old new : BookView) → Keeps entry old new → new.bound ≡ old.bound
+kept_bound entry old new (inl is) = ap (λ b. b.bound) is
+kept_bound entry old new (inr is) = ap (λ b. b.bound) is.1
+
+learned_bound : (b : Bool) (entry : Kept) (old new : BookView) → MatchBool b (Keeps entry old new) (new ≡ old) → new.bound ≡ old.bound
+learned_bound true entry old new is = kept_bound entry old new is
+learned_bound false entry old new is = ap (λ b. b.bound) is
+
+module _ {S : Type 0} (shows : S → StationView) (goes : S → List Word → List ℕ → Bounds → Result Ran RunStop → S → Type 0) where
   learned_counts : (words : List Word) (input : List ℕ) (old new : BookView) (result : Result Ran RunStop)
-      → Learned shows words input old new result → (new.hits ≡ old.hits) × (new.misses ≡ one_more old.misses)
+      → Learned shows goes words input old new result → (new.hits ≡ old.hits) × (new.misses ≡ one_more old.misses)
   learned_counts words input old new (Ok ran) is = chosen_counts (nat_eq ran.status 0) (record { words = words; input = input; ran = ran })
       (after_miss old) new is
   learned_counts words input old new (Err fault) is = (ap (λ b. b.hits) is, ap (λ b. b.misses) is)
@@ -138,9 +146,10 @@ module _ {S : Type 0} (shows : S → StationView) where
     answers : (if is_compiled what then 1 else 0) + (old.book.hits + old.book.misses) ≤ new.book.hits + new.book.misses
     few : new.book.hits + new.book.misses ≤ old.book.hits + old.book.misses + 1
     runs : List Run
+    failed : List RunStop
     grew : Grew (shows old.station).runs (shows new.station).runs runs
-    misses : length runs + old.book.misses ≤ new.book.misses
-    exact : is_failed what ≡ false → length runs + old.book.misses ≡ new.book.misses
+    misses : length runs + length failed + old.book.misses ≡ new.book.misses
+    calm : is_failed what ≡ false → failed ≡ []
 
   nothing : (what : Met) (old new : Cached S) → is_compiled what ≡ false → new.station ≡ old.station → new.book ≡ old.book
       → Counts what old new
@@ -151,14 +160,15 @@ module _ {S : Type 0} (shows : S → StationView) where
         answers = omega (arith, no_one (is_compiled what) none, hits, misses);
         few = omega (arith, hits, misses);
         runs = [];
+        failed = [];
         grew = subst (λ s. Grew (shows old.station).runs (shows s).runs []) (sym station) (Grew-refl (shows old.station).runs);
         misses = omega (arith, misses);
-        exact = λ calm. omega (arith, misses);
+        calm = λ is. refl;
       }
 
   by_run : (answer : Served) (words : List Word) (input : List ℕ) (bounds : Bounds) (old new : Cached S) (ended : Result Ran RunStop)
       → old.book.hits + old.book.misses < greatest → is_cacheable words input ≡ true
-      → IsEnded ended answer → CacheRun shows words input bounds old new ended → Counts (met.Served answer) old new
+      → IsEnded ended answer → CacheRun shows goes words input bounds old new ended → Counts (met.Served answer) old new
   by_run answer words input bounds old new ended room may is (hit entry cacheable found result station book) =
       let hits : new.book.hits ≡ old.book.hits + 1 = ap (λ b. b.hits) book ∙ raised old.book.hits (omega (arith, room)) in
       let misses : new.book.misses ≡ old.book.misses = ap (λ b. b.misses) book in
@@ -166,9 +176,10 @@ module _ {S : Type 0} (shows : S → StationView) where
         answers = omega (arith, at_most_one (is_compiled (met.Served answer)), hits, misses);
         few = omega (arith, hits, misses);
         runs = [];
+        failed = [];
         grew = subst (λ s. Grew (shows old.station).runs (shows s).runs []) (sym station) (Grew-refl (shows old.station).runs);
         misses = omega (arith, misses);
-        exact = λ calm. omega (arith, misses);
+        calm = λ is. refl;
       }
   by_run answer words input bounds old new ended room may is (miss cacheable none asked learned) =
       let counts = learned_counts words input old.book new.book ended learned in
@@ -178,16 +189,17 @@ module _ {S : Type 0} (shows : S → StationView) where
         answers = omega (arith, at_most_one (is_compiled (met.Served answer)), hits, misses);
         few = omega (arith, hits, misses);
         runs = run_entries words input ended;
-        grew = asked;
-        misses = omega (arith, misses, few_run words input ended);
-        exact = λ calm. let ok = came answer ended is calm in omega (arith, misses, one_run words input ended ok.0 ok.1);
+        failed = failures ended;
+        grew = asked.runs;
+        misses = omega (arith, misses, one_of words input ended);
+        calm = λ is_calm. let ok = came answer ended is is_calm in ap failures ok.1;
       }
   by_run answer words input bounds old new ended room may is (direct not_cacheable asked book) = absurd (cc (may, not_cacheable))
   by_run answer words input bounds old new ended room may is (wanted cacheable result station book) =
       nothing (met.Served answer) old new (wanted_compiled answer ended is result) station book
 
   abbrev went : Cached S → List Word → List ℕ → Bounds → Result Ran RunStop → Cached S → Type 0
-  went c words input bounds result new = CacheRun shows words input bounds c new result
+  went = beside_goes shows goes
 
   module _ (table : List Compiler) (short : AreShort table) where
     by_calls : (answer : Served) (old new : Cached S) → old.book.hits + old.book.misses < greatest → Calls went table old new answer
@@ -211,9 +223,10 @@ module _ {S : Type 0} (shows : S → StationView) where
     record AllCounts (entries : List Entry) (old new : Cached S) : Type 0 where
       answers : compiled_in entries + (old.book.hits + old.book.misses) ≤ new.book.hits + new.book.misses
       runs : List Run
+      failed : List RunStop
       grew : Grew (shows old.station).runs (shows new.station).runs runs
-      misses : length runs + old.book.misses ≤ new.book.misses
-      exact : list_any (λ (entry : Entry). is_failed entry.what) entries ≡ false → length runs + old.book.misses ≡ new.book.misses
+      misses : length runs + length failed + old.book.misses ≡ new.book.misses
+      calm : list_any (λ (entry : Entry). is_failed entry.what) entries ≡ false → failed ≡ []
 
     one_more_counted : (entry : Entry) (entries : List Entry) (old mid new : Cached S) → Counts entry.what old mid
         → AllCounts entries mid new → AllCounts (entry ∷ entries) old new
@@ -222,11 +235,12 @@ module _ {S : Type 0} (shows : S → StationView) where
         record {
           answers = omega (arith, first.answers, rest.answers);
           runs = first.runs ++ rest.runs;
+          failed = first.failed ++ rest.failed;
           grew = Grew-then first.grew rest.grew;
-          misses = omega (arith, both, first.misses, rest.misses);
-          exact = λ calm.
-              let parts = or_parts (is_failed entry.what) (list_any (λ (e : Entry). is_failed e.what) entries) calm in
-              omega (arith, both, first.exact parts.0, rest.exact parts.1);
+          misses = omega (arith, both, length-append first.failed rest.failed, first.misses, rest.misses);
+          calm = λ is.
+              let parts = or_parts (is_failed entry.what) (list_any (λ (e : Entry). is_failed e.what) entries) is in
+              ap (λ l. l ++ rest.failed) (first.calm parts.0) ∙ rest.calm parts.1;
         }
 
     all_counts : (entries : List Entry) (old new : Cached S) → old.book.hits + old.book.misses + length entries < greatest
@@ -237,10 +251,11 @@ module _ {S : Type 0} (shows : S → StationView) where
         record {
           answers = omega (arith, hits, misses);
           runs = [];
+          failed = [];
           grew = subst (λ (c : Cached S). Grew (shows old.station).runs (shows c.station).runs []) (sym same)
               (Grew-refl (shows old.station).runs);
           misses = omega (arith, misses);
-          exact = λ calm. omega (arith, misses);
+          calm = λ is. refl;
         }
     all_counts (entry ∷ entries) old new room path =
         let first = by_meeting entry.what old path.0 (omega (arith, room)) path.1 in
@@ -256,30 +271,72 @@ module _ {S : Type 0} (shows : S → StationView) where
         record {
           answers = omega (arith, all.answers, hits, misses);
           runs = all.runs;
+          failed = all.failed;
           grew = all.grew;
-          few = omega (arith, all.misses, misses);
-          exact = λ calm. omega (arith, all.exact calm, misses);
+          misses = omega (arith, all.misses, misses);
+          calm = all.calm;
         }
 
-    -- ---- the doors
+  -- ---- the doors
 
-    pub doors_counted : {A : Type 0} (bound number : ℕ) (olds news : List (DoorKit A (Cached S))) (log : List Entry)
-        → All (λ kit. book_of kit ≡ new_book bound) olds → length log < greatest
-        → DoorsPaths went table number olds news log
-        → DoorsCounted shows (map plain_kit olds) (map plain_kit news) log (map (λ kit. stats_of (book_of kit)) news)
-    doors_counted bound number [] [] log fresh room paths = paths
-    doors_counted bound number [] (new ∷ news) log fresh room paths = absurd paths
-    doors_counted bound number (old ∷ olds) [] log fresh room paths = absurd paths
-    doors_counted bound number (old ∷ olds) (new ∷ news) log fresh room paths =
-        let all : length log ≡ length paths.0 + length paths.1 = ap length paths.2 ∙ length-append paths.0 paths.1 in (
-          paths.0,
-          paths.1,
-          paths.2,
-          counted paths.0 old.station new.station bound (All-head (λ kit. book_of kit ≡ new_book bound) old olds fresh)
-              (omega (arith, all, room)) paths.3.path,
-          doors_counted bound (suc number) olds news paths.1 (All-tail (λ kit. book_of kit ≡ new_book bound) old olds fresh)
-              (omega (arith, all, room)) paths.4,
-        )
+  run_bound : (words : List Word) (input : List ℕ) (bounds : Bounds) (old new : Cached S) (ended : Result Ran RunStop)
+      → CacheRun shows goes words input bounds old new ended → new.book.bound ≡ old.book.bound
+  run_bound words input bounds old new ended (hit entry may found result station book) = ap (λ b. b.bound) book
+  run_bound words input bounds old new (Ok ran) (miss may none asked learned) = learned_bound (nat_eq ran.status 0)
+      (record { words = words; input = input; ran = ran }) (after_miss old.book) new.book learned
+  run_bound words input bounds old new (Err fault) (miss may none asked learned) = ap (λ b. b.bound) learned
+  run_bound words input bounds old new ended (direct may asked book) = ap (λ b. b.bound) book
+  run_bound words input bounds old new ended (wanted may result station book) = ap (λ b. b.bound) book
+
+  calls_bound : (table : List Compiler) (answer : Served) (old new : Cached S) → Calls went table old new answer
+      → new.book.bound ≡ old.book.bound
+  calls_bound table answer old new (uncalled same none) = ap (λ c. c.book.bound) same
+  calls_bound table answer old new (called q program ended fits remote named run is) =
+      run_bound (with_program program (placed_words q.words)) q.source compile_bounds old new ended run
+
+  meeting_bound : (table : List Compiler) (what : Met) (old new : Cached S) → MetCalls went table old new what
+      → new.book.bound ≡ old.book.bound
+  meeting_bound table (met.Served answer) old new calls = calls_bound table answer old new calls
+  meeting_bound table (met.Denied addr rule) old new same = ap (λ c. c.book.bound) same
+  meeting_bound table met.DoorFault old new same = ap (λ c. c.book.bound) same
+  meeting_bound table met.DoorMemory old new same = ap (λ c. c.book.bound) same
+
+  -- no connection changes the bound
+  path_bound : (table : List Compiler) (entries : List Entry) (old new : Cached S) → Path went table old new entries
+      → new.book.bound ≡ old.book.bound
+  path_bound table [] old new same = ap (λ c. c.book.bound) same
+  path_bound table (entry ∷ entries) old new path =
+      path_bound table entries path.0 new path.2 ∙ meeting_bound table entry.what old path.0 path.1
+
+  door_kept : (table : List Compiler) (bound number : ℕ) (old new : Cached S) (entries : List Entry) → old.book ≡ new_book bound
+      → length entries < greatest → sizes new.book.entries ≤ new.book.bound → DoorPath went table number old new entries
+      → DoorKept shows goes table bound number old.station new.station entries new.book
+  door_kept table bound number old new entries fresh room within own =
+      let begins : old ≡ record { station = old.station; book = new_book bound } = ap (λ b. record { station = old.station; book = b }) fresh in
+      record {
+        own = subst (λ c. DoorPath went table number c new entries) begins own;
+        within = subst (λ n. sizes new.book.entries ≤ n) (path_bound table entries old new own.path ∙ ap (λ b. b.bound) fresh) within;
+        counted = λ short. counted table short entries old new bound fresh room own.path;
+      }
+
+  pub doors_kept : {A : Type 0} (table : List Compiler) (bound number : ℕ) (olds news : List (DoorKit A (Cached S))) (log : List Entry)
+      → All (λ kit. book_of kit ≡ new_book bound) olds → All (λ kit. sizes (book_of kit).entries ≤ (book_of kit).bound) news
+      → length log < greatest → DoorsPaths went table number olds news log
+      → DoorsKept shows goes table bound number (map plain_kit olds) (map plain_kit news) log (map book_of news)
+  doors_kept table bound number [] [] log fresh within room paths = paths
+  doors_kept table bound number [] (new ∷ news) log fresh within room paths = absurd paths
+  doors_kept table bound number (old ∷ olds) [] log fresh within room paths = absurd paths
+  doors_kept table bound number (old ∷ olds) (new ∷ news) log fresh within room paths =
+      let all : length log ≡ length paths.0 + length paths.1 = ap length paths.2 ∙ length-append paths.0 paths.1 in (
+        paths.0,
+        paths.1,
+        paths.2,
+        door_kept table bound number old.station new.station paths.0
+            (All-head (λ kit. book_of kit ≡ new_book bound) old olds fresh) (omega (arith, all, room))
+            (All-head (λ kit. sizes (book_of kit).entries ≤ (book_of kit).bound) new news within) paths.3,
+        doors_kept table bound (suc number) olds news paths.1 (All-tail (λ kit. book_of kit ≡ new_book bound) old olds fresh)
+            (All-tail (λ kit. sizes (book_of kit).entries ≤ (book_of kit).bound) new news within) (omega (arith, all, room)) paths.4,
+      )
 
 -- a log is short
 pub short_log : {A T : Type 0} (table : List Compiler) (rules : List Rule) (serve : ℕ) (door : A → DoorView) (station : T → StationView)
@@ -295,19 +352,20 @@ short_log table rules serve door station ran number (old ∷ olds) (new ∷ news
     (station new.station) done.0 done.3 in
     omega (arith, all, mine, few, short_log table rules serve door station ran (suc number) olds news done.1 few done.4)
 
--- the counts of books are those of the doors without their books
-pub counted_plain : {A S : Type 0} (shows : S → StationView) (table : List Compiler) (rules : List Rule) (serve : ℕ) (door : A → DoorView)
+-- the books are those of the doors without them
+pub books_kept : {A S : Type 0} (shows : S → StationView) (goes : S → List Word → List ℕ → Bounds → Result Ran RunStop → S → Type 0)
+    (table : List Compiler) (rules : List Rule) (serve : ℕ) (door : A → DoorView)
     (ran : S → List Word → List ℕ → Ran → Type 0) (count bound : ℕ) (ins outs : List (DoorKit A (Cached S)))
     → length ins ≡ count → (left olds news : List (DoorKit A S)) → map plain_kit ins ++ reverse left ≡ olds
     → news ≡ map plain_kit outs ++ reverse left → count ≤ workers_max → serve ≤ connections_max
-    → All (λ kit. book_of kit ≡ new_book bound) ins
+    → All (λ kit. book_of kit ≡ new_book bound) ins → All (λ kit. sizes (book_of kit).entries ≤ (book_of kit).bound) outs
     → (log : List Entry) → DoorsServed table rules serve door (λ (c : Cached S). cached_shows (shows c.station))
     (λ (c : Cached S). ran c.station) 1 (take count ins) (take count outs) log
-    → DoorsPaths (went shows) table 1 (take count ins) (take count outs) log → drop count outs ≡ drop count ins
-    → (stats : List Stats) → stats ≡ map (λ kit. stats_of (book_of kit)) outs → AreShort table
-    → DoorsCounted shows (take count olds) (take count news) log stats
-counted_plain shows table rules serve door ran count bound ins outs many left olds news before after few served_few fresh log served
-    paths others stats are short =
+    → DoorsPaths (beside_goes shows goes) table 1 (take count ins) (take count outs) log → drop count outs ≡ drop count ins
+    → (stats : List Stats) → stats ≡ map (λ kit. stats_of (book_of kit)) outs
+    → BooksKept shows goes table bound (take count olds) (take count news) log stats
+books_kept shows goes table rules serve door ran count bound ins outs many left olds news before after few served_few fresh within log
+    served paths others stats are =
     let same = count_ok table rules serve door shows ran count ins outs many log served others in
     let in_whole = whole count ins many in
     let out_whole = whole count outs same in
@@ -324,9 +382,12 @@ counted_plain shows table rules serve door ran count bound ins outs many left ol
     first_of count (map plain_kit ins) (reverse left) olds (length-map ins plain_kit ∙ many) (sym before) in
     let last : take count news ≡ map plain_kit outs =
     first_of count (map plain_kit outs) (reverse left) news (length-map outs plain_kit ∙ same) after in
-    let ways = subst (λ l. DoorsPaths (went shows) table 1 ins l log) out_whole
-    (subst (λ l. DoorsPaths (went shows) table 1 l (take count outs) log) in_whole paths) in
-    subst (λ l. DoorsCounted shows (take count olds) (take count news) log l) (sym are)
-    (subst (λ l. DoorsCounted shows l (take count news) log (map (λ kit. stats_of (book_of kit)) outs)) (sym first)
-    (subst (λ l. DoorsCounted shows (map plain_kit ins) l log (map (λ kit. stats_of (book_of kit)) outs)) (sym last)
-    (doors_counted shows table short bound 1 ins outs log fresh room ways)))
+    let ways = subst (λ l. DoorsPaths (beside_goes shows goes) table 1 ins l log) out_whole
+    (subst (λ l. DoorsPaths (beside_goes shows goes) table 1 l (take count outs) log) in_whole paths) in
+    record {
+      books = map book_of outs;
+      stats_are = are ∙ sym (map-map stats_of book_of outs);
+      doors = subst (λ l. DoorsKept shows goes table bound 1 l (take count news) log (map book_of outs)) (sym first)
+          (subst (λ l. DoorsKept shows goes table bound 1 (map plain_kit ins) l log (map book_of outs)) (sym last)
+          (doors_kept shows goes table bound 1 ins outs log fresh within room ways));
+    }

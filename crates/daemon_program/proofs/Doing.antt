@@ -4,6 +4,8 @@ use Rattle.std.specs.Prelude.{unwrap_or, Option, Some, None, Result}
 use Rattle.farm_types.specs.Limits.{connections_max, workers_default, workers_max}
 use Rattle.farm_types.specs.declared.placed.Word.{Word}
 use Rattle.farm_types.specs.declared.ran.Ran.{Ran}
+use Rattle.edge_traits.specs.declared.faults.Bounds.{Bounds}
+use Rattle.edge_traits.specs.declared.faults.StationFault.{StationFault}
 use Rattle.edge_traits.specs.Doors.{DoorView}
 use Rattle.edge_traits.specs.Stations.{StationView}
 use Rattle.edge_traits.specs.Sinks.{SinkView}
@@ -19,7 +21,7 @@ use Rattle.daemon_words.proofs.Meaning.{once}
 use Rattle.object_cache.specs.declared.book.Stats.{Stats}
 use Rattle.object_cache.specs.Stations.{cached_shows}
 use Rattle.daemon_program.specs.Texts.{log_text, books_text}
-use Rattle.daemon_program.specs.Counts.{AreShort, DoorsCounted}
+use Rattle.daemon_program.specs.Counts.{BooksKept}
 use Rattle.daemon_program.specs.Endings.{Ends}
 use Rattle.daemon_program.specs.Daemons.{IsConfig, Serves, served, cached, Does, doors_used, log_status}
 
@@ -43,12 +45,12 @@ ends_as text bytes status answered old new answer same also ends =
     subst (λ t. Ends t status old new answer) same (subst (λ s. Ends bytes s old new answer) also ends)
 
 module _ {A S : Type 0} (door : A → DoorView) (station : S → StationView) (ran : S → List Word → List ℕ → Ran → Type 0)
-    (words : List (List ℕ)) where
+    (goes : S → List Word → List ℕ → Bounds → Result Ran StationFault → S → Type 0) (words : List (List ℕ)) where
   pub served_first : (options : Options) (olds news : List (DoorKit A S)) (old new : SinkView) (answer count : ℕ) (config : DaemonConfig)
       (log : List Entry) → count ≡ doors_used options olds → IsConfig words options config → book_bound options ≡ None
       → DoorsServed config.table.rows config.access.rules config.serve door station ran 1 (take count olds) (take count news) log
       → drop count news ≡ drop count olds → Ends (log_text log) (log_status log) old new answer
-      → Serves door station ran words options olds news old new answer
+      → Serves door station ran goes words options olds news old new answer
   served_first options olds news old new answer count config log is right none done others ends =
       served config log right none
       (subst (λ n. DoorsServed config.table.rows config.access.rules config.serve door station ran 1 (take n olds)
@@ -61,18 +63,18 @@ module _ {A S : Type 0} (door : A → DoorView) (station : S → StationView) (r
       → DoorsServed config.table.rows config.access.rules config.serve door (λ s. cached_shows (station s)) ran 1 (take count olds)
       (take count news) log
       → drop count news ≡ drop count olds → length books ≡ count
-      → (AreShort config.table.rows → DoorsCounted station (take count olds) (take count news) log books)
+      → BooksKept station goes config.table.rows bound (take count olds) (take count news) log books
       → Ends (log_text log ++ books_text 1 books) (log_status log) old new answer
-      → Serves door station ran words options olds news old new answer
-  cached_first options olds news old new answer count config log bound books is right some done others many counted ends =
+      → Serves door station ran goes words options olds news old new answer
+  cached_first options olds news old new answer count config log bound books is right some done others many kept ends =
       cached config log bound books right some
       (subst (λ n. DoorsServed config.table.rows config.access.rules config.serve door (λ s. cached_shows (station s)) ran 1 (take n olds)
       (take n news) log) is done)
       (subst (λ n. drop n news ≡ drop n olds) is others) (many ∙ is)
-      (λ short. subst (λ n. DoorsCounted station (take n olds) (take n news) log books) is (counted short)) ends
+      (subst (λ n. BooksKept station goes config.table.rows bound (take n olds) (take n news) log books) is kept) ends
 
   pub does_by : (olds news : List (DoorKit A S)) (old new : SinkView) (answer : ℕ) (found read : Result Command ℕ) → ReadWords words found
-      → Does door station ran words olds news old new answer found
-      → ReadWords words read → Does door station ran words olds news old new answer read
-  does_by olds news old new answer found read is done reads = subst (λ r. Does door station ran words olds news old new answer r)
+      → Does door station ran goes words olds news old new answer found
+      → ReadWords words read → Does door station ran goes words olds news old new answer read
+  does_by olds news old new answer found read is done reads = subst (λ r. Does door station ran goes words olds news old new answer r)
       (once words found read is reads) done

@@ -6,6 +6,8 @@ use Rattle.farm_types.specs.Exits.{bad_words_status, memory_status, fault_status
 use Rattle.farm_types.specs.Limits.{connections_max}
 use Rattle.farm_types.specs.declared.placed.Word.{Word}
 use Rattle.farm_types.specs.declared.ran.Ran.{Ran}
+use Rattle.edge_traits.specs.declared.faults.Bounds.{Bounds}
+use Rattle.edge_traits.specs.declared.faults.StationFault.{StationFault}
 use Rattle.edge_traits.specs.Doors.{DoorView}
 use Rattle.edge_traits.specs.Stations.{StationView}
 use Rattle.edge_traits.specs.Sinks.{SinkView}
@@ -24,7 +26,7 @@ use Rattle.daemon_words.specs.Helps.{help, version}
 use Rattle.daemon_words.specs.Tables.{compilers_of, AreRules}
 use Rattle.object_cache.specs.declared.book.Stats.{Stats}
 use Rattle.object_cache.specs.Stations.{cached_shows}
-use Rattle.daemon_program.specs.Counts.{AreShort, DoorsCounted}
+use Rattle.daemon_program.specs.Counts.{BooksKept}
 use Rattle.daemon_program.specs.Texts.{log_text, books_text, bad_words_text}
 use Rattle.daemon_program.specs.Endings.{Ends, WantsAfter}
 
@@ -48,10 +50,11 @@ pub record IsConfig (words : List (List ℕ)) (options : Options) (config : Daem
 abbrev pub doors_used : {K : Type 0} → Options → List K → ℕ
 doors_used options doors = min (unwrap_or options.jobs 4) (length doors)
 
-module _ {A S : Type 0} (door : A → DoorView) (station : S → StationView) (ran : S → List Word → List ℕ → Ran → Type 0) where
-  -- Memory was wanting before anything was served. Or the doors were served, the others are as before, and the log was printed; where
-  -- each door's station stood beside a book, it told no runs, each book's counts are those of its door's connections and of its
-  -- station's own new runs, and the lines of the books were printed behind the log.
+module _ {A S : Type 0} (door : A → DoorView) (station : S → StationView) (ran : S → List Word → List ℕ → Ran → Type 0)
+    (goes : S → List Word → List ℕ → Bounds → Result Ran StationFault → S → Type 0) where
+  -- Memory was wanting before anything was served. Or the doors were served, the others are as before, and the log was printed. With a cache each
+  -- door's station is beside a book of its own and records no runs. Each book is what the door's own connections make of a new book of the
+  -- given bound, and the lines of the books are printed after the log.
   pub data Serves (words : List (List ℕ)) (options : Options) (olds news : List (DoorKit A S)) (old new : SinkView)
       (answer : ℕ) : Type 0 where
     unserved : news ≡ olds → WantsAfter [] old new answer → Serves words options olds news old new answer
@@ -66,8 +69,7 @@ module _ {A S : Type 0} (door : A → DoorView) (station : S → StationView) (r
         (take (doors_used options olds) olds) (take (doors_used options olds) news) log
         → drop (doors_used options olds) news ≡ drop (doors_used options olds) olds
         → length books ≡ doors_used options olds
-        → (AreShort config.table.rows
-        → DoorsCounted station (take (doors_used options olds) olds) (take (doors_used options olds) news) log books)
+        → BooksKept station goes config.table.rows bound (take (doors_used options olds) olds) (take (doors_used options olds) news) log books
         → Ends (log_text log ++ books_text 1 books) (log_status log) old new answer → Serves words options olds news old new answer
 
   -- what is done by these words: bad ones are told with their place, and nothing is served

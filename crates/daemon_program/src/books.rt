@@ -4,9 +4,10 @@ ghost use Rattle.std.specs.Prelude.{◌≡◌, ◌+◌, ◌≤◌, ◌++◌, [],
 ghost use Rattle.farm_types.specs.Limits.{workers_max, connections_max};
 ghost use Rattle.object_cache.specs.Stations.{cached_shows};
 ghost use Rattle.object_cache.specs.Books.{new_book};
+ghost use Rattle.object_cache.specs.Entries.{sizes};
 ghost use Rattle.access_list.specs.Rules.{AreRight};
 ghost use Rattle.daemon_worker.specs.Logs.{DoorsServed};
-ghost use Rattle.daemon_program.specs.Counts.{AreShort, DoorsCounted};
+ghost use Rattle.daemon_program.specs.Counts.{BooksKept};
 ghost use Rattle.daemon_program.specs.Books.{plain_kit, book_of, stats_of};
 
 use daemon_worker::{DaemonConfig, DaemonLog, DoorKit, serve_first};
@@ -56,6 +57,7 @@ fn move_out<A: Drop, S: Station + Drop>(
     requires space { vec_len stats.old + vec_len cached ≤ vec_capacity stats.old }
     ensures kits { doors.new.items ≡ map plain_kit cached.items ++ reverse doors.old.items }
     ensures stats { stats.new.items ≡ map (λ kit. stats_of (book_of kit)) cached.items }
+    ensures within { All (λ kit. sizes (book_of kit).entries ≤ (book_of kit).bound) cached.items }
 {
     'moving: while let Some(kit) = cached.pop() {
         let DoorKit { door, station } = kit;
@@ -95,7 +97,7 @@ where
     ensures served { IfOk result (λ answer. DoorsServed config.now.table.rows config.now.access.rules config.now.serve A.shows (λ s. cached_shows (S.shows s)) S.ran 1
         (take count doors.old.items) (take count doors.new.items) answer.0) }
     ensures books { IfOk result (λ answer. length answer.1.items ≡ count) }
-    ensures counted { IfOk result (λ answer. AreShort config.now.table.rows → DoorsCounted S.shows (take count doors.old.items) (take count doors.new.items) answer.0 answer.1.items) }
+    ensures kept { IfOk result (λ answer. BooksKept S.shows S.goes config.now.table.rows bound (take count doors.old.items) (take count doors.new.items) answer.0 answer.1.items) }
     ensures others { IfOk result (λ _. drop count doors.new.items ≡ drop count doors.old.items) }
     ensures untouched { IfErr result (λ _. doors.new.items ≡ doors.old.items) }
 {

@@ -52,7 +52,7 @@ where
     requires words { IsCommand (map string_bytes words.now) (asked.Serve options.now) }
     requires some { 1 ≤ length doors.old.items }
     requires few { length doors.old.items ≤ workers_max }
-    ensures { Serves A.shows S.shows S.ran (map string_bytes words.now) options.now doors.old.items doors.new.items (O.shows out.old) (O.shows out.new) result }
+    ensures { Serves A.shows S.shows S.ran S.goes (map string_bytes words.now) options.now doors.old.items doors.new.items (O.shows out.old) (O.shows out.new) result }
 {
     let Ok(config) = config_of(alloc, words, options) else {
         return want_memory(out);
@@ -90,7 +90,7 @@ where
     requires few { length doors.old.items ≤ workers_max }
     requires out { (O.shows out.old).stopped ≡ false }
     ensures does { (read : Result Asked ℕ) → ReadWords (map string_bytes words.now) read →
-        Does A.shows S.shows S.ran (map string_bytes words.now) doors.old.items doors.new.items (O.shows out.old) (O.shows out.new) result read }
+        Does A.shows S.shows S.ran S.goes (map string_bytes words.now) doors.old.items doors.new.items (O.shows out.old) (O.shows out.new) result read }
 
     // Where neither a used door, its links and its station nor the sink failed, and no send or write took nothing: each
     // connection was answered by what it gave, or denied, or memory was wanting, and the status is 0, or memory was wanting.

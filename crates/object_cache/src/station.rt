@@ -37,7 +37,7 @@ impl<S: Station> Station for CachedStation<S> {
 
     ghost ran = { λ c. S.ran c.station };
 
-    ghost goes = { λ c words input bounds result new. CacheRun S.shows words input bounds c new result };
+    ghost goes = { λ c words input bounds result new. CacheRun S.shows S.goes words input bounds c new result };
 
     fn run(
         &mut self,
@@ -46,7 +46,7 @@ impl<S: Station> Station for CachedStation<S> {
         input: &[u8],
         bounds: &Bounds,
     ) -> Result<Ran, StationFault>
-        ensures step { CacheRun S.shows words.now input.now bounds.now self.old self.new result }
+        ensures step { CacheRun S.shows S.goes words.now input.now bounds.now self.old self.new result }
 
         // What each station ensures.
         ensures within { IfOk result (IsWithin bounds.now) }

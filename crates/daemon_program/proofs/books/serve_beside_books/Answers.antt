@@ -3,7 +3,7 @@ use Rattle.std.proofs.lemmas.Grind.{common_steps}
 use Rattle.std.proofs.lemmas.List.{length-map}
 use Rattle.daemon_program.specs.Books.{book_of, stats_of}
 use Rattle.daemon_program.proofs.Beside.{count_out, count_ok, served_plain, others_plain, same_plain}
-use Rattle.daemon_program.proofs.Counting.{counted_plain}
+use Rattle.daemon_program.proofs.Counting.{books_kept}
 use Rattle.daemon_program.proofs.books.serve_beside_books.Goals as goal
 
 pub move_out-requires-clause-room : goal.move_out-requires-clause-room
@@ -58,12 +58,12 @@ returns-in-Err-clause-untouched g c =
     c.move_in.new.doors.items c.args.doors.now.items c.move_out.new.doors.items c.move_in.ensures.kits c.move_out.ensures.kits
     c.in-Err.ensures.untouched
 
-pub returns-in-Ok-clause-counted : goal.returns-in-Ok-clause-counted
-returns-in-Ok-clause-counted g c =
-    counted_plain g.S.Station.shows c.args.config.now.table.rows c.args.config.now.access.rules c.args.config.now.serve
+pub returns-in-Ok-clause-kept : goal.returns-in-Ok-clause-kept
+returns-in-Ok-clause-kept g c =
+    books_kept g.S.Station.shows g.S.Station.goes c.args.config.now.table.rows c.args.config.now.access.rules c.args.config.now.serve
     g.A.Door.shows g.S.Station.ran c.args.count c.args.bound c.move_in.new.cached.items c.serve_first-served.new.doors.items
     c.move_in.ensures.count
     c.move_in.new.doors.items c.args.doors.now.items c.move_out.new.doors.items c.move_in.ensures.kits c.move_out.ensures.kits
-    c.requires.few c.requires.serve.1 c.move_in.ensures.books c.in-Ok.log c.in-Ok.ensures.served c.in-Ok.ensures.paths
+    c.requires.few c.requires.serve.1 c.move_in.ensures.books c.move_out.ensures.within c.in-Ok.log c.in-Ok.ensures.served c.in-Ok.ensures.paths
     c.in-Ok.ensures.others
     c.move_out.new.stats.items c.move_out.ensures.stats

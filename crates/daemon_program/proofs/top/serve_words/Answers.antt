@@ -48,7 +48,7 @@ returns-in-Ok-serve_first g c =
     let ends = ends_as (log_text c.in-Ok-serve_first.log) _ (log_status c.in-Ok-serve_first.log) _ (g.O.Sink.shows c.args.out.now)
     (g.O.Sink.shows c.print_log-in-Ok-serve_first.new.out) c.print_log-in-Ok-serve_first.result text status
     c.print_log-in-Ok-serve_first.ensures in
-    served_first g.A.Door.shows g.S.Station.shows g.S.Station.ran (map (string_bytes {Z = Global}) c.args.words.now)
+    served_first g.A.Door.shows g.S.Station.shows g.S.Station.ran g.S.Station.goes (map (string_bytes {Z = Global}) c.args.words.now)
     c.args.options.now c.args.doors.now.items c.serve_first.new.doors.items (g.O.Sink.shows c.args.out.now)
     (g.O.Sink.shows c.print_log-in-Ok-serve_first.new.out) c.print_log-in-Ok-serve_first.result
     c.min-count.result c.in-Ok.config c.in-Ok-serve_first.log used c.in-Ok.ensures (sym c.in-None.ensures)
@@ -66,9 +66,9 @@ returns-in-Ok-serve_beside_books g c =
     let status = c.status_of-status.ensures ∙ ap log_status c.as_slice.ensures in
     let ends = ends_as (log_text log ++ books_text 1 books) _ (log_status log) _ (g.O.Sink.shows c.args.out.now)
     (g.O.Sink.shows c.print_log.new.out) c.print_log.result text status c.print_log.ensures in
-    cached_first g.A.Door.shows g.S.Station.shows g.S.Station.ran (map (string_bytes {Z = Global}) c.args.words.now)
+    cached_first g.A.Door.shows g.S.Station.shows g.S.Station.ran g.S.Station.goes (map (string_bytes {Z = Global}) c.args.words.now)
     c.args.options.now c.args.doors.now.items c.serve_beside_books.new.doors.items (g.O.Sink.shows c.args.out.now)
     (g.O.Sink.shows c.print_log.new.out) c.print_log.result
     c.min-count.result c.in-Ok.config log c.in-Some.bound books used c.in-Ok.ensures (sym c.in-Some.ensures)
     c.in-Ok-serve_beside_books.ensures.served c.in-Ok-serve_beside_books.ensures.others c.in-Ok-serve_beside_books.ensures.books
-    c.in-Ok-serve_beside_books.ensures.counted ends
+    c.in-Ok-serve_beside_books.ensures.kept ends
