@@ -1,7 +1,8 @@
 -- What the devices of the system show: how they stand and their counts, but no content.
-use Rattle.std.specs.Prelude.{ℕ, Bool, List, [], Option, string_bytes}
+use Rattle.std.specs.Prelude.{ℕ, Bool, List, [], Option, None, Some, string_bytes}
 use Rattle.std.specs.FinMap.{empty}
 use Rattle.std.specs.Option.{is_some, option_map}
+use Rattle.std.specs.declared.time.Duration.{Duration}
 use Rattle.std.specs.Net.Addr.{ipv4_bits}
 use Rattle.std.specs.Net.Socket.{v4_ip}
 use Rattle.std.specs.declared.net.socket_addr.SocketAddr.{SocketAddr}
@@ -80,19 +81,27 @@ peer_bits (V6 peer) = 0
 abbrev pub counted_station : ℕ → ℕ → StationView
 counted_station faults overruns = record { runs = untold []; faults = faults; overruns = overruns }
 
-abbrev pub station_view : {R : Type 0} → ChildStation R → StationView
+abbrev pub station_view : {R W : Type 0} → ChildStation R W → StationView
 station_view station = counted_station station.faults station.overruns
 
 -- the folder in which a station makes those of its runs
-abbrev pub folder_of : {R : Type 0} → ChildStation R → List ℕ
+abbrev pub folder_of : {R W : Type 0} → ChildStation R W → List ℕ
 folder_of station = string_bytes station.folder
 
 -- the policy of a station that serves others
-abbrev pub policy_in : Option Service → Option WordPolicy
-policy_in service = option_map (λ one. one.policy) service
+abbrev pub policy_in : {W : Type 0} → Option (Service W) → Option WordPolicy
+policy_in service = option_map (λ one. one.rules.policy) service
 
-abbrev pub policy_of : {R : Type 0} → ChildStation R → Option WordPolicy
+abbrev pub policy_of : {R W : Type 0} → ChildStation R W → Option WordPolicy
 policy_of station = policy_in station.service
+
+-- how long a program may run that it runs for others, if that is bounded
+abbrev pub lifetime_in : {W : Type 0} → Option (Service W) → Option Duration
+lifetime_in None = None
+lifetime_in (Some service) = service.rules.lifetime
+
+abbrev pub lifetime_of : {R W : Type 0} → ChildStation R W → Option Duration
+lifetime_of station = lifetime_in station.service
 
 abbrev pub counted_files : ℕ → ℕ → FilesView
 counted_files faults overruns = record { files = untold empty; faults = faults; overruns = overruns }
