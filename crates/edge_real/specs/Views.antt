@@ -9,7 +9,6 @@ use Rattle.std.specs.declared.net.socket_addr.SocketAddr.{SocketAddr}
 use Rattle.std.specs.declared.net.socket_addr.SocketAddr.TheVariants.{V4, V6}
 use Rattle.edge_traits.specs.Told.{untold}
 use Rattle.edge_traits.specs.Links.{LinkView}
-use Rattle.edge_traits.specs.Calls.{one_more}
 use Rattle.edge_traits.specs.Dialers.{DialerView}
 use Rattle.edge_traits.specs.Doors.{DoorView}
 use Rattle.edge_traits.specs.Stations.{StationView}
@@ -31,7 +30,7 @@ use Rattle.edge_real.specs.declared.stream.StdSource.{StdSource}
 use Rattle.edge_real.specs.declared.stream.StdSink.{StdSink}
 
 -- where a connection came from, and how it stands
-abbrev pub link_view : {S : Type 0} → TcpLink S → LinkView
+abbrev pub link_view : {R S : Type 0} → TcpLink R S → LinkView
 link_view link = record {
   origin = record { host = link.host; port = link.port };
   sent = untold [];
@@ -39,17 +38,6 @@ link_view link = record {
   ended = link.ended;
   stopped = link.stopped;
   faults = link.faults;
-}
-
--- the same with one fault more
-abbrev pub with_fault : LinkView → LinkView
-with_fault view = record {
-  origin = view.origin;
-  sent = view.sent;
-  given = view.given;
-  ended = view.ended;
-  stopped = view.stopped;
-  faults = one_more view.faults;
 }
 
 -- what a link of a door shows is what its connection shows
@@ -134,7 +122,7 @@ abbrev pub sink_view : {W : Type 0} → StdSink W → SinkView
 sink_view sink = counted_sink sink.stopped sink.faults
 
 -- what a link reads and writes
-abbrev pub stream_of : {S : Type 0} → TcpLink S → S
+abbrev pub stream_of : {R S : Type 0} → TcpLink R S → S
 stream_of link = link.stream
 
 abbrev pub door_stream_of : {R S : Type 0} → DoorLink R S → S

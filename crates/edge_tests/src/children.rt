@@ -1,7 +1,7 @@
 //! Programs that are run as children.
 
 use crate::same::{holds, same, same_bytes};
-use edge_real::{ChildStation, RunWatch, ServingRules, Unwatched, WordPolicy};
+use edge_real::{ChildStation, RunWatch, ServingRules, Unwatched, WordPolicy, current_folder};
 use edge_traits::{Bounds, Station, StationFault, Stream};
 use farm_types::{Bytes, Ext, Ran, Word};
 use std::alloc::{AllocError, Global};
@@ -359,16 +359,24 @@ fn a_program_is_killed_whose_peer_has_gone(rt: HostRuntime) -> Result<(), Fail> 
 
 #[test]
 fn temporary_files_are_made_in_the_folder_of_the_run(rt: HostRuntime) -> Result<(), Fail> {
-    let mut station = serving(rt, WordPolicy::AllWords)?;
-    let script = "[ $TMPDIR -ef . ] && : >$TMPDIR/left";
-    same(
-        &rt,
-        &status_of(run_script(rt.alloc(), &mut station, script, b"")),
-        &Ok(0),
-        &script,
-    );
-    expect_empty(&rt)
+    let folder = String::from_str(rt.alloc(), ".")?;
+    let here = current_folder(&rt)?;
+    let rules = ServingRules {
+        policy: WordPolicy::AllWords,
+        lifetime: None,
+    };
+    let mut station = ChildStation::serving(rt, folder, here, rules, None, Unwatched);
+    expect_clean_run(&rt, &mut station, OWN_TEMPORARY_FILES)
 }
+
+const OWN_TEMPORARY_FILES: &Row = &Row {
+    script: "[ $TMPDIR -ef . ] && : >$TMPDIR/left && ls",
+    input: b"",
+    status: 0,
+    out: b"input.ii\nleft\n",
+    err: b"",
+    object: b"",
+};
 
 /// A script, and the fault of its run.
 type Faulty = (&'static str, StationFault);
