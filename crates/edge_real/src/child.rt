@@ -13,7 +13,7 @@ use crate::counting::raise;
 use crate::notices::{tell_overrun, tell_unserved};
 use crate::refusing::refusal_of;
 use crate::run_folder::{RunFolder, SharedRemoval};
-use crate::run_watch::{RunWatch, Unwatched};
+use crate::run_watch::{RunWatch, Unwatched, have_descriptors};
 use crate::running::{Watched, object_left, run_command, run_watched};
 use edge_traits::{Bounds, Station, StationFault, has_output};
 use farm_types::{Bytes, Ran, Word};
@@ -257,6 +257,7 @@ fn run_for_others<
     ensures given { OnOk result (All CanBeGiven words.now) }
     ensures no_object { IfOk result (λ ran. has_output words.now ≡ false → ran.object ≡ []) }
 {
+    have_descriptors(rt, &service.watch);
     let folder = RunFolder::create(rt, alloc, folder, &service.removal)?;
     let _source = input_file(&folder, words, input)?;
     let path = output_path(&folder, words)?;

@@ -9,9 +9,10 @@ use crate::counting::raise;
 use crate::door_link::DoorLink;
 use crate::notices::{tell_closed, tell_door_end, tell_unshared};
 use crate::pending::Pending;
+use crate::room::{Room, SharedRoom, Wants};
 use crate::run_folder::{SharedRemoval, carry_out};
 use crate::run_watch::{DoorWatch, SharedWatch};
-use crate::waiting_room::{SharedRoom, WaitingRoom, ipv4_of};
+use crate::waiting_room::{WaitingRoom, ipv4_of};
 use access_list::AccessList;
 use edge_traits::{Door, EdgeFault};
 use std::alloc::Global;
@@ -221,8 +222,13 @@ fn listen<R: Net>(
 ) -> io::Result<(R::Listener, SharedRoom<R::Listener, R::Stream>)> {
     let listener = TcpListener::bind(rt, place)?;
     listener.set_nonblocking(true)?;
-    let room = WaitingRoom::new(rt, alloc, listener.try_clone()?, access)?;
-    Ok((listener, Arc::new(alloc, Mutex::new(room))?))
+    let inside = WaitingRoom::new(rt, alloc, listener.try_clone()?, access)?;
+    let wants = Wants::new(inside.waker()?);
+    let room = Room {
+        inside: Mutex::new(inside),
+        wants,
+    };
+    Ok((listener, Arc::new(alloc, room)?))
 }
 
 /// Waits for the room, and then in it for a connection that is ready.
@@ -231,8 +237,8 @@ fn lead<
     L: OpenListener<Stream = S> + AsRawFd,
     S: OpenStream + AsRawFd + Drop,
 >(rt: &R, alloc: Global, room: &SharedRoom<L, S>) -> io::Result<Pending<S>> {
-    let mut guard = room.lock(rt);
-    next_ready(rt, alloc, &mut *guard)
+    let mut guard = room.inside.lock(rt);
+    next_ready(rt, alloc, &mut *guard, &room.wants)
 }
 
 /// The connection that has waited longest of those that are ready. What the listener has is taken in first.
@@ -240,8 +246,11 @@ fn next_ready<
     R: Eprint + Clock,
     L: OpenListener<Stream = S> + AsRawFd,
     S: OpenStream + AsRawFd + Drop,
->(rt: &R, alloc: Global, room: &mut WaitingRoom<L, S>) -> io::Result<Pending<S>> {
+>(rt: &R, alloc: Global, room: &mut WaitingRoom<L, S>, wants: &Wants) -> io::Result<Pending<S>> {
     for _ in 0..u64::MAX {
+        if wants.take() {
+            room.leave_oldest(rt);
+        }
         room.hear(Some(Duration::ZERO))?;
         room.look(alloc);
         if room.takes_more() && room.take_next_in(rt)? {

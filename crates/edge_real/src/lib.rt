@@ -21,6 +21,7 @@ mod pending;
 mod reading;
 mod refusing;
 mod retrying;
+mod room;
 mod run_folder;
 mod run_watch;
 mod running;

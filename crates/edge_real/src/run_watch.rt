@@ -4,16 +4,18 @@ ghost use Rattle.std.specs.Duration.{as_nanos};
 ghost use Rattle.edge_real.specs.Ends.{is_gone};
 
 use crate::door_link::moment;
-use crate::waiting_room::SharedRoom;
+use crate::room::SharedRoom;
 use mio::event::Event;
 use mio::unix::SourceFd;
 use mio::{Events, Interest, Poll, Token};
 use std::alloc::{AllocError, Global};
+use std::fs::File;
 use std::io::{self, Eprint};
 use std::net::{Net, OpenListener, OpenStream};
 use std::os::fd::AsRawFd;
-use std::rt::Clock;
+use std::rt::{Clock, Files};
 use std::sync::{Arc, Mutex};
+use std::thread;
 use std::time::Duration;
 
 /// What a run for others goes by while its program runs.
@@ -125,14 +127,24 @@ where
 {
     fn has_gone(&self) -> bool {
         if let Some(room) = &self.room {
-            if let Some(mut room) = room.try_lock() {
+            if let Some(mut room) = room.inside.try_lock() {
                 room.attend(&self.rt, self.alloc);
             }
         }
         self.has_peer_gone()
     }
 
-    fn want_descriptors(&self) {}
+    fn want_descriptors(&self) {
+        let Some(room) = &self.room else {
+            return;
+        };
+        match room.inside.try_lock() {
+            Some(mut inside) => {
+                inside.leave_oldest(&self.rt);
+            }
+            None => room.wants.want(),
+        }
+    }
 }
 
 impl<W: RunWatch> RunWatch for Option<Arc<W, Global>> {
@@ -191,4 +203,36 @@ fn is_gone(has_failed: bool, ended: Option<Duration>, now: Duration) -> bool
         Some(ended) => now.saturating_sub(ended) >= Duration::from_millis(GONE_MILLIS),
         None => false,
     }
+}
+
+/// How many descriptors a run needs at one time.
+const DESCRIPTORS: usize = 6;
+
+/// How often those who wait are asked for them.
+const WANTS_TRIED: u32 = 40;
+
+/// How many milliseconds they are given for that.
+const WANT_PAUSE_MILLIS: u64 = 5;
+
+/// Has as many descriptors free as a run needs, where those who wait for a door can give them back.
+pub fn have_descriptors<R: Files<File = File> + Clock, W: RunWatch>(rt: &R, watch: &W) {
+    for _ in 0..WANTS_TRIED {
+        if are_free(rt) {
+            return;
+        }
+        watch.want_descriptors();
+        thread::sleep(rt, Duration::from_millis(WANT_PAUSE_MILLIS));
+    }
+}
+
+/// Whether the system gives as many at this moment.
+fn are_free<R: Files<File = File>>(rt: &R) -> bool {
+    let mut held: [Option<File>; DESCRIPTORS] = [None, None, None, None, None, None];
+    for place in held.iter_mut() {
+        match File::open(rt, "/") {
+            Ok(file) => *place = Some(file),
+            Err(_) => return false,
+        }
+    }
+    true
 }

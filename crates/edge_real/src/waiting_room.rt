@@ -10,13 +10,12 @@ use crate::notices::{Leaving, Visit, tell_visit};
 use crate::pending::Pending;
 use access_list::{AccessList, Decision};
 use mio::unix::SourceFd;
-use mio::{Events, Interest, Poll, Token};
+use mio::{Events, Interest, Poll, Token, Waker};
 use std::alloc::Global;
 use std::io::{self, Eprint, ErrorKind};
 use std::net::{Net, OpenListener, OpenStream, SocketAddr};
 use std::os::fd::AsRawFd;
 use std::rt::Clock;
-use std::sync::{Arc, Mutex};
 use std::time::Duration;
 
 /// The connections that wait, and what tells of them and of the listener.
@@ -34,9 +33,6 @@ pub struct WaitingRoom<L, S> {
     is_called: bool,
 }
 
-/// The room of all doors on one listener.
-pub type SharedRoom<L, S> = Arc<Mutex<WaitingRoom<L, S>>, Global>;
-
 /// How many connections wait at most.
 const PLACES: usize = 512;
 
@@ -48,6 +44,9 @@ const EVENTS: usize = 128;
 
 /// The token of the listener. Those of the connections are their places.
 const LISTENER: Token = Token(PLACES);
+
+/// The token of the waker, by which nothing comes but that the room is looked at.
+const WAKER: Token = Token(PLACES + 1);
 
 impl<L: AsRawFd + Drop, S: Drop> WaitingRoom<L, S> {
     /// An empty room for the connections of this listener. Those of peers that these rules deny are ready at once.
@@ -96,6 +95,11 @@ impl<L: AsRawFd, S> WaitingRoom<L, S> {
 }
 
 impl<L, S> WaitingRoom<L, S> {
+    /// What ends a wait of the room from another thread.
+    pub fn waker(&self) -> io::Result<Waker> {
+        Waker::new(self.poll.registry(), WAKER)
+    }
+
     /// Whether the listener has a connection, and there is a place for it.
     pub fn takes_more(&self) -> bool {
         self.is_called && !(self.free_place().is_none() && self.has_ready())

@@ -9,7 +9,7 @@ ghost use Rattle.daemon_words.specs.Commands.{trusts};
 ghost use Rattle.edge_real.specs.Views.{policy_of as station_policy};
 
 use access_list::AccessList;
-use beginning::{is_root, tell_beginning};
+use beginning::{is_root, tell_beginning, tell_folder};
 use daemon_program::{DoorPlace, door_place, farmd};
 use daemon_words::{Command, Options, parse_words, rules_of, settings_of, trusts_options};
 use daemon_worker::DoorKit;
@@ -187,6 +187,9 @@ fn doors_of(rt: &HostRuntime) -> Result<(Vec<String>, Vec<SystemDoor>), AllocErr
     }
     if options.is_some() && is_root(rt) {
         warn!(rt; "the compilers run as root, since farmd does");
+    }
+    if options.is_some() {
+        tell_folder(rt, own_folder(rt)?.as_str());
     }
     let access = access_of(rt, words.as_slice())?;
     let doors = doors_at(
