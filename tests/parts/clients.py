@@ -7,7 +7,7 @@ import threading
 import time
 
 from checks import end, expect, fail
-from wire import compile_request, dial, exchange
+from wire import compile_request, dial, exchange, read_all
 
 PORT = int(sys.argv[1])
 GOOD = compile_request(b"gcc", b"int a = 1;\n")
@@ -79,17 +79,68 @@ def own_objects(rounds):
 
 def served():
     expect("a program by a path from farmd's folder", is_answered(exchange(PORT, GOOD)))
-    expect("a word that isn't let through", exchange(PORT, compile_request(b"gcc", b"int a;\n", b"-B@x\n")) == b"")
+    refused = exchange(PORT, compile_request(b"gcc", b"int a;\n", b"-B@x\n"))
+    want = b"DONE00000001STAT00006f00SERR0000001efarmd: not let through: -B@x\n\nSOUT00000000DOTO00000000"
+    expect("a word that isn't let through:", refused == want, refused)
     expect("a word that is let through, after another", is_answered(exchange(PORT, GOOD)))
     messages = exchange(PORT, compile_request(b"gcc", b"int a = ;\n"))
     expect("messages of the compiler:", b"SERR" in messages and b"input.i:1:9: error" in messages and b"farm-" not in messages, messages)
+
+
+def never_ends(doors):
+    """Each door is given a compile that reads a terminal on which nobody writes, and then its peer goes. An honest request is answered soon after."""
+    endless = compile_request(b"gcc", b'asm(".include \\"/dev/ptmx\\"");\n')
+    for _ in range(doors):
+        link = dial(PORT)
+        link.sendall(endless)
+        time.sleep(0.2)
+        link.close()
+    begun = time.monotonic()
+    expect("a request after compiles that never end", is_answered(exchange(PORT, GOOD)))
+    took = time.monotonic() - begun
+    expect("a request after compiles that never end:", took < 5, f"{took:.1f} s")
+
+
+def while_doors_compile(doors):
+    """All doors are at a slow compile: many connect soon, and those who are denied are left at once."""
+    slow = [dial(PORT) for _ in range(doors)]
+    for link in slow:
+        link.sendall(GOOD)
+    time.sleep(0.5)
+    denied = [dial(PORT, "127.0.0.2") for _ in range(200)]
+    many = []
+    longest = 0
+    for _ in range(300):
+        begun = time.monotonic()
+        many.append(dial(PORT))
+        longest = max(longest, time.monotonic() - begun)
+    expect("a peer connects while all doors compile:", longest < 0.5, f"{longest:.2f} s")
+    for link in denied:
+        link.settimeout(2)
+        expect("a denied peer while all doors compile", link.recv(1) == b"")
+    for link in denied + many:
+        link.close()
+    for link in slow:
+        expect("the slow compile", is_answered(read_all(link)))
+
+
+def many_silent(count):
+    """Silent peers have all descriptors, and a run gets some of them back."""
+    silent = [dial(PORT) for _ in range(count)]
+    time.sleep(0.3)
+    expect("a run that wants descriptors", is_answered(exchange(PORT, GOOD)))
+    for link in silent:
+        link.close()
 
 
 def one():
     expect("one client", is_answered(exchange(PORT, GOOD)))
 
 
-MODES = {"all": all_kinds, "four": four, "one": one, "served": served, "own": lambda: own_objects(int(os.environ.get("ROUNDS", "5")))}
+MODES = {
+    "all": all_kinds, "four": four, "one": one, "served": served, "own": lambda: own_objects(int(os.environ.get("ROUNDS", "5"))),
+    "endless": lambda: never_ends(2), "busy": lambda: while_doors_compile(2), "silent": lambda: many_silent(60),
+}
 try:
     MODES[sys.argv[2] if sys.argv[2:] else "all"]()
 except OSError as error:

@@ -5,6 +5,7 @@ use Rattle.std.proofs.lemmas.List.Elements.{All-push}
 use Rattle.edge_traits.specs.declared.kit.Kit.{Kit}
 use Rattle.edge_real.specs.declared.tcp.TcpDialer.{TcpDialer}
 use Rattle.edge_real.specs.declared.child.ChildStation.{ChildStation}
+use Rattle.edge_real.specs.declared.run_watch.Unwatched.{Unwatched}
 use Rattle.edge_real.specs.declared.disk.DiskFiles.{DiskFiles}
 use Rattle.edge_real.specs.declared.clock.WallClock.{WallClock}
 use Rattle.object_delivery.specs.Staging.{Kept}
@@ -12,8 +13,8 @@ use Rattle.edge_real.specs.Kits.{IsSystemKit}
 
 -- one kit more
 pub one_kit_more : {R : Type 0} (rt : R) (folder : List ℕ) (process : ℕ)
-    (kits more : List (Kit (TcpDialer R) (ChildStation R) (Kept (DiskFiles R)) (WallClock R)))
-    (kit : Kit (TcpDialer R) (ChildStation R) (Kept (DiskFiles R)) (WallClock R))
+    (kits more : List (Kit (TcpDialer R) (ChildStation R Unwatched) (Kept (DiskFiles R)) (WallClock R)))
+    (kit : Kit (TcpDialer R) (ChildStation R Unwatched) (Kept (DiskFiles R)) (WallClock R))
     → IsSystemKit rt folder process kit → All (IsSystemKit rt folder process) kits → more ≡ kits ++ kit ∷ []
     → All (IsSystemKit rt folder process) more
 one_kit_more rt folder process kits more kit is all grown =

@@ -1,5 +1,5 @@
 -- What a program is given, and what a run of it that came to nothing may answer.
-use Rattle.std.specs.Prelude.{◌≡◌, ℕ, ◌<◌, ◌==◌, Bool, false, not, ◌&&◌, ◌||◌, nat_eq, List, [], ◌∷◌, ◌++◌, map, Option, None, Some}
+use Rattle.std.specs.Prelude.{◌≡◌, ◌≢◌, ℕ, ◌<◌, ◌==◌, Bool, false, not, ◌&&◌, ◌||◌, nat_eq, List, [], ◌∷◌, ◌++◌, map, Option, None, Some}
 use Rattle.std.specs.Prelude.{Result, Ok, Err, codes, if◌then◌else◌}
 use Rattle.std.specs.List.{list_any, starts_with}
 use Rattle.std.specs.Option.{option_map, unwrap_or, is_some}
@@ -80,12 +80,17 @@ is_from_here program = list_any (λ b. b == 47) program && not (starts_with nat_
 abbrev pub named_from : List ℕ → List ℕ → List ℕ
 named_from here program = if is_from_here program then here ++ codes "/" ++ program else program
 
--- a program without arguments, in this folder and this process's environment
+-- this process's environment, but that temporary files are made in this folder
+pub record HasFolderForFiles {A : Type 0} (here place : List ℕ) (command : Command A) : Type 0 where
+  pub environment : clears_env command ≡ false
+  pub temporary : command_var command (codes "TMPDIR") ≡ Some (Some (named_from here place))
+  pub variables : (name : List ℕ) → name ≢ codes "TMPDIR" → command_var command name ≡ None
+
+-- a program without arguments, in this folder, where its temporary files are too
 pub record IsProgramIn {A : Type 0} (program here place : List ℕ) (command : Command A) : Type 0 where
   pub program_given : command_program command ≡ named_from here program
   pub arguments : command_args command ≡ []
-  pub environment : clears_env command ≡ false
-  pub variables : (name : List ℕ) → command_var command name ≡ None
+  pub environment : HasFolderForFiles here place command
   pub folder : command_dir command ≡ Some place
 
 -- the first of the words that stands for the input
@@ -117,12 +122,11 @@ abbrev pub first_named_from : List ℕ → List (List ℕ) → List (List ℕ)
 first_named_from here [] = []
 first_named_from here (program ∷ arguments) = named_from here program ∷ arguments
 
--- the words' program with their arguments, in this process's environment and in the folder in which the input and the object are
+-- the words' program with their arguments, in the folder in which the input, the object and its temporary files are
 pub record IsCommandIn {A : Type 0} (words : List Word) (here place : List ℕ) (command : Command A) : Type 0 where
   pub words_given : command_program command ∷ command_args command
       ≡ first_named_from here (map (given_word (source_of words) object_text) words)
-  pub environment : clears_env command ≡ false
-  pub variables : (name : List ℕ) → command_var command name ≡ None
+  pub environment : HasFolderForFiles here place command
   pub folder : command_dir command ≡ Some place
 
 -- the path of the file that stands for the input in this folder, if one does, and so of the file that stands for the object

@@ -3,6 +3,7 @@ use Rattle.std.specs.Prelude.{◌≡◌, ℕ, List, None}
 use Rattle.edge_traits.specs.declared.kit.Kit.{Kit}
 use Rattle.edge_real.specs.declared.tcp.TcpDialer.{TcpDialer}
 use Rattle.edge_real.specs.declared.child.ChildStation.{ChildStation}
+use Rattle.edge_real.specs.declared.run_watch.Unwatched.{Unwatched}
 use Rattle.edge_real.specs.declared.disk.DiskFiles.{DiskFiles}
 use Rattle.edge_real.specs.declared.clock.WallClock.{WallClock}
 use Rattle.object_delivery.specs.Staging.{Kept}
@@ -13,7 +14,7 @@ use Rattle.edge_real.specs.Views.{files_names, runtime_of}
 -- nothing happened yet, the folders of the station's runs are made in this folder, and what is for a device is written there, under
 -- the number of this process
 pub record IsSystemKit {R : Type 0} (rt : R) (folder : List ℕ) (process : ℕ)
-    (kit : Kit (TcpDialer R) (ChildStation R) (Kept (DiskFiles R)) (WallClock R)) : Type 0 where
+    (kit : Kit (TcpDialer R) (ChildStation R Unwatched) (Kept (DiskFiles R)) (WallClock R)) : Type 0 where
   pub dialer : dialer_view kit.dialer ≡ counted_dialer 0
   pub station : station_view kit.station ≡ counted_station 0 0
   pub runs : folder_of kit.station ≡ folder

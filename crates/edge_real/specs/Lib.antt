@@ -1,5 +1,6 @@
 pub mod Reading
 pub mod Children
+pub mod Ends
 pub mod Counts
 pub mod Notices
 pub mod OwnNames

@@ -1,14 +1,14 @@
 -- What the devices of the system show: how they stand and their counts, but no content.
-use Rattle.std.specs.Prelude.{ℕ, Bool, List, [], Option, string_bytes}
+use Rattle.std.specs.Prelude.{ℕ, Bool, List, [], Option, None, Some, string_bytes}
 use Rattle.std.specs.FinMap.{empty}
 use Rattle.std.specs.Option.{is_some, option_map}
+use Rattle.std.specs.declared.time.Duration.{Duration}
 use Rattle.std.specs.Net.Addr.{ipv4_bits}
 use Rattle.std.specs.Net.Socket.{v4_ip}
 use Rattle.std.specs.declared.net.socket_addr.SocketAddr.{SocketAddr}
 use Rattle.std.specs.declared.net.socket_addr.SocketAddr.TheVariants.{V4, V6}
 use Rattle.edge_traits.specs.Told.{untold}
 use Rattle.edge_traits.specs.Links.{LinkView}
-use Rattle.edge_traits.specs.Calls.{one_more}
 use Rattle.edge_traits.specs.Dialers.{DialerView}
 use Rattle.edge_traits.specs.Doors.{DoorView}
 use Rattle.edge_traits.specs.Stations.{StationView}
@@ -30,7 +30,7 @@ use Rattle.edge_real.specs.declared.stream.StdSource.{StdSource}
 use Rattle.edge_real.specs.declared.stream.StdSink.{StdSink}
 
 -- where a connection came from, and how it stands
-abbrev pub link_view : {S : Type 0} → TcpLink S → LinkView
+abbrev pub link_view : {R S : Type 0} → TcpLink R S → LinkView
 link_view link = record {
   origin = record { host = link.host; port = link.port };
   sent = untold [];
@@ -38,17 +38,6 @@ link_view link = record {
   ended = link.ended;
   stopped = link.stopped;
   faults = link.faults;
-}
-
--- the same with one fault more
-abbrev pub with_fault : LinkView → LinkView
-with_fault view = record {
-  origin = view.origin;
-  sent = view.sent;
-  given = view.given;
-  ended = view.ended;
-  stopped = view.stopped;
-  faults = one_more view.faults;
 }
 
 -- what a link of a door shows is what its connection shows
@@ -80,19 +69,27 @@ peer_bits (V6 peer) = 0
 abbrev pub counted_station : ℕ → ℕ → StationView
 counted_station faults overruns = record { runs = untold []; faults = faults; overruns = overruns }
 
-abbrev pub station_view : {R : Type 0} → ChildStation R → StationView
+abbrev pub station_view : {R W : Type 0} → ChildStation R W → StationView
 station_view station = counted_station station.faults station.overruns
 
 -- the folder in which a station makes those of its runs
-abbrev pub folder_of : {R : Type 0} → ChildStation R → List ℕ
+abbrev pub folder_of : {R W : Type 0} → ChildStation R W → List ℕ
 folder_of station = string_bytes station.folder
 
 -- the policy of a station that serves others
-abbrev pub policy_in : Option Service → Option WordPolicy
-policy_in service = option_map (λ one. one.policy) service
+abbrev pub policy_in : {W : Type 0} → Option (Service W) → Option WordPolicy
+policy_in service = option_map (λ one. one.rules.policy) service
 
-abbrev pub policy_of : {R : Type 0} → ChildStation R → Option WordPolicy
+abbrev pub policy_of : {R W : Type 0} → ChildStation R W → Option WordPolicy
 policy_of station = policy_in station.service
+
+-- how long a program may run that it runs for others, if that is bounded
+abbrev pub lifetime_in : {W : Type 0} → Option (Service W) → Option Duration
+lifetime_in None = None
+lifetime_in (Some service) = service.rules.lifetime
+
+abbrev pub lifetime_of : {R W : Type 0} → ChildStation R W → Option Duration
+lifetime_of station = lifetime_in station.service
 
 abbrev pub counted_files : ℕ → ℕ → FilesView
 counted_files faults overruns = record { files = untold empty; faults = faults; overruns = overruns }
@@ -125,7 +122,7 @@ abbrev pub sink_view : {W : Type 0} → StdSink W → SinkView
 sink_view sink = counted_sink sink.stopped sink.faults
 
 -- what a link reads and writes
-abbrev pub stream_of : {S : Type 0} → TcpLink S → S
+abbrev pub stream_of : {R S : Type 0} → TcpLink R S → S
 stream_of link = link.stream
 
 abbrev pub door_stream_of : {R S : Type 0} → DoorLink R S → S

@@ -25,17 +25,16 @@ enum Trouble {
 /// One connection, with the peer's address. An accept that a signal interrupted, or whose connection had failed by then, is made again. So is
 /// one that wants descriptors or memory of the system, at most `WANTS_TRIED` times: where one waits in the room whose request isn't whole, after
 /// that one is left, and otherwise after a pause; and not where one is ready. What came in between is told once.
-pub fn accept_one<R: Eprint + Clock, L: OpenListener>(
+pub fn accept_one<R: Eprint + Clock, L: OpenListener<Stream = S>, S: Drop>(
     rt: &R,
-    listener: &L,
-    room: &mut WaitingRoom<L, L::Stream>,
-) -> io::Result<(L::Stream, SocketAddr)>
+    room: &mut WaitingRoom<L, S>,
+) -> io::Result<(S, SocketAddr)>
     ensures retried { IfErr result (λ error. (error_kind error ≢ ErrorKind.Interrupted) × (error_kind error ≢ ErrorKind.ConnectionAborted)) }
 {
     let mut told = false;
     let mut wants = 0u32;
     for _ in 0..u64::MAX {
-        let error = match listener.accept() {
+        let error = match room.accept() {
             Ok(accepted) => return Ok(accepted),
             Err(error) => error,
         };
@@ -55,6 +54,25 @@ pub fn accept_one<R: Eprint + Clock, L: OpenListener>(
         }
     }
     Err(io::Error::from(ErrorKind::Other))
+}
+
+/// One connection, with the peer's address, where the system has one at once. One that is not ready is left in the room for it where that is wanted.
+pub fn accept_at_once<R: Eprint + Clock, L: OpenListener<Stream = S>, S: Drop>(
+    rt: &R,
+    room: &mut WaitingRoom<L, S>,
+) -> Option<(S, SocketAddr)> {
+    for _ in 0..ACCEPTS_TRIED {
+        let error = match room.accept() {
+            Ok(accepted) => return Some(accepted),
+            Err(error) => error,
+        };
+        match trouble_of(&error) {
+            Trouble::Passed => {}
+            Trouble::Want if room.leave_oldest(rt) => {}
+            Trouble::Want | Trouble::Lasting => return None,
+        }
+    }
+    None
 }
 
 fn trouble_of(error: &Error) -> Trouble
@@ -114,6 +132,9 @@ const ENOBUFS: u32 = 105;
 const EHOSTDOWN: u32 = 112;
 
 const EHOSTUNREACH: u32 = 113;
+
+/// How often an accept is tried that waits for nothing.
+const ACCEPTS_TRIED: u32 = 64;
 
 /// How often an accept is tried again that wants something of the system.
 const WANTS_TRIED: u32 = 600;

@@ -1,18 +1,20 @@
-ghost use Rattle.std.specs.Prelude.{◌≡◌, ◌≢◌, ⊤, true, false, ◌≤◌, length, [], Option, None, Some, Err, IfOk, IfErr, OnOk, option_map, All, string_bytes};
+ghost use Rattle.std.specs.Prelude.{◌≡◌, ◌≢◌, ⊤, true, false, ◌≤◌, length, [], Option, None, Some, Err, IfOk, IfErr, IfSome, OnOk, option_map, All, string_bytes};
 ghost use Rattle.edge_traits.specs.Stations.{IsWithin, has_output};
 ghost use Rattle.edge_real.specs.Counts.{run_faults, run_overruns};
 ghost use Rattle.edge_real.specs.Children.{IsRunFault, NamesNoStream, CanBeGiven, input_path, output_path, needs_folder};
 ghost use Rattle.edge_real.specs.RunFolders.{place_of, bytes_if};
-ghost use Rattle.edge_real.specs.Serving.{are_let_through};
-ghost use Rattle.edge_real.specs.Views.{station_view, counted_station, folder_of, policy_of, policy_in};
+ghost use Rattle.edge_real.specs.Serving.{are_let_through, unserved_place, IsRefusal};
+ghost use Rattle.edge_real.specs.Views.{station_view, counted_station, folder_of, policy_of, policy_in, lifetime_of};
 
 use crate::command::{
     OBJECT_NAME, command_in, command_of, input_ext, needs_folder, path_of, source_name,
 };
 use crate::counting::raise;
 use crate::notices::{tell_overrun, tell_unserved};
+use crate::refusing::refusal_of;
 use crate::run_folder::{RunFolder, SharedRemoval};
-use crate::running::{object_left, run_command};
+use crate::run_watch::{RunWatch, Unwatched, have_descriptors};
+use crate::running::{Watched, object_left, run_command, run_watched};
 use edge_traits::{Bounds, Station, StationFault, has_output};
 use farm_types::{Bytes, Ran, Word};
 use served_words::first_unserved;
@@ -21,7 +23,8 @@ use std::fs::File;
 use std::io::{Eprint, Write};
 use std::process::Processes;
 use std::random::RandomSource;
-use std::rt;
+use std::rt::{self, Clock};
+use std::time::Duration;
 
 /// Which words a station runs that serves others.
 #[derive(Clone, Copy)]
@@ -32,14 +35,23 @@ pub enum WordPolicy {
     AllWords,
 }
 
+/// How a station serves others.
+#[derive(Clone, Copy)]
+pub struct ServingRules {
+    pub policy: WordPolicy,
+    /// How long a program may run before it is killed, if that is bounded.
+    pub lifetime: Option<Duration>,
+}
+
 /// What a station has that serves others.
 #[derive(Drop)]
-struct Service {
-    policy: WordPolicy,
+struct Service<W> {
+    rules: ServingRules,
     /// The folder of this process, from which its programs may be named.
     here: String,
     /// Where the removal of a run's folder is left, if it isn't the station's own.
     removal: Option<SharedRemoval>,
+    watch: W,
 }
 
 /// Runs programs as children of this process, and waits for their ends.
@@ -50,23 +62,24 @@ struct Service {
 /// left there. No file stands for `Output` until the program makes one. What the program says goes to files without a name.
 ///
 /// A program runs in the folder of this process, and has its files by their paths. One of a station that serves others runs in the folder of its
-/// run, and has its files by their names there.
+/// run, which is its `TMPDIR` too, and has its files by their names there. It is killed where whoever asked for it has gone, and where it has run for
+/// its lifetime; then its run has failed. What it started itself isn't killed.
 ///
 /// Why a run came to nothing stands as a line on the standard error of this process: the program or the file and the system's reason, the
 /// stream that was too long, or the word that isn't let through. So does it where a program ended with status 0 and left no object, and where
 /// the folder couldn't be removed.
 #[derive(Drop)]
-pub struct ChildStation<R> {
+pub struct ChildStation<R, W = Unwatched> {
     rt: R,
     folder: String,
-    service: Option<Service>,
+    service: Option<Service<W>>,
     faults: u64,
     overruns: u64,
 }
 
-impl<R: Processes + rt::Files<File = File>> ChildStation<R> {
+impl<R: Processes + rt::Files<File = File>> ChildStation<R, Unwatched> {
     /// A station that makes the folders of its runs in `folder`. So may any number of stations, of this process and of others.
-    pub fn new(rt: R, folder: String) -> ChildStation<R>
+    pub fn new(rt: R, folder: String) -> ChildStation<R, Unwatched>
         ensures view { station_view result ≡ counted_station 0 0 }
         ensures folder { folder_of result ≡ string_bytes folder }
         ensures policy { policy_of result ≡ None }
@@ -79,27 +92,32 @@ impl<R: Processes + rt::Files<File = File>> ChildStation<R> {
             overruns: 0,
         }
     }
+}
 
-    /// A station that runs what others send, by this policy. `here` is the folder of this process: a program that is named by a path from there
+impl<R: Processes + rt::Files<File = File>, W> ChildStation<R, W> {
+    /// A station that runs what others send, by these rules. `here` is the folder of this process: a program that is named by a path from there
     /// is found, though its run is in another. The removal of a run's folder may be left to a door.
     pub fn serving(
         rt: R,
         folder: String,
         here: String,
-        policy: WordPolicy,
+        rules: ServingRules,
         removal: Option<SharedRemoval>,
-    ) -> ChildStation<R>
+        watch: W,
+    ) -> ChildStation<R, W>
         ensures view { station_view result ≡ counted_station 0 0 }
         ensures folder { folder_of result ≡ string_bytes folder }
-        ensures policy { policy_of result ≡ Some policy }
+        ensures policy { policy_of result ≡ Some rules.policy }
+        ensures lifetime { lifetime_of result ≡ rules.lifetime }
     {
         ChildStation {
             rt,
             folder,
             service: Some(Service {
-                policy,
+                rules,
                 here,
                 removal,
+                watch,
             }),
             faults: 0,
             overruns: 0,
@@ -107,7 +125,8 @@ impl<R: Processes + rt::Files<File = File>> ChildStation<R> {
     }
 }
 
-impl<R: Processes + rt::Files<File = File> + RandomSource + Eprint> Station for ChildStation<R> {
+impl<R: Processes + rt::Files<File = File> + RandomSource + Eprint + Clock, W: RunWatch> Station
+    for ChildStation<R, W> {
     ghost shows = { station_view };
 
     ghost ran = { λ s words input ran. ⊤ };
@@ -121,10 +140,9 @@ impl<R: Processes + rt::Files<File = File> + RandomSource + Eprint> Station for 
     ) -> Result<Ran, StationFault>
         ensures within { IfOk result (IsWithin bounds.now) }
         ensures fault { IfErr result (IsRunFault bounds.now) }
-        ensures given { OnOk result (All CanBeGiven words.now) }
+        ensures given { are_let_through (policy_of self.old) words.now ≡ true → OnOk result (All CanBeGiven words.now) }
         ensures no_object { IfOk result (λ ran. has_output words.now ≡ false → ran.object ≡ []) }
-        ensures served { OnOk result (are_let_through (policy_of self.old) words.now ≡ true) }
-        ensures refused { are_let_through (policy_of self.old) words.now ≡ false → result ≡ Err StationFault.Failed }
+        ensures refused { IfSome (unserved_place (policy_of self.old) words.now) (IsRefusal bounds.now.err words.now result) }
         ensures policy { policy_of self.new ≡ policy_of self.old }
         ensures folder { folder_of self.new ≡ folder_of self.old }
         ensures faults { (station_view self.new).faults ≡ run_faults result (station_view self.old).faults }
@@ -152,30 +170,30 @@ impl<R: Processes + rt::Files<File = File> + RandomSource + Eprint> Station for 
     }
 }
 
-/// Whether the words may run. The first that isn't let through is told.
-fn are_let_through<R: Eprint>(rt: &R, service: &Option<Service>, words: &[Word]) -> bool
-    ensures { result ≡ are_let_through (policy_in service.now) words.now }
+/// The place of the first word that isn't let through, where the words are tested. It is told.
+fn unserved_place<R: Eprint, W>(
+    rt: &R,
+    service: &Option<Service<W>>,
+    words: &[Word],
+) -> Option<usize>
+    ensures { result ≡ unserved_place (policy_in service.now) words.now }
 {
-    let Some(service) = service else {
-        return true;
-    };
-    match service.policy {
-        WordPolicy::AllWords => true,
-        WordPolicy::ServedWords => match first_unserved(words) {
-            None => true,
-            Some(place) => {
-                tell_unserved(rt, words, place);
-                false
-            }
-        },
+    let service = service.as_ref()?;
+    match service.rules.policy {
+        WordPolicy::AllWords => None,
+        WordPolicy::ServedWords => {
+            let place = first_unserved(words)?;
+            tell_unserved(rt, words, place);
+            Some(place)
+        }
     }
 }
 
-/// Runs the words where they are let through.
-fn run_served<R: Processes + rt::Files<File = File> + RandomSource + Eprint>(
+/// Runs the words where they are let through. Where one isn't, nothing is run, and the reply says which.
+fn run_served<R: Processes + rt::Files<File = File> + RandomSource + Eprint + Clock, W: RunWatch>(
     rt: &R,
     folder: &str,
-    service: &Option<Service>,
+    service: &Option<Service<W>>,
     alloc: Global,
     words: &[Word],
     input: &[u8],
@@ -183,22 +201,21 @@ fn run_served<R: Processes + rt::Files<File = File> + RandomSource + Eprint>(
 ) -> Result<Ran, StationFault>
     ensures within { IfOk result (IsWithin bounds.now) }
     ensures fault { IfErr result (IsRunFault bounds.now) }
-    ensures given { OnOk result (All CanBeGiven words.now) }
+    ensures given { are_let_through (policy_in service.now) words.now ≡ true → OnOk result (All CanBeGiven words.now) }
     ensures no_object { IfOk result (λ ran. has_output words.now ≡ false → ran.object ≡ []) }
-    ensures served { OnOk result (are_let_through (policy_in service.now) words.now ≡ true) }
-    ensures refused { are_let_through (policy_in service.now) words.now ≡ false → result ≡ Err StationFault.Failed }
+    ensures refused { IfSome (unserved_place (policy_in service.now) words.now) (IsRefusal bounds.now.err words.now result) }
 {
-    if !are_let_through(rt, service, words) {
-        return Err(StationFault::Failed);
+    match unserved_place(rt, service, words) {
+        Some(place) => refusal_of(alloc, words, place, bounds),
+        None => run_child(rt, folder, service, alloc, words, input, bounds),
     }
-    run_child(rt, folder, service, alloc, words, input, bounds)
 }
 
 /// Runs words that are let through.
-fn run_child<R: Processes + rt::Files<File = File> + RandomSource + Eprint>(
+fn run_child<R: Processes + rt::Files<File = File> + RandomSource + Eprint + Clock, W: RunWatch>(
     rt: &R,
     folder: &str,
-    service: &Option<Service>,
+    service: &Option<Service<W>>,
     alloc: Global,
     words: &[Word],
     input: &[u8],
@@ -223,10 +240,13 @@ fn run_child<R: Processes + rt::Files<File = File> + RandomSource + Eprint>(
 
 /// Runs words for others, in the folder of the run.
 #[tactic(auto, using(crate::proofs::ChildLemmas::unnamed, crate::proofs::ChildLemmas::of_object))]
-fn run_for_others<R: Processes + rt::Files<File = File> + RandomSource + Eprint>(
+fn run_for_others<
+    R: Processes + rt::Files<File = File> + RandomSource + Eprint + Clock,
+    W: RunWatch,
+>(
     rt: &R,
     folder: &str,
-    service: &Service,
+    service: &Service<W>,
     alloc: Global,
     words: &[Word],
     input: &[u8],
@@ -237,11 +257,17 @@ fn run_for_others<R: Processes + rt::Files<File = File> + RandomSource + Eprint>
     ensures given { OnOk result (All CanBeGiven words.now) }
     ensures no_object { IfOk result (λ ran. has_output words.now ≡ false → ran.object ≡ []) }
 {
+    have_descriptors(rt, &service.watch);
     let folder = RunFolder::create(rt, alloc, folder, &service.removal)?;
     let _source = input_file(&folder, words, input)?;
     let path = output_path(&folder, words)?;
     let command = command_in(alloc, words, folder.path(), service.here.as_str())?;
-    let ended = run_command(rt, alloc, folder.path(), command, bounds)?;
+    let watched = Watched {
+        watch: &service.watch,
+        lifetime: service.rules.lifetime,
+        bounds,
+    };
+    let ended = run_watched(rt, alloc, folder.path(), command, words, &watched)?;
     let object = object_left(rt, alloc, words, &path, ended.status, bounds.object)?;
     Ok(Ran {
         status: ended.status,

@@ -94,13 +94,14 @@ pub fn command_in(
     Ok(command)
 }
 
-/// The command of a program without arguments, in this folder.
+/// The command of a program without arguments, in this folder, where its temporary files are too.
 fn program_in(alloc: Global, program: &str, folder: &str, here: &str) -> Result<Command, AllocError>
     ensures { IfOk result (IsProgramIn program.now here.now folder.now) }
 {
     let program = named_from(alloc, here, program)?;
     let mut command = Command::new(alloc, program.as_str())?;
     command.current_dir(folder)?;
+    command.env("TMPDIR", named_from(alloc, here, folder)?.as_str())?;
     Ok(command)
 }
 

@@ -3,20 +3,21 @@ ghost use Rattle.std.specs.Net.Addr.{IsIpv4OfBits};
 ghost use Rattle.std.specs.Net.Socket.{v4_ip, v4_port};
 ghost use Rattle.edge_traits.specs.Links.{IsNew};
 ghost use Rattle.edge_real.specs.Counts.{call_faults};
-ghost use Rattle.edge_real.specs.Views.{door_link_view, door_view, counted_door, is_listening, peer_bits};
+ghost use Rattle.edge_real.specs.Views.{door_link_view, door_view, counted_door, is_listening};
 
-use crate::accepting::accept_one;
 use crate::counting::raise;
 use crate::door_link::DoorLink;
 use crate::notices::{tell_closed, tell_door_end, tell_unshared};
 use crate::pending::Pending;
+use crate::room::{Room, SharedRoom, Wants};
 use crate::run_folder::{SharedRemoval, carry_out};
-use crate::waiting_room::WaitingRoom;
+use crate::run_watch::{DoorWatch, SharedWatch};
+use crate::waiting_room::{WaitingRoom, ipv4_of};
 use access_list::AccessList;
 use edge_traits::{Door, EdgeFault};
 use std::alloc::Global;
 use std::io::{self, Eprint, Error, ErrorKind, Read, Write};
-use std::net::{Ipv4Addr, Net, OpenListener, OpenStream, SocketAddr, SocketAddrV4, TcpListener};
+use std::net::{Ipv4Addr, Net, OpenListener, OpenStream, SocketAddrV4, TcpListener};
 use std::os::fd::AsRawFd;
 use std::rt::{Clock, Files};
 use std::sync::{Arc, Mutex, Wait};
@@ -38,11 +39,9 @@ pub struct TcpDoor<R, L, S> {
     room: Option<SharedRoom<L, S>>,
     refusal: Option<Error>,
     removal: Option<SharedRemoval>,
+    watch: Option<SharedWatch<R, L, S>>,
     faults: u64,
 }
-
-/// The room of all doors on one listener.
-type SharedRoom<L, S> = Arc<Mutex<WaitingRoom<L, S>>, Global>;
 
 impl<R: Eprint + Net> TcpDoor<R, R::Listener, R::Stream> {
     /// A door on this IPv4 address and port. Port 0 is one that the system picks. Peers that the rules deny are handed out at once.
@@ -65,6 +64,7 @@ impl<R: Eprint + Net> TcpDoor<R, R::Listener, R::Stream> {
             room,
             refusal,
             removal: None,
+            watch: None,
             faults: 0,
         }
     }
@@ -82,6 +82,7 @@ impl<R: Eprint, L: OpenListener, S> TcpDoor<R, L, S> {
             room: None,
             refusal: None,
             removal: None,
+            watch: None,
             faults: 0,
         }
     }
@@ -103,6 +104,7 @@ impl<R: Eprint, L: OpenListener, S> TcpDoor<R, L, S> {
             room,
             refusal: None,
             removal: None,
+            watch: None,
             faults: 0,
         }
     }
@@ -139,6 +141,29 @@ impl<R: Eprint, L: OpenListener, S> TcpDoor<R, L, S> {
     }
 }
 
+impl<R: Net + Copy, L: Drop, S: Drop> TcpDoor<R, L, S> {
+    /// The same door, which has this watch look at the peer of each connection that it has.
+    pub fn watching(mut self, watch: SharedWatch<R, L, S>) -> TcpDoor<R, L, S>
+        ensures view { door_view result ≡ door_view self }
+        ensures listener { is_listening result ≡ is_listening self }
+    {
+        self.watch = Some(watch);
+        self
+    }
+
+    /// A watch for the runs of this door's connections.
+    ///
+    /// # Errors
+    /// The system gives no descriptor for it, or memory is wanting.
+    pub fn watch(&self, alloc: Global) -> io::Result<DoorWatch<R, L, S>> {
+        let room = match &self.room {
+            Some(room) => Some(Arc::try_clone(room)?),
+            None => None,
+        };
+        DoorWatch::new(self.rt, alloc, room)
+    }
+}
+
 impl<R: Eprint + Clock + Wait + Copy + Files, L: OpenListener<Stream = S> + AsRawFd, S> Door
     for TcpDoor<R, L, S>
 where
@@ -159,12 +184,15 @@ where
         ensures memory { result ≢ Err EdgeFault.Memory }
         ensures faults { (door_view self.new).faults ≡ call_faults result (door_view self.old).faults }
     {
-        let (Some(listener), Some(room)) = (&self.listener, &self.room) else {
+        let (Some(_), Some(room)) = (&self.listener, &self.room) else {
             raise(&mut self.faults);
             return Err(EdgeFault::Failed);
         };
-        match lead(&self.rt, alloc, listener, room) {
+        match lead(&self.rt, alloc, room) {
             Ok(pending) => {
+                if let Some(watch) = &self.watch {
+                    watch.begin(&pending.stream);
+                }
                 let address = ipv4_of(pending.peer);
                 Ok((DoorLink::new(self.rt, alloc, pending), address))
             }
@@ -194,8 +222,13 @@ fn listen<R: Net>(
 ) -> io::Result<(R::Listener, SharedRoom<R::Listener, R::Stream>)> {
     let listener = TcpListener::bind(rt, place)?;
     listener.set_nonblocking(true)?;
-    let room = WaitingRoom::new(rt, alloc, listener.try_clone()?, access)?;
-    Ok((listener, Arc::new(alloc, Mutex::new(room))?))
+    let inside = WaitingRoom::new(rt, alloc, listener.try_clone()?, access)?;
+    let wants = Wants::new(inside.waker()?);
+    let room = Room {
+        inside: Mutex::new(inside),
+        wants,
+    };
+    Ok((listener, Arc::new(alloc, room)?))
 }
 
 /// Waits for the room, and then in it for a connection that is ready.
@@ -203,9 +236,9 @@ fn lead<
     R: Eprint + Clock + Wait,
     L: OpenListener<Stream = S> + AsRawFd,
     S: OpenStream + AsRawFd + Drop,
->(rt: &R, alloc: Global, listener: &L, room: &SharedRoom<L, S>) -> io::Result<Pending<S>> {
-    let mut guard = room.lock(rt);
-    next_ready(rt, alloc, listener, &mut *guard)
+>(rt: &R, alloc: Global, room: &SharedRoom<L, S>) -> io::Result<Pending<S>> {
+    let mut guard = room.inside.lock(rt);
+    next_ready(rt, alloc, &mut *guard, &room.wants)
 }
 
 /// The connection that has waited longest of those that are ready. What the listener has is taken in first.
@@ -213,11 +246,14 @@ fn next_ready<
     R: Eprint + Clock,
     L: OpenListener<Stream = S> + AsRawFd,
     S: OpenStream + AsRawFd + Drop,
->(rt: &R, alloc: Global, listener: &L, room: &mut WaitingRoom<L, S>) -> io::Result<Pending<S>> {
+>(rt: &R, alloc: Global, room: &mut WaitingRoom<L, S>, wants: &Wants) -> io::Result<Pending<S>> {
     for _ in 0..u64::MAX {
+        if wants.take() {
+            room.leave_oldest(rt);
+        }
         room.hear(Some(Duration::ZERO))?;
         room.look(alloc);
-        if room.takes_more() && take_one_in(rt, listener, room)? {
+        if room.takes_more() && room.take_next_in(rt)? {
             continue;
         }
         if let Some(pending) = room.take_ready() {
@@ -227,27 +263,6 @@ fn next_ready<
         room.wait(rt)?;
     }
     Err(Error::from(ErrorKind::Other))
-}
-
-/// Takes in the next connection of the listener, and answers whether it had one. Where one is ready, that the system refuses the next is no error.
-fn take_one_in<
-    R: Eprint + Clock,
-    L: OpenListener<Stream = S> + AsRawFd,
-    S: OpenStream + AsRawFd + Drop,
->(rt: &R, listener: &L, room: &mut WaitingRoom<L, S>) -> io::Result<bool> {
-    match accept_one(rt, listener, room) {
-        Ok((stream, peer)) => {
-            room.take_in(rt, stream, peer, ipv4_of(peer));
-            room.ask_again()?;
-            Ok(true)
-        }
-        Err(error) if error.kind() == ErrorKind::WouldBlock => {
-            room.forget_call();
-            Ok(false)
-        }
-        Err(_) if room.has_ready() => Ok(false),
-        Err(error) => Err(error),
-    }
 }
 
 /// Another handle of the listener, where there is one. That the system refuses it is told.
@@ -269,14 +284,4 @@ fn place_of(address: u32, port: u16) -> SocketAddrV4
     ensures port { v4_port result ≡ port }
 {
     SocketAddrV4::new(Ipv4Addr::from_bits(address), port)
-}
-
-/// The IPv4 address as a number. A listener on an IPv4 address has no other peers.
-fn ipv4_of(peer: SocketAddr) -> u32
-    ensures { result ≡ peer_bits peer }
-{
-    match peer {
-        SocketAddr::V4(peer) => peer.ip().to_bits(),
-        SocketAddr::V6(_) => 0,
-    }
 }

@@ -7,8 +7,8 @@ ghost use Rattle.edge_real.specs.Views.{door_link_view, door_stream_of};
 
 use crate::notices::{Leaving, Visit, tell_visit};
 use crate::pending::Pending;
-use crate::retrying::read_once;
-use crate::tcp::{IDLE_SECS, TcpLink};
+use crate::retrying::read_by;
+use crate::tcp::TcpLink;
 use edge_traits::{EdgeFault, Link};
 use farm_types::{Bytes, HostName};
 use std::alloc::Global;
@@ -21,19 +21,21 @@ use std::time::Duration;
 #[derive(Drop)]
 pub struct DoorLink<R, S> {
     rt: R,
-    link: TcpLink<S>,
+    link: TcpLink<R, S>,
     peer: SocketAddr,
     leaving: Leaving,
-    /// The moment of the monotonic clock when the door got it.
-    handed: Duration,
+    /// When the request is to be there, by the monotonic clock.
+    request_end: Duration,
+    /// When the reply is to be taken, once it was begun.
+    reply_end: Option<Duration>,
 }
 
-impl<R: Clock, S: OpenStream> DoorLink<R, S> {
-    /// A link on which nothing has happened yet. A read or a write that waits for `IDLE_SECS` fails, and each read from `REQUEST_SECS` on.
+impl<R: Clock + Copy, S: OpenStream> DoorLink<R, S> {
+    /// A link on which nothing has happened yet. A receive waits until `REQUEST_SECS` from now, and a send until `REPLY_SECS` after the first.
     pub(crate) fn new(rt: R, alloc: Global, pending: Pending<S>) -> DoorLink<R, S>
         ensures { IsNew (door_link_view result) }
     {
-        let handed = moment(&rt);
+        let request_end = moment(&rt).saturating_add(Duration::from_secs(REQUEST_SECS));
         let leaving = pending.leaving();
         let Pending {
             stream,
@@ -41,30 +43,25 @@ impl<R: Clock, S: OpenStream> DoorLink<R, S> {
             begun,
             ..
         } = pending;
-        let _ = stream.set_write_timeout(Some(Duration::from_secs(IDLE_SECS)));
         let nobody = HostName {
             text: Bytes::new(alloc),
         };
         DoorLink {
             rt,
-            link: TcpLink::new(stream, nobody, 0, begun),
+            link: TcpLink::new(rt, stream, nobody, 0, begun),
             peer,
             leaving,
-            handed,
+            request_end,
+            reply_end: None,
         }
-    }
-
-    /// How long the next read may wait: `IDLE_SECS`, and no longer than the request's time lasts.
-    fn time_left(&self) -> Duration {
-        let passed = moment(&self.rt).saturating_sub(self.handed);
-        Duration::from_secs(REQUEST_SECS)
-            .saturating_sub(passed)
-            .min(Duration::from_secs(IDLE_SECS))
     }
 }
 
 /// How long a request may take in all from when a door got its connection: 10 minutes.
 const REQUEST_SECS: u64 = 600;
+
+/// How long its reply may take in all from the first send: 10 minutes.
+const REPLY_SECS: u64 = 600;
 
 impl<R: Drop, S: Read + OpenStream + Drop> DoorLink<R, S> {
     /// Ends the connection, and tells what passed. A peer that was sent nothing is left at once, with nothing more read.
@@ -91,15 +88,10 @@ fn linger<R: Clock, S: Read + OpenStream + Drop>(rt: &R, mut stream: S) {
     if stream.shutdown(Shutdown::Write).is_err() {
         return;
     }
-    let begun = moment(rt);
+    let end = moment(rt).saturating_add(Duration::from_millis(LINGER_MILLIS));
     let mut room = [0u8; LINGER_ROOM];
     for _ in 0..u64::MAX {
-        let passed = moment(rt).saturating_sub(begun);
-        let left = Duration::from_millis(LINGER_MILLIS).saturating_sub(passed);
-        if left.is_zero() || stream.set_read_timeout(Some(left)).is_err() {
-            return;
-        }
-        if !matches!(read_once(&mut stream, &mut room), Ok(1..)) {
+        if !matches!(read_by(rt, &mut stream, &mut room, end), Ok(1..)) {
             return;
         }
     }
@@ -141,7 +133,13 @@ impl<R: Clock, S: Read + Write + OpenStream> Link for DoorLink<R, S> {
         ensures memory { result ≢ Err EdgeFault.Memory }
         ensures faults { (door_link_view self.new).faults ≡ call_faults result (door_link_view self.old).faults }
     {
-        self.link.send(piece)
+        let now = moment(&self.rt);
+        let end = match self.reply_end {
+            Some(end) => end,
+            None => now.saturating_add(Duration::from_secs(REPLY_SECS)),
+        };
+        self.reply_end = Some(end);
+        self.link.send_by(piece, end)
     }
 
     fn recv(&mut self, room: &mut [u8]) -> Result<usize, EdgeFault>
@@ -154,12 +152,6 @@ impl<R: Clock, S: Read + Write + OpenStream> Link for DoorLink<R, S> {
         ensures memory { result ≢ Err EdgeFault.Memory }
         ensures faults { (door_link_view self.new).faults ≡ call_faults result (door_link_view self.old).faults }
     {
-        let left = self.time_left();
-        if left.is_zero() {
-            self.link.fail();
-            return Err(EdgeFault::Failed);
-        }
-        self.link.wait_at_most(left);
-        self.link.recv(room)
+        self.link.recv_by(room, self.request_end)
     }
 }

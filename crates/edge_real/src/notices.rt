@@ -4,6 +4,7 @@ ghost use Rattle.std.specs.Option.{option_copied};
 ghost use Rattle.edge_real.specs.Notices.{notices_by, stream_text};
 
 use crate::exchange::Exchange;
+use crate::waiting::EarlyEnd;
 use edge_traits::Stream;
 use farm_types::{HostName, Word};
 use httpdate::HttpDate;
@@ -45,6 +46,17 @@ pub fn tell_unserved<R: Eprint>(rt: &R, words: &[Word], place: usize) {
         let word = Shown(bytes.as_slice());
         let _ = eprintln!(rt; "{}: not let through: {word}", program_of(words));
     }
+}
+
+/// The program was killed before its end.
+pub fn tell_killed<R: Eprint>(rt: &R, words: &[Word], end: EarlyEnd, lifetime: Option<Duration>) {
+    let program = program_of(words);
+    let _ = match (end, lifetime) {
+        (EarlyEnd::Late, Some(lifetime)) => {
+            eprintln!(rt; "{program}: killed after {} s", lifetime.as_secs())
+        }
+        _ => eprintln!(rt; "{program}: killed: its peer has gone"),
+    };
 }
 
 /// The program ended with status 0, and no file stands where its object was to be.

@@ -7,6 +7,8 @@ use crate::disk::load;
 use crate::notices::{tell_missing, tell_unstarted};
 use crate::reading::{Reading, read_to_end};
 use crate::run_folder::nameless_file;
+use crate::run_watch::RunWatch;
+use crate::waiting::wait_watched;
 use edge_traits::{Bounds, FetchFault, StationFault, Stream};
 use farm_types::{Bytes, Word};
 use std::alloc::Global;
@@ -15,7 +17,8 @@ use std::io::{Eprint, Read, Seek};
 use std::os::unix::process::ExitStatusExt;
 use std::process::{Child, Command, OpenProcess, Processes, Stdio};
 use std::random::RandomSource;
-use std::rt;
+use std::rt::{self, Clock};
+use std::time::Duration;
 
 /// What a program gave: its wait status, its standard output and its standard error.
 #[derive(Drop)]
@@ -23,6 +26,15 @@ pub struct Ended {
     pub status: u32,
     pub out: Bytes,
     pub err: Bytes,
+}
+
+/// How a run for others may end.
+#[derive(Drop)]
+pub struct Watched<'a, W> {
+    pub watch: &'a W,
+    /// How long the program may run, if that is bounded.
+    pub lifetime: Option<Duration>,
+    pub bounds: &'a Bounds,
 }
 
 /// Runs a command to its end. Its standard error goes to a file of this folder that has no name there.
@@ -39,9 +51,36 @@ pub fn run_command<R: Processes + rt::Files<File = File> + RandomSource + Eprint
     ensures fault { IfErr result (IsRunFault bounds.now) }
 {
     let mut messages = nameless_file(rt, alloc, folder)?;
-    let child = start(rt, command, &messages)?;
+    let child = start(rt, command, Stdio::piped(), &messages)?;
     let (status, out) = run_to_end(child, alloc, bounds.out)?;
-    let err = read_again(&mut messages, alloc, bounds.err)?;
+    let err = read_again(&mut messages, alloc, bounds.err, Stream::Err)?;
+    Ok(Ended { status, out, err })
+}
+
+/// Runs a command for others to its end, or to an early one. Its standard output and its standard error go to files of this folder that have no names
+/// there: what outlives the program and holds them holds nobody up.
+#[tactic(auto, using(crate::proofs::ChildLemmas::unnamed, crate::proofs::ChildLemmas::of_out, crate::proofs::ChildLemmas::of_err))]
+pub fn run_watched<
+    R: Processes + rt::Files<File = File> + RandomSource + Eprint + Clock,
+    W: RunWatch,
+>(
+    rt: &R,
+    alloc: Global,
+    folder: &str,
+    command: Command,
+    words: &[Word],
+    watched: &Watched<'_, W>,
+) -> Result<Ended, StationFault>
+    ensures out { IfOk result (λ ended. length ended.out ≤ watched.now.bounds.now.out) }
+    ensures err { IfOk result (λ ended. length ended.err ≤ watched.now.bounds.now.err) }
+    ensures fault { IfErr result (IsRunFault watched.now.bounds.now) }
+{
+    let mut output = nameless_file(rt, alloc, folder)?;
+    let mut messages = nameless_file(rt, alloc, folder)?;
+    let mut child = start(rt, command, written_to(&output)?, &messages)?;
+    let status = wait_watched(rt, &mut child, words, watched.watch, watched.lifetime)?;
+    let out = read_again(&mut output, alloc, watched.bounds.out, Stream::Out)?;
+    let err = read_again(&mut messages, alloc, watched.bounds.err, Stream::Err)?;
     Ok(Ended { status, out, err })
 }
 
@@ -68,23 +107,30 @@ pub fn object_left<R: rt::Files + Eprint>(
     left_by(alloc, loaded, Stream::Object)
 }
 
-/// Starts a program, with an empty standard input. Its standard error goes to this file, and its standard output to a pipe.
+/// A stream of a program that goes to this file.
+fn written_to(file: &File) -> Result<Stdio, StationFault>
+    ensures fault { IfErr result NamesNoStream }
+    ensures memory { result ≢ Err StationFault.Memory }
+{
+    match file.try_clone() {
+        Ok(file) => Ok(Stdio::from(file)),
+        Err(_) => Err(StationFault::Failed),
+    }
+}
+
+/// Starts a program, with an empty standard input. Its standard error goes to this file.
 fn start<R: Processes + Eprint>(
     rt: &R,
     command: Command,
+    output: Stdio,
     messages: &File,
 ) -> Result<Child<R::Started>, StationFault>
     ensures fault { IfErr result NamesNoStream }
     ensures memory { result ≢ Err StationFault.Memory }
 {
-    let Ok(errors) = messages.try_clone() else {
-        return Err(StationFault::Failed);
-    };
+    let errors = written_to(messages)?;
     let mut command = command;
-    command
-        .stdin(Stdio::null())
-        .stdout(Stdio::piped())
-        .stderr(Stdio::from(errors));
+    command.stdin(Stdio::null()).stdout(output).stderr(errors);
     match command.spawn(rt) {
         Ok(child) => Ok(child),
         Err(error) => {
@@ -138,12 +184,17 @@ fn read_pipe<S: Read + Drop>(
 
 /// What was written into a file that is open still.
 #[tactic(auto, using(crate::proofs::ChildLemmas::unnamed_in))]
-fn read_again(file: &mut File, alloc: Global, bound: u32) -> Result<Bytes, StationFault>
+fn read_again(
+    file: &mut File,
+    alloc: Global,
+    bound: u32,
+    which: Stream,
+) -> Result<Bytes, StationFault>
     ensures within { IfOk result (λ bytes. length bytes ≤ bound) }
-    ensures fault { IfErr result (IsStreamFault Stream.Err bound) }
+    ensures fault { IfErr result (IsStreamFault which bound) }
 {
     to_its_start(file)?;
-    read_stream(file, alloc, bound, Stream::Err)
+    read_stream(file, alloc, bound, which)
 }
 
 fn to_its_start(file: &mut File) -> Result<(), StationFault>

@@ -4,13 +4,13 @@ ghost use Rattle.std.specs.Io.KnownBytes.{ReadConsumes, WriteAppends};
 ghost use Rattle.std.proofs.Common.{◌∙◌, sym};
 ghost use Rattle.edge_traits.specs.Links.{IsFresh, moved_none};
 ghost use Rattle.edge_real.specs.Counts.{call_faults};
-ghost use Rattle.edge_real.specs.Views.{link_view, with_fault, stream_of, dialer_view, counted_dialer};
+ghost use Rattle.edge_real.specs.Views.{link_view, stream_of, dialer_view, counted_dialer};
 
 use crate::counting::raise;
 use crate::door_link::moment;
 use crate::exchange::{Exchange, Tokens};
 use crate::notices::{Notices, Parting, tell_parting, tell_unreached};
-use crate::retrying::{read_once, write_once};
+use crate::retrying::{read_by, write_by};
 use edge_traits::{Dialer, EdgeFault, Link};
 use farm_types::HostName;
 use std::alloc::Global;
@@ -22,7 +22,8 @@ use std::time::Duration;
 
 /// A connection over TCP. It shuts neither of its sides before it is given back. It knows when it began, what passed, and why a call failed.
 #[derive(Drop)]
-pub struct TcpLink<S> {
+pub struct TcpLink<R, S> {
+    rt: R,
     stream: S,
     host: HostName,
     port: u16,
@@ -30,19 +31,24 @@ pub struct TcpLink<S> {
     stopped: bool,
     faults: u64,
     begun: Duration,
+    /// How long a receive waits, and the send of one piece.
+    idle: Duration,
+    /// When the wait ends for a piece of which a part was sent, by the monotonic clock.
+    sending: Option<Duration>,
     sent: Tokens,
     given: Tokens,
     failure: Option<Error>,
 }
 
-impl<S: OpenStream> TcpLink<S> {
+impl<R, S: OpenStream> TcpLink<R, S> {
     /// A link on which nothing has happened yet, at this moment of the monotonic clock. Small pieces are sent at once, where the system allows it.
-    pub(crate) fn new(stream: S, host: HostName, port: u16, begun: Duration) -> TcpLink<S>
+    pub(crate) fn new(rt: R, stream: S, host: HostName, port: u16, begun: Duration) -> TcpLink<R, S>
         ensures fresh { IsFresh host port (link_view result) }
         ensures stream { stream_of result ≡ stream }
     {
         let _ = stream.set_nodelay(true);
         TcpLink {
+            rt,
             stream,
             host,
             port,
@@ -50,6 +56,8 @@ impl<S: OpenStream> TcpLink<S> {
             stopped: false,
             faults: 0,
             begun,
+            idle: Duration::from_secs(IDLE_SECS),
+            sending: None,
             sent: Tokens::new(),
             given: Tokens::new(),
             failure: None,
@@ -57,7 +65,7 @@ impl<S: OpenStream> TcpLink<S> {
     }
 }
 
-impl<S> TcpLink<S> {
+impl<R: Drop, S> TcpLink<R, S> {
     /// The moment of the monotonic clock when it began.
     pub(crate) fn begun(&self) -> Duration {
         self.begun
@@ -91,20 +99,13 @@ impl<S> TcpLink<S> {
         }
     }
 
-    /// Has each read from here on fail that waits for so long, where the system takes it.
-    pub(crate) fn wait_at_most(&self, time: Duration)
-    where
-        S: OpenStream,
+    /// The same link, on which a receive, and the send of one piece, waits for so long at most.
+    fn waiting(mut self, idle: Duration) -> TcpLink<R, S>
+        ensures view { link_view result ≡ link_view self }
+        ensures stream { stream_of result ≡ stream_of self }
     {
-        let _ = self.stream.set_read_timeout(Some(time));
-    }
-
-    /// Counts a fault that the connection itself didn't tell.
-    pub(crate) fn fail(&mut self)
-        ensures view { link_view self.new ≡ with_fault (link_view self.old) }
-        ensures stream { stream_of self.new ≡ stream_of self.old }
-    {
-        raise(&mut self.faults);
+        self.idle = idle;
+        self
     }
 
     /// The connection itself.
@@ -115,7 +116,64 @@ impl<S> TcpLink<S> {
     }
 }
 
-impl<S: Read + Write> Link for TcpLink<S> {
+impl<R: Clock, S: Read + Write + OpenStream> TcpLink<R, S> {
+    /// A send that waits to this moment of the monotonic clock at most.
+    pub(crate) fn send_by(&mut self, piece: &[u8], end: Duration) -> Result<usize, EdgeFault>
+        requires { 0 < length piece.now }
+        ensures bound { IfOk result (λ n. n ≤ length piece.now) }
+        ensures bytes { WriteAppends (S.Write.contents (stream_of self.old)) (S.Write.contents (stream_of self.new)) result piece.now }
+        ensures origin { (link_view self.new).origin ≡ (link_view self.old).origin }
+        ensures stopped { (link_view self.new).stopped ≡ ((link_view self.old).stopped || moved_none result) }
+        ensures ended { (link_view self.new).ended ≡ (link_view self.old).ended }
+        ensures memory { result ≢ Err EdgeFault.Memory }
+        ensures faults { (link_view self.new).faults ≡ call_faults result (link_view self.old).faults }
+    {
+        match write_by(&self.rt, &mut self.stream, piece, end) {
+            Ok(count) => {
+                self.stopped |= count == 0;
+                self.sent.pass(piece, count);
+                Ok(count)
+            }
+            Err(error) => {
+                self.failure = Some(error);
+                raise(&mut self.faults);
+                Err(EdgeFault::Failed)
+            }
+        }
+    }
+
+    /// A receive that waits to this moment of the monotonic clock at most.
+    pub(crate) fn recv_by(&mut self, room: &mut [u8], end: Duration) -> Result<usize, EdgeFault>
+        requires { 0 < length room.old }
+        ensures bound { IfOk result (λ n. n ≤ length room.old) }
+        ensures bytes { ReadConsumes (S.Read.remaining (stream_of self.old)) (S.Read.remaining (stream_of self.new)) result room.new }
+        ensures origin { (link_view self.new).origin ≡ (link_view self.old).origin }
+        ensures ended { (link_view self.new).ended ≡ ((link_view self.old).ended || moved_none result) }
+        ensures stopped { (link_view self.new).stopped ≡ (link_view self.old).stopped }
+        ensures memory { result ≢ Err EdgeFault.Memory }
+        ensures faults { (link_view self.new).faults ≡ call_faults result (link_view self.old).faults }
+    {
+        match read_by(&self.rt, &mut self.stream, room, end) {
+            Ok(count) => {
+                self.ended |= count == 0;
+                self.given.pass(room, count);
+                Ok(count)
+            }
+            Err(error) => {
+                self.failure = Some(error);
+                raise(&mut self.faults);
+                Err(EdgeFault::Failed)
+            }
+        }
+    }
+
+    /// The moment when a wait ends that begins now.
+    fn idle_end(&self) -> Duration {
+        moment(&self.rt).saturating_add(self.idle)
+    }
+}
+
+impl<R: Clock, S: Read + Write + OpenStream> Link for TcpLink<R, S> {
     ghost shows = { link_view };
 
     ghost follows = { λ a b. (link_view a).origin ≡ (link_view b).origin };
@@ -140,18 +198,13 @@ impl<S: Read + Write> Link for TcpLink<S> {
         ensures memory { result ≢ Err EdgeFault.Memory }
         ensures faults { (link_view self.new).faults ≡ call_faults result (link_view self.old).faults }
     {
-        match write_once(&mut self.stream, piece) {
-            Ok(count) => {
-                self.stopped |= count == 0;
-                self.sent.pass(piece, count);
-                Ok(count)
-            }
-            Err(error) => {
-                self.failure = Some(error);
-                raise(&mut self.faults);
-                Err(EdgeFault::Failed)
-            }
-        }
+        let end = self.sending.unwrap_or(self.idle_end());
+        let sent = self.send_by(piece, end);
+        self.sending = match sent {
+            Ok(count) if count < piece.len() => Some(end),
+            _ => None,
+        };
+        sent
     }
 
     fn recv(&mut self, room: &mut [u8]) -> Result<usize, EdgeFault>
@@ -164,18 +217,8 @@ impl<S: Read + Write> Link for TcpLink<S> {
         ensures memory { result ≢ Err EdgeFault.Memory }
         ensures faults { (link_view self.new).faults ≡ call_faults result (link_view self.old).faults }
     {
-        match read_once(&mut self.stream, room) {
-            Ok(count) => {
-                self.ended |= count == 0;
-                self.given.pass(room, count);
-                Ok(count)
-            }
-            Err(error) => {
-                self.failure = Some(error);
-                raise(&mut self.faults);
-                Err(EdgeFault::Failed)
-            }
-        }
+        let end = self.idle_end();
+        self.recv_by(room, end)
     }
 }
 
@@ -192,6 +235,7 @@ pub const IDLE_SECS: u64 = 600;
 pub struct TcpDialer<R> {
     rt: R,
     notices: Notices,
+    idle: Duration,
     faults: u64,
 }
 
@@ -200,9 +244,17 @@ impl<R: Net + Eprint + Clock> TcpDialer<R> {
     pub fn new(rt: R, notices: Notices) -> TcpDialer<R>
         ensures { dialer_view result ≡ counted_dialer 0 }
     {
+        TcpDialer::waiting(rt, notices, Duration::from_secs(IDLE_SECS))
+    }
+
+    /// The same, on whose links a receive, and the send of one piece, waits for so long at most.
+    pub fn waiting(rt: R, notices: Notices, idle: Duration) -> TcpDialer<R>
+        ensures { dialer_view result ≡ counted_dialer 0 }
+    {
         TcpDialer {
             rt,
             notices,
+            idle,
             faults: 0,
         }
     }
@@ -226,12 +278,7 @@ impl<R: Net + Eprint + Clock> TcpDialer<R> {
         for place in places {
             let limit = Duration::from_secs(DIAL_SECS);
             match TcpStream::connect_timeout(&self.rt, &place, limit) {
-                Ok(stream) => {
-                    let idle = Some(Duration::from_secs(IDLE_SECS));
-                    let _ = stream.set_read_timeout(idle);
-                    let _ = stream.set_write_timeout(idle);
-                    return Ok(stream);
-                }
+                Ok(stream) => return Ok(stream),
                 Err(error) => refusal = Some(error),
             }
         }
@@ -241,18 +288,21 @@ impl<R: Net + Eprint + Clock> TcpDialer<R> {
         Err(EdgeFault::Failed)
     }
 
-    fn connect(&self, host: &HostName, port: u16) -> Result<TcpLink<R::Stream>, EdgeFault>
+    fn connect(&self, host: &HostName, port: u16) -> Result<TcpLink<R, R::Stream>, EdgeFault>
+    where
+        R: Copy + Drop,
         ensures fresh { IfOk result (λ link. IsFresh host.now port (link_view link)) }
         ensures name { IfOk result (λ link. IsUtf8 host.now.text) }
     {
         let name = host.copy()?;
         let stream = self.reach(host, port)?;
-        Ok(TcpLink::new(stream, name, port, moment(&self.rt)))
+        let link = TcpLink::new(self.rt, stream, name, port, moment(&self.rt));
+        Ok(link.waiting(self.idle))
     }
 }
 
-impl<R: Net + Eprint + Clock> Dialer for TcpDialer<R> {
-    type Link = TcpLink<R::Stream>;
+impl<R: Net + Eprint + Clock + Copy + Drop> Dialer for TcpDialer<R> {
+    type Link = TcpLink<R, R::Stream>;
 
     ghost shows = { dialer_view };
 
@@ -267,7 +317,7 @@ impl<R: Net + Eprint + Clock> Dialer for TcpDialer<R> {
         _alloc: Global,
         host: &HostName,
         port: u16,
-    ) -> Result<TcpLink<R::Stream>, EdgeFault>
+    ) -> Result<TcpLink<R, R::Stream>, EdgeFault>
         ensures fresh { IfOk result (λ link. IsFresh host.now port (link_view link)) }
         ensures name { IfOk result (λ link. IsUtf8 host.now.text) }
         ensures faults { (dialer_view self.new).faults ≡ call_faults result (dialer_view self.old).faults }
@@ -279,7 +329,7 @@ impl<R: Net + Eprint + Clock> Dialer for TcpDialer<R> {
         link
     }
 
-    fn hang_up(&mut self, link: TcpLink<R::Stream>)
+    fn hang_up(&mut self, link: TcpLink<R, R::Stream>)
         ensures { dialer_view self.new ≡ dialer_view self.old }
     {
         tell_parting(&self.rt, self.notices, &link.parting());

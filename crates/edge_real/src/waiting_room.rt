@@ -1,17 +1,19 @@
 // The connections that were accepted and that no door reads yet, of all doors on one listener.
 ghost use Rattle.std.specs.Prelude.{◌≡◌, ℕ, Option, true, false};
 ghost use Rattle.access_list.specs.Rules.{AreRight, decision};
+ghost use Rattle.edge_real.specs.Views.{peer_bits};
 ghost use Rattle.access_list.specs.declared.decision.Decision.TheVariants as decided;
 
+use crate::accepting::{accept_at_once, accept_one};
 use crate::door_link::moment;
 use crate::notices::{Leaving, Visit, tell_visit};
 use crate::pending::Pending;
 use access_list::{AccessList, Decision};
 use mio::unix::SourceFd;
-use mio::{Events, Interest, Poll, Token};
+use mio::{Events, Interest, Poll, Token, Waker};
 use std::alloc::Global;
-use std::io::{self, Eprint};
-use std::net::{Net, OpenStream, SocketAddr};
+use std::io::{self, Eprint, ErrorKind};
+use std::net::{Net, OpenListener, OpenStream, SocketAddr};
 use std::os::fd::AsRawFd;
 use std::rt::Clock;
 use std::time::Duration;
@@ -43,6 +45,9 @@ const EVENTS: usize = 128;
 /// The token of the listener. Those of the connections are their places.
 const LISTENER: Token = Token(PLACES);
 
+/// The token of the waker, by which nothing comes but that the room is looked at.
+const WAKER: Token = Token(PLACES + 1);
+
 impl<L: AsRawFd + Drop, S: Drop> WaitingRoom<L, S> {
     /// An empty room for the connections of this listener. Those of peers that these rules deny are ready at once.
     pub fn new<R: Net>(
@@ -71,6 +76,13 @@ impl<L: AsRawFd + Drop, S: Drop> WaitingRoom<L, S> {
     }
 }
 
+impl<L: OpenListener, S> WaitingRoom<L, S> {
+    /// The next connection of the listener, with the peer's address.
+    pub fn accept(&self) -> io::Result<(L::Stream, SocketAddr)> {
+        self.listener.accept()
+    }
+}
+
 impl<L: AsRawFd, S> WaitingRoom<L, S> {
     /// Has the system tell again whether the listener has a connection.
     pub fn ask_again(&mut self) -> io::Result<()> {
@@ -83,6 +95,11 @@ impl<L: AsRawFd, S> WaitingRoom<L, S> {
 }
 
 impl<L, S> WaitingRoom<L, S> {
+    /// What ends a wait of the room from another thread.
+    pub fn waker(&self) -> io::Result<Waker> {
+        Waker::new(self.poll.registry(), WAKER)
+    }
+
     /// Whether the listener has a connection, and there is a place for it.
     pub fn takes_more(&self) -> bool {
         self.is_called && !(self.free_place().is_none() && self.has_ready())
@@ -181,7 +198,57 @@ impl<L, S: OpenStream + AsRawFd + Drop> WaitingRoom<L, S> {
     }
 }
 
+impl<L: OpenListener<Stream = S> + AsRawFd, S: OpenStream + AsRawFd + Drop> WaitingRoom<L, S> {
+    /// Takes in the next connection of the listener, and answers whether it had one. Where one is ready, that the system refuses the next is no error.
+    pub fn take_next_in<R: Eprint + Clock>(&mut self, rt: &R) -> io::Result<bool> {
+        match accept_one(rt, self) {
+            Ok((stream, peer)) => {
+                self.take_in(rt, stream, peer, ipv4_of(peer));
+                self.ask_again()?;
+                Ok(true)
+            }
+            Err(error) if error.kind() == ErrorKind::WouldBlock => {
+                self.forget_call();
+                Ok(false)
+            }
+            Err(_) if self.has_ready() => Ok(false),
+            Err(error) => Err(error),
+        }
+    }
+
+    /// What is to be done while no door is idle: takes in what has come, without waiting, and leaves those who are denied and those who have waited for
+    /// too long.
+    pub fn attend<R: Eprint + Clock>(&mut self, rt: &R, alloc: Global) {
+        if self.hear(Some(Duration::ZERO)).is_err() {
+            return;
+        }
+        for _ in 0..PLACES {
+            if !self.takes_more() {
+                break;
+            }
+            let Some((stream, peer)) = accept_at_once(rt, self) else {
+                let _ = self.ask_again();
+                break;
+            };
+            self.take_in(rt, stream, peer, ipv4_of(peer));
+        }
+        self.look(alloc);
+        self.leave_denied(rt);
+        self.leave_late(rt);
+    }
+}
+
 impl<L, S: Drop> WaitingRoom<L, S> {
+    /// Leaves those whom the rules deny.
+    fn leave_denied<R: Eprint + Clock>(&mut self, rt: &R) {
+        for at in 0..PLACES {
+            if matches!(self.places.get(at), Some(Some(pending)) if pending.leaving() == Leaving::Denied)
+            {
+                self.leave(rt, at, Leaving::Denied);
+            }
+        }
+    }
+
     /// Leaves the one that has waited longest of those that aren't ready, where there is one.
     pub fn leave_oldest<R: Eprint + Clock>(&mut self, rt: &R) -> bool {
         match self.oldest(false) {
@@ -249,5 +316,15 @@ impl<L, S: Drop> WaitingRoom<L, S> {
             }
         }
         Ok(())
+    }
+}
+
+/// The IPv4 address as a number. A listener on an IPv4 address has no other peers.
+pub fn ipv4_of(peer: SocketAddr) -> u32
+    ensures { result ≡ peer_bits peer }
+{
+    match peer {
+        SocketAddr::V4(peer) => peer.ip().to_bits(),
+        SocketAddr::V6(_) => 0,
     }
 }

@@ -1,14 +1,15 @@
 //! Programs that are run as children.
 
 use crate::same::{holds, same, same_bytes};
-use edge_real::{ChildStation, WordPolicy};
+use edge_real::{ChildStation, RunWatch, ServingRules, Unwatched, WordPolicy, current_folder};
 use edge_traits::{Bounds, Station, StationFault, Stream};
 use farm_types::{Bytes, Ext, Ran, Word};
 use std::alloc::{AllocError, Global};
 use std::fs;
 use std::process::Abort;
-use std::rt::Files;
+use std::rt::{Clock, Files};
 use std::test::Fail;
+use std::time::{Duration, Instant};
 
 const BOUNDS: Bounds = Bounds {
     out: 100_000,
@@ -21,11 +22,24 @@ fn station(rt: HostRuntime) -> Result<ChildStation<HostRuntime>, AllocError> {
     Ok(ChildStation::new(rt, folder))
 }
 
-/// A station that serves others by this policy, from the root of the system's files.
-fn serving(rt: HostRuntime, policy: WordPolicy) -> Result<ChildStation<HostRuntime>, AllocError> {
+/// A station that serves others by these rules, from the root of the system's files.
+fn serving_by<W: Drop>(
+    rt: HostRuntime,
+    rules: ServingRules,
+    watch: W,
+) -> Result<ChildStation<HostRuntime, W>, AllocError> {
     let folder = String::from_str(rt.alloc(), ".")?;
     let here = String::from_str(rt.alloc(), "/")?;
-    Ok(ChildStation::serving(rt, folder, here, policy, None))
+    Ok(ChildStation::serving(rt, folder, here, rules, None, watch))
+}
+
+/// A station that serves others by this policy.
+fn serving(rt: HostRuntime, policy: WordPolicy) -> Result<ChildStation<HostRuntime>, AllocError> {
+    let rules = ServingRules {
+        policy,
+        lifetime: None,
+    };
+    serving_by(rt, rules, Unwatched)
 }
 
 /// A command of these words.
@@ -270,9 +284,9 @@ fn expect_commands<R: Abort, S: Station>(rt: &R, alloc: Global, station: &mut S,
 
 const SERVED: &[Command] = &[
     (&[b"/bin/true", b"-O2"], Ok(0)),
-    (&[b"/bin/true", b"@words"], Err(StationFault::Failed)),
-    (&[b"/bin/true", b"-fplugin=x.so"], Err(StationFault::Failed)),
-    (&[b"/bin/true", b"--specs=x"], Err(StationFault::Failed)),
+    (&[b"/bin/true", b"@words"], Ok(28_416)),
+    (&[b"/bin/true", b"-fplugin=x.so"], Ok(28_416)),
+    (&[b"/bin/true", b"--specs=x"], Ok(28_416)),
 ];
 
 #[test]
@@ -281,6 +295,88 @@ fn words_that_are_not_let_through_do_not_run(rt: HostRuntime) -> Result<(), Fail
     expect_commands(&rt, rt.alloc(), &mut station, SERVED);
     expect_empty(&rt)
 }
+
+#[test]
+fn the_reply_says_which_word_is_not_let_through(rt: HostRuntime) -> Result<(), Fail> {
+    let mut station = serving(rt, WordPolicy::ServedWords)?;
+    let ran = run_words(rt.alloc(), &mut station, &[b"/bin/true", b"-O2", b"@words"])?;
+    same_bytes(
+        &rt,
+        ran.err.as_slice(),
+        b"farmd: not let through: @words\n",
+        &"its text",
+    );
+    Ok(())
+}
+
+/// The watch of a run whose peer has gone.
+#[derive(Drop)]
+struct Left;
+
+impl RunWatch for Left {
+    fn has_gone(&self) -> bool {
+        true
+    }
+
+    fn want_descriptors(&self) {}
+}
+
+/// Runs a script that takes half a minute, which is killed long before that.
+fn expect_killed<R: Abort + Files + AllocGlobal + Clone + Clock + Drop, S: Station>(
+    rt: &R,
+    station: &mut S,
+) -> Result<(), Fail> {
+    let begun = Instant::now(rt)?;
+    expect_faults(
+        rt,
+        rt.alloc(),
+        station,
+        &[("exec sleep 30", StationFault::Failed)],
+    );
+    holds(rt, begun.elapsed(rt)? < Duration::from_secs(20), &"killed");
+    expect_empty(rt)
+}
+
+#[test]
+fn a_program_is_killed_after_its_lifetime(rt: HostRuntime) -> Result<(), Fail> {
+    let rules = ServingRules {
+        policy: WordPolicy::AllWords,
+        lifetime: Some(Duration::from_millis(300)),
+    };
+    let mut station = serving_by(rt, rules, Unwatched)?;
+    expect_killed(&rt, &mut station)
+}
+
+#[test]
+fn a_program_is_killed_whose_peer_has_gone(rt: HostRuntime) -> Result<(), Fail> {
+    let rules = ServingRules {
+        policy: WordPolicy::AllWords,
+        lifetime: None,
+    };
+    let mut station = serving_by(rt, rules, Left)?;
+    expect_killed(&rt, &mut station)
+}
+
+#[test]
+fn temporary_files_are_made_in_the_folder_of_the_run(rt: HostRuntime) -> Result<(), Fail> {
+    let folder = String::from_str(rt.alloc(), ".")?;
+    let here = current_folder(&rt)?;
+    let rules = ServingRules {
+        policy: WordPolicy::AllWords,
+        lifetime: None,
+    };
+    let mut station = ChildStation::serving(rt, folder, here, rules, None, Unwatched);
+    expect_clean_run(&rt, &mut station, OWN_TEMPORARY_FILES)
+}
+
+const OWN_TEMPORARY_FILES: &Row = &Row {
+    script: "[ $TMPDIR -ef . ] && : >$TMPDIR/left && ls",
+    input: b"",
+    status: 0,
+    out: b"input.ii\nleft\n",
+    err: b"",
+    object: b"",
+};
 
 /// A script, and the fault of its run.
 type Faulty = (&'static str, StationFault);

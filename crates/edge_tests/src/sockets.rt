@@ -6,6 +6,7 @@ use edge_real::{Notices, TcpDialer, TcpDoor};
 use edge_traits::{Dialer, Door, EdgeFault, Link};
 use farm_types::{Bytes, HostName};
 use std::alloc::{AllocError, Global};
+use std::process::Command;
 use std::test::Fail;
 use std::thread;
 use std::time::{Duration, Instant};
@@ -273,4 +274,51 @@ fn a_shared_door_is_at_the_same_port(rt: HostRuntime) {
     let shared = door.share();
     assert!(rt; door.is_open() && shared.is_open());
     assert_eq!(rt; shared.port(), door.port());
+}
+
+/// How long a receive waits on a link of this dialer, whose peer sends nothing, until it fails.
+fn time_to_fail(
+    rt: HostRuntime,
+    dialer: &mut Tcp,
+    name: &HostName,
+    port: u16,
+) -> Option<Duration> {
+    let mut link = dialer.dial(rt.alloc(), name, port).ok()?;
+    let begun = Instant::now(&rt).ok()?;
+    let failed = link.recv(&mut [0u8; 4]).is_err();
+    let waited = begun.elapsed(&rt).ok()?;
+    dialer.hang_up(link);
+    if failed { Some(waited) } else { None }
+}
+
+/// Starts programs one after the other, of which each tells this process by a signal that it has ended.
+fn start_often(rt: HostRuntime, times: u32) -> u32 {
+    let mut started = 0u32;
+    for _ in 0..times {
+        let Ok(mut command) = Command::new(rt.alloc(), "/bin/true") else {
+            continue;
+        };
+        if command.status(&rt).is_ok() {
+            started = started.saturating_add(1);
+        }
+    }
+    started
+}
+
+#[test]
+fn a_wait_ends_though_signals_come(rt: HostRuntime) -> Result<(), Fail> {
+    let alloc = rt.alloc();
+    let door = TcpDoor::open(rt, alloc, LOCALHOST, 0, everybody(alloc));
+    let port = door.port().ok_or("port")?;
+    let mut dialer = TcpDialer::waiting(rt, Notices::Never, Duration::from_millis(400));
+    let name = host(alloc, b"127.0.0.1")?;
+    let (waited, started) = thread::join(
+        &rt,
+        move || time_to_fail(rt, &mut dialer, &name, port),
+        || start_often(rt, 1500),
+    );
+    assert_eq!(rt; started, 1500);
+    let waited = waited.ok_or("no fault")?;
+    assert!(rt; Duration::from_millis(400) <= waited && waited < Duration::from_millis(1200));
+    Ok(())
 }

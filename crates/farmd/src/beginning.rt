@@ -35,6 +35,13 @@ pub fn tell_beginning<R: Eprint + Env + Files + AllocGlobal>(
     Ok(())
 }
 
+/// Tells where the folder for the files of compiles isn't there.
+pub fn tell_folder<R: Eprint + Files>(rt: &R, folder: &str) {
+    if !fs::metadata(rt, folder).is_ok_and(|found| found.is_dir()) {
+        let _ = eprintln!(rt; "farmd: {folder}: no folder for files of compiles, see TMPDIR");
+    }
+}
+
 /// Whether the user of this process is root. Where there is no `/proc` that isn't known.
 pub fn is_root<R: Files>(rt: &R) -> bool {
     fs::metadata(rt, "/proc/self").is_ok_and(|found| found.uid() == 0)

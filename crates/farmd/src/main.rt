@@ -9,13 +9,13 @@ ghost use Rattle.daemon_words.specs.Commands.{trusts};
 ghost use Rattle.edge_real.specs.Views.{policy_of as station_policy};
 
 use access_list::AccessList;
-use beginning::{is_root, tell_beginning};
+use beginning::{is_root, tell_beginning, tell_folder};
 use daemon_program::{DoorPlace, door_place, farmd};
 use daemon_words::{Command, Options, parse_words, rules_of, settings_of, trusts_options};
 use daemon_worker::DoorKit;
 use edge_real::{
-    ChildStation, HeldStreams, PendingRemoval, SharedRemoval, StdSink, TcpDoor, WaitingStream,
-    WordPolicy, command_words, current_folder, own_folder,
+    ChildStation, HeldStreams, PendingRemoval, ServingRules, SharedRemoval, SharedWatch, StdSink,
+    TcpDoor, WaitingStream, WordPolicy, command_words, current_folder, own_folder,
 };
 use farm_types::exits::{FAULT, NO_MEMORY};
 use log::warn;
@@ -23,9 +23,12 @@ use std::alloc::AllocError;
 use std::net::{TcpListener, TcpStream};
 use std::process::ExitCode;
 use std::sync::Arc;
+use std::time::Duration;
 
 /// The doors and stations of the system.
-type SystemDoor = DoorKit<ListeningDoor, ChildStation<HostRuntime>>;
+type SystemDoor = DoorKit<ListeningDoor, ChildStation<HostRuntime, Option<SystemWatch>>>;
+
+type SystemWatch = SharedWatch<HostRuntime, TcpListener, TcpStream>;
 
 type ListeningDoor = TcpDoor<HostRuntime, TcpListener, TcpStream>;
 
@@ -59,6 +62,20 @@ fn policy_of(words: &[String]) -> WordPolicy
     }
 }
 
+// How the stations serve others, by these words.
+fn serving_rules(words: &[String]) -> ServingRules
+    ensures trusted { trusts (map string_bytes words.now) ≡ true → result.policy ≡ WordPolicy.AllWords }
+    ensures tested { trusts (map string_bytes words.now) ≡ false → result.policy ≡ WordPolicy.ServedWords }
+{
+    ServingRules {
+        policy: policy_of(words),
+        lifetime: Some(Duration::from_secs(JOB_LIFETIME_SECS)),
+    }
+}
+
+/// How long a compile may take.
+const JOB_LIFETIME_SECS: u64 = 600;
+
 // Who is let in, as the words say.
 fn access_of(rt: &HostRuntime, words: &[String]) -> Result<AccessList, AllocError> {
     Ok(AccessList {
@@ -77,23 +94,37 @@ fn lets_all_in(options: &Option<Options>) -> bool {
 /// The first number of the addresses by which a machine reaches itself.
 const LOOPBACK: u32 = 127;
 
+// A door, and the watch for the runs of its connections. Where the system gives none, they go on without.
+fn watched(
+    rt: &HostRuntime,
+    door: ListeningDoor,
+) -> Result<(ListeningDoor, Option<SystemWatch>), AllocError> {
+    let Ok(watch) = door.watch(rt.alloc()) else {
+        warn!(rt; "a door doesn't see that a peer goes");
+        return Ok((door, None));
+    };
+    let watch: SystemWatch = Arc::new(rt.alloc(), watch)?;
+    Ok((door.watching(Arc::try_clone(&watch)?), Some(watch)))
+}
+
 // A door and a station for it, which runs what others send. The folders of its runs are in the system's folder for such files, and the door removes
 // them.
 fn kit_of(
     rt: &HostRuntime,
     door: ListeningDoor,
-    policy: WordPolicy,
+    rules: ServingRules,
 ) -> Result<SystemDoor, AllocError>
-    ensures { IfOk result (λ kit. station_policy kit.station ≡ Some policy) }
+    ensures { IfOk result (λ kit. station_policy kit.station ≡ Some rules.policy) }
 {
     let folder = own_folder(rt)?;
     let here = current_folder(rt)?;
     let removal = PendingRemoval::new(rt.alloc(), own_folder(rt)?);
     let removal: SharedRemoval = Arc::new(rt.alloc(), removal)?;
     let door = door.removing(Arc::try_clone(&removal)?);
+    let (door, watch) = watched(rt, door)?;
     Ok(DoorKit {
         door,
-        station: ChildStation::serving(*rt, folder, here, policy, Some(removal)),
+        station: ChildStation::serving(*rt, folder, here, rules, Some(removal), watch),
     })
 }
 
@@ -102,16 +133,16 @@ fn open_doors(
     rt: &HostRuntime,
     first: ListeningDoor,
     count: u32,
-    policy: WordPolicy,
+    rules: ServingRules,
 ) -> Result<Vec<SystemDoor>, AllocError>
     requires { 1 ≤ count }
     ensures { IfOk result (λ doors. length doors.items ≡ count) }
 {
     let mut doors = Vec::new(rt.alloc());
     for _ in 1..count {
-        doors.push(kit_of(rt, first.share(), policy)?)?;
+        doors.push(kit_of(rt, first.share(), rules)?)?;
     }
-    doors.push(kit_of(rt, first, policy)?)?;
+    doors.push(kit_of(rt, first, rules)?)?;
     Ok(doors)
 }
 
@@ -121,7 +152,7 @@ fn doors_at(
     words: &[String],
     place: Option<DoorPlace>,
     access: AccessList,
-    policy: WordPolicy,
+    rules: ServingRules,
 ) -> Result<Vec<SystemDoor>, AllocError>
     requires { IfSome place (λ place. place.doors ≤ workers_max) }
     ensures some { IfOk result (λ doors. 1 ≤ length doors.items) }
@@ -137,9 +168,9 @@ fn doors_at(
             if let Some(port) = first.port() {
                 tell_beginning(rt, words, &place, port)?;
             }
-            open_doors(rt, first, place.doors, policy)
+            open_doors(rt, first, place.doors, rules)
         }
-        _ => open_doors(rt, TcpDoor::closed(*rt), 1, policy),
+        _ => open_doors(rt, TcpDoor::closed(*rt), 1, rules),
     }
 }
 
@@ -157,13 +188,16 @@ fn doors_of(rt: &HostRuntime) -> Result<(Vec<String>, Vec<SystemDoor>), AllocErr
     if options.is_some() && is_root(rt) {
         warn!(rt; "the compilers run as root, since farmd does");
     }
+    if options.is_some() {
+        tell_folder(rt, own_folder(rt)?.as_str());
+    }
     let access = access_of(rt, words.as_slice())?;
     let doors = doors_at(
         rt,
         words.as_slice(),
         place,
         access,
-        policy_of(words.as_slice()),
+        serving_rules(words.as_slice()),
     )?;
     Ok((words, doors))
 }
