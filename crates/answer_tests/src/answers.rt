@@ -5,12 +5,9 @@ ghost use Rattle.edge_traits.specs.Told.{told};
 
 use crate::same::{same, same_bytes};
 use edge_traits::{EdgeFault, Sink};
-use farm_answers::{
-    answer_help, answer_hosts, answer_scan, answer_version, refuse_job_list, refuse_period,
-    refuse_unread, refuse_words,
-};
+use farm_answers::{Refusal, Text, class_line, list_hosts, refuse};
 use farm_types::Bytes;
-use farm_words::CommandName;
+use farm_words::{CommandName, help_text, version_text};
 use job_list::JobFault;
 use std::alloc::{AllocError, Global};
 use std::process::Abort;
@@ -60,22 +57,29 @@ fn words_of(alloc: Global, line: &str) -> Result<Vec<String>, AllocError> {
     Ok(words)
 }
 
-fn scan<S: Sink>(alloc: Global, line: &str, out: &mut S, err: &mut S) -> Result<u8, AllocError> {
-    let words = words_of(alloc, line)?;
-    Ok(answer_scan(alloc, words.as_slice(), out, err))
+/// The text that is asked for, or why there is none.
+fn text_for(alloc: Global, ask: Ask) -> Result<Result<Text, Refusal>, AllocError> {
+    Ok(match ask {
+        Ask::Hosts(text) => list_hosts(alloc, text.as_bytes()),
+        Ask::Jobs(line, fault) => Err(Refusal::Jobs {
+            line,
+            fault,
+            text: Bytes::new(alloc),
+        }),
+        Ask::Period => Err(Refusal::Period),
+        Ask::Scan(line) => Ok(Text::Made(class_line(alloc, words_of(alloc, line)?.as_slice())?)),
+        Ask::Words(place) => Err(Refusal::Words { place }),
+        Ask::Unread => Err(Refusal::Unread),
+        Ask::Help(name) => Ok(Text::Fixed(help_text(name))),
+        Ask::Version => Ok(Text::Fixed(version_text())),
+    })
 }
 
 fn answer<S: Sink>(alloc: Global, ask: Ask, out: &mut S, err: &mut S) -> Result<u8, AllocError> {
-    match ask {
-        Ask::Hosts(text) => Ok(answer_hosts(alloc, text.as_bytes(), out, err)),
-        Ask::Jobs(line, fault) => Ok(refuse_job_list(alloc, line, fault, out, err)),
-        Ask::Period => Ok(refuse_period(out, err)),
-        Ask::Scan(line) => scan(alloc, line, out, err),
-        Ask::Words(place) => Ok(refuse_words(alloc, place, out, err)),
-        Ask::Unread => Ok(refuse_unread(out, err)),
-        Ask::Help(name) => Ok(answer_help(name, out, err)),
-        Ask::Version => Ok(answer_version(out, err)),
-    }
+    Ok(match text_for(alloc, ask)? {
+        Ok(text) => farm_answers::answer(&text, out, err),
+        Err(refusal) => refuse(alloc, &refusal, out, err),
+    })
 }
 
 /// What is asked, the exit status, and what is printed on each sink.

@@ -1,44 +1,37 @@
 // What a refusal is told as in plain words, on the standard error, behind the line that has its numbers.
-use farm_words::{Command, back_off_period, host_text, lookup, parse_command};
-use host_list::HostError;
-use job_graph::GraphError;
-use job_list::JobError;
+use farm_program::Refusal;
+use farm_words::{Command, host_text, lookup};
+use host_list::HostFault;
 use refusal_notes::{Advice, advice_on, host_reason, job_reason, needs_reason};
-use std::alloc::Global;
 use std::fmt::{self, Display, Formatter};
 use std::io::Eprint;
 
-/// What a run was given: the words of the command line, the variables, and as much of the job list as was kept.
-#[derive(Drop)]
+/// What a run was given: the words of the command line, the command that they are, and the variables.
+#[derive(Clone, Copy)]
 pub struct Given<'a> {
     pub words: &'a [String],
+    pub command: Option<Command<'a>>,
     pub variables: &'a [(String, String)],
-    pub list: &'a [u8],
 }
 
-/// Tells why this was refused, where it was: words, a period, a host list, a job list or a job graph.
-pub fn tell_refusal<R: Eprint>(rt: &R, alloc: Global, given: &Given<'_>) {
-    match parse_command(given.words) {
-        Err(place) => tell_words(rt, given.words, place),
-        Ok(Command::Build(options) | Command::Watch(options)) => {
-            let fits = fits_period(rt, given) && fit_hosts(rt, alloc, given, options.hosts);
-            if fits {
-                tell_jobs(rt, alloc, given.list);
-            }
+/// Tells why this was refused.
+pub fn tell_refusal<R: Eprint>(rt: &R, given: Given<'_>, refusal: &Refusal) {
+    match refusal {
+        Refusal::Words { place } => tell_words(rt, given.words, *place),
+        Refusal::Period => tell_period(rt, given.variables),
+        Refusal::Hosts { at, fault } => tell_hosts(rt, given, *at, *fault),
+        Refusal::Jobs { line, fault, text } => {
+            tell_line(rt, text.as_slice(), *line, job_reason(*fault))
         }
-        Ok(Command::Graph(options)) => {
-            let fits = fits_period(rt, given) && fit_hosts(rt, alloc, given, options.hosts);
-            if fits {
-                tell_graph(rt, alloc, given.list);
-            }
+        Refusal::Needs { line, fault, text } => {
+            tell_line(rt, text.as_slice(), *line, needs_reason(*fault))
         }
-        Ok(Command::Cc { .. }) => {
-            let _ = fits_period(rt, given) && fit_hosts(rt, alloc, given, None);
+        Refusal::Cycle { .. } => {
+            let _ = eprintln!(rt;
+                "farm: each of these jobs needs the next one, and the last the first"
+            );
         }
-        Ok(Command::Hosts { hosts }) => {
-            let _ = fit_hosts(rt, alloc, given, hosts);
-        }
-        Ok(_) => {}
+        Refusal::Unread | Refusal::Memory => {}
     }
 }
 
@@ -70,25 +63,29 @@ fn tell_words<R: Eprint>(rt: &R, words: &[String], place: usize) {
     };
 }
 
-// Whether the period fits. One that doesn't is told.
-fn fits_period<R: Eprint>(rt: &R, given: &Given<'_>) -> bool {
-    if back_off_period(given.variables).is_some() {
-        return true;
-    }
-    let value = lookup(given.variables, "DISTCC_BACKOFF_PERIOD").unwrap_or("");
+fn tell_period<R: Eprint>(rt: &R, variables: &[(String, String)]) {
+    let value = lookup(variables, "DISTCC_BACKOFF_PERIOD").unwrap_or("");
     let value = Shown(value.as_bytes());
     let _ = eprintln!(rt;
         "farm: DISTCC_BACKOFF_PERIOD is {value}: a number of seconds from 0 to 1000000 is taken"
     );
-    false
 }
 
-// Whether the host list has no fault. One that has is told, by the word with the fault.
-fn fit_hosts<R: Eprint>(rt: &R, alloc: Global, given: &Given<'_>, option: Option<&str>) -> bool {
+// The text of the option `--hosts`, where the command has it.
+fn hosts_option<'a>(command: Option<Command<'a>>) -> Option<&'a str> {
+    match command {
+        Some(Command::Build(options) | Command::Watch(options) | Command::Graph(options)) => {
+            options.hosts
+        }
+        Some(Command::Hosts { hosts }) => hosts,
+        _ => None,
+    }
+}
+
+// Tells a fault of the host list, by the word that has it.
+fn tell_hosts<R: Eprint>(rt: &R, given: Given<'_>, at: u64, fault: HostFault) {
+    let option = hosts_option(given.command);
     let text = host_text(option, given.variables).as_bytes();
-    let Err(HostError::Fault { at, fault }) = host_list::parse(alloc, text) else {
-        return true;
-    };
     let origin = if option.is_some() {
         "--hosts"
     } else {
@@ -96,26 +93,6 @@ fn fit_hosts<R: Eprint>(rt: &R, alloc: Global, given: &Given<'_>, option: Option
     };
     let word = Shown(word_around(text, usize::try_from(at).unwrap_or(0)));
     let _ = eprintln!(rt; "farm: {word} of {origin}: {}", host_reason(fault));
-    false
-}
-
-fn tell_jobs<R: Eprint>(rt: &R, alloc: Global, list: &[u8]) {
-    if let Err(JobError::Fault { line, fault }) = job_list::parse(alloc, list) {
-        tell_line(rt, list, line, job_reason(fault));
-    }
-}
-
-fn tell_graph<R: Eprint>(rt: &R, alloc: Global, list: &[u8]) {
-    match job_graph::parse(alloc, list) {
-        Err(GraphError::Jobs { line, fault }) => tell_line(rt, list, line, job_reason(fault)),
-        Err(GraphError::Fault { line, fault }) => tell_line(rt, list, line, needs_reason(fault)),
-        Err(GraphError::Cycle(_)) => {
-            let _ = eprintln!(rt;
-                "farm: each of these jobs needs the next one, and the last the first"
-            );
-        }
-        Ok(_) | Err(GraphError::Memory) => {}
-    }
 }
 
 // Tells why a line of the job list is wrong, or the whole list, which is line 0.
@@ -130,22 +107,11 @@ fn tell_line<R: Eprint>(rt: &R, list: &[u8], line: u32, reason: &str) {
     };
 }
 
-/// Tells the first line of a job list that ends with CR LF, since the CR is a part of the line.
-pub fn tell_carriage_return<R: Eprint>(rt: &R, list: &[u8]) {
-    let mut line = 1u32;
-    let mut is_return = false;
-    for byte in list {
-        if *byte == b'\n' {
-            if is_return {
-                let _ = eprintln!(rt;
-                    "farm: line {line} of the job list ends with CR LF: the CR is a part of its last word"
-                );
-                return;
-            }
-            line = line.saturating_add(1);
-        }
-        is_return = *byte == b'\r';
-    }
+/// Tells a line of the job list that ends with CR LF, since the CR is a part of the line.
+pub fn tell_carriage_return<R: Eprint>(rt: &R, line: u32) {
+    let _ = eprintln!(rt;
+        "farm: line {line} of the job list ends with CR LF: the CR is a part of its last word"
+    );
 }
 
 // The run without blanks that holds the byte at a place.

@@ -1,12 +1,14 @@
 //! The public call of the program.
-ghost use Rattle.std.specs.Prelude.{◌≡◌, ◌⊎◌, IsTrue, false, ℕ, List, [], map, string_bytes};
+ghost use Rattle.std.specs.Prelude.{◌≡◌, ◌⊎◌, IsTrue, false, ℕ, List, [], Some, map, string_bytes};
 ghost use Rattle.farm_types.specs.Exits.{bad_words_status, memory_status};
 ghost use Rattle.farm_types.specs.declared.jobs.JobConfig.{JobConfig};
 ghost use Rattle.edge_traits.specs.Keepers.{IsIdle};
 ghost use Rattle.stream_print.specs.Printing.{complaint};
+ghost use Rattle.stream_print.specs.Prints.{sinks_view};
 ghost use Rattle.farm_machine.specs.Devices.{devices};
 ghost use Rattle.job_list.specs.Jobs.{JobsOf};
 ghost use Rattle.farm_words.specs.Commands.{BadAt, IsCommand, Meaning, meaning};
+ghost use Rattle.farm_answers.specs.Refusals.{Refuses};
 ghost use Rattle.farm_answers.specs.Texts.{bad_words_text};
 ghost use Rattle.farm_program.specs.Worlds.{AreReady, world, OnlyPrinted};
 ghost use Rattle.farm_program.specs.Smooth.{IsSmooth, Completed, WatchCompleted};
@@ -16,21 +18,38 @@ ghost use Rattle.farm_program.specs.GraphBuilds.{GraphCompleted};
 ghost use Rattle.job_graph.specs.Graphs.{GraphOf};
 ghost use Rattle.job_graph.specs.declared.graph.Graph.{Graph};
 
-use crate::by_hosts::{BuildCall, BuildWay, build_by, command_by};
-use crate::jobs::Ended;
-use crate::rehearsing::run_rehearsal;
+use crate::decide::{Invocation, decide};
+use crate::jobs::BuiltList;
+use crate::tell::tell;
+use crate::work::carry_out;
 use edge_traits::{Clock, Dialer, Keeper, Kit, Sink, Source, Station};
-use farm_answers::{answer_help, answer_hosts, answer_scan, answer_version, refuse_words};
-use farm_words::{Command, host_text, parse_command};
+use farm_answers::{Refusal, refuse};
+use farm_words::parse_command;
 use std::alloc::Global;
 use std::sync::Wait;
 use std::thread::Threads;
 
-/// A call of the program: its command, and the environment.
-#[derive(Clone, Copy)]
-struct Invocation<'a> {
-    command: Command<'a>,
-    env: &'a [(String, String)],
+/// How `farm` ended: its exit status, what was built, and why nothing was, where it was refused.
+#[derive(Drop)]
+pub struct Ended {
+    pub status: u8,
+    pub built: BuiltList,
+    pub refusal: Option<Refusal>,
+}
+
+// Prints why nothing is done.
+fn end_refused<O: Sink, E: Sink>(alloc: Global, refusal: Refusal, out: &mut O, err: &mut E) -> Ended
+    ensures none { result.built ≡ [] }
+    ensures told { Refuses refusal (sinks_view O.shows E.shows out.old err.old)
+        (sinks_view O.shows E.shows out.new err.new) result.status }
+    ensures handed { result.refusal ≡ Some refusal }
+{
+    let status = refuse(alloc, &refusal, out, err);
+    Ended {
+        status,
+        built: BuiltList::new(alloc),
+        refusal: Some(refusal),
+    }
 }
 
 // Does a command, and answers its exit status.
@@ -63,41 +82,17 @@ where
         (world R.shows O.shows E.shows input.new kits.new.items out.new err.new result.built)
         result.status (meaning call.entry.command) }
 {
-    let Invocation { command, env } = call;
-    match command {
-        Command::Build(options) => {
-            let call = BuildCall {
-                way: BuildWay::List,
-                options,
-                env,
-            };
-            build_by(rt, alloc, call, input, kits, out, err)
-        }
-        Command::Watch(options) => {
-            let call = BuildCall {
-                way: BuildWay::Watched,
-                options,
-                env,
-            };
-            build_by(rt, alloc, call, input, kits, out, err)
-        }
-        Command::Graph(options) => {
-            let call = BuildCall {
-                way: BuildWay::Graph,
-                options,
-                env,
-            };
-            build_by(rt, alloc, call, input, kits, out, err)
-        }
-        Command::Cc { words } => command_by(rt, alloc, words, env, kits, out, err),
-        Command::Hosts { hosts } => {
-            let text = host_text(hosts, env).as_bytes();
-            Ended::without_jobs(alloc, answer_hosts(alloc, text, out, err))
-        }
-        Command::Scan { words } => Ended::without_jobs(alloc, answer_scan(alloc, words, out, err)),
-        Command::Rehearse { jobs } => run_rehearsal(rt, alloc, jobs, out, err),
-        Command::Help(name) => Ended::without_jobs(alloc, answer_help(name, out, err)),
-        Command::Version => Ended::without_jobs(alloc, answer_version(out, err)),
+    let work = match decide(alloc, call, input) {
+        Ok(work) => work,
+        Err(refusal) => return end_refused(alloc, refusal, out, err),
+    };
+    match carry_out(rt, alloc, work, kits, err) {
+        Ok(done) => Ended {
+            status: tell(alloc, &done, out, err),
+            built: done.into_built(alloc),
+            refusal: None,
+        },
+        Err(_) => end_refused(alloc, Refusal::Memory, out, err),
     }
 }
 
@@ -188,6 +183,6 @@ where
             let call = Invocation { command, env };
             answer(rt, alloc, call, input, kits, out, err)
         }
-        Err(place) => Ended::without_jobs(alloc, refuse_words(alloc, place, out, err)),
+        Err(place) => end_refused(alloc, Refusal::Words { place }, out, err),
     }
 }

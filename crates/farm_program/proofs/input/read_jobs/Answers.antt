@@ -1,4 +1,4 @@
-use Rattle.std.proofs.Common.{List, ℕ, subst}
+use Rattle.std.proofs.Common.{List, ℕ, inr, subst}
 use Rattle.std.proofs.lemmas.Result.{err_from_is_err_and}
 use Rattle.job_list.specs.Jobs.{JobFaultStands}
 use Rattle.farm_program.specs.Builds.{whole_text}
@@ -14,6 +14,8 @@ returns-in_err-text-clause-fault g c =
 pub returns-in-Err-Fault-clause-fault : goal.returns-in-Err-Fault-clause-fault
 returns-in-Err-Fault-clause-fault g c =
     let stands : JobFaultStands c.as_slice.result.now c.in-Err-Fault.line c.in-Err-Fault.fault =
-    rw c.in-Err-Fault.field-0-is at c.in-Err-Fault.ensures.fault in
-    whole_text c.in_ok-text.ensures.text
-    (subst (λ (t : List ℕ). JobFaultStands t c.in-Err-Fault.line c.in-Err-Fault.fault) c.as_slice.ensures stands)
+    rw c.in-Err-Fault.field-0-is at c.in-Err-Fault.ensures.fault in (
+      whole_text c.in_ok-text.ensures.text
+          (subst (λ (t : List ℕ). JobFaultStands t c.in-Err-Fault.line c.in-Err-Fault.fault) c.as_slice.ensures stands),
+      inr c.in_ok-text.ensures.text,
+    )

@@ -1,0 +1,7 @@
+pub mod Again
+pub mod Clang
+pub mod Handed
+pub mod Held
+pub mod Outputs
+pub mod Starts
+pub mod Stations

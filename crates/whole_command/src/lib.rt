@@ -1,0 +1,20 @@
+//! The command of `farm cc` as it stands: when it is run here in place of a job, and how.
+#![tactic(auto)]
+
+mod again;
+mod clang;
+mod handed;
+mod held;
+mod outputs;
+mod running;
+mod station;
+mod words;
+
+pub use again::runs_again;
+pub use clang::needs_folder;
+pub use handed::handed_descriptors;
+pub use held::HeldSink;
+pub use outputs::{Found, found_at, takes_whole_command};
+pub use running::run_whole;
+pub use station::PreprocessorStation;
+pub use words::{Descriptor, Given, Mode, Whole, command_of};
