@@ -1,12 +1,12 @@
 //! A run of a command as it stands.
 
-use crate::words::{Whole, command_of};
+use crate::words::{Given, Whole, command_of};
 use farm_types::exit_code;
 use farm_types::exits::FAULT;
 use std::alloc::AllocError;
-use std::io::{Eprint, Error};
+use std::io::Eprint;
 use std::os::unix::process::ExitStatusExt;
-use std::process::{Command, ExitStatus, Processes};
+use std::process::{ExitStatus, Processes};
 
 /// Runs a command as it stands, and returns its exit code.
 ///
@@ -17,29 +17,28 @@ pub fn run_whole<R: Processes + Eprint + AllocGlobal>(
     whole: &Whole<'_>,
 ) -> Result<u8, AllocError> {
     let mut command = command_of(rt.alloc(), whole)?;
+    let program = program_of(whole.given);
     Ok(match command.status(rt) {
-        Ok(status) => number_of(rt, &command, status),
+        Ok(status) => number_of(rt, program, status),
         Err(error) => {
-            tell_unstarted(rt, &command, &error);
+            let _ = eprintln!(rt; "farm: {program}: cannot be started: {error}");
             FAULT
         }
     })
 }
 
-// The exit code of a command that ended.
-fn number_of<R: Eprint>(rt: &R, command: &Command, status: ExitStatus) -> u8 {
-    if let Some(signal) = status.signal() {
-        let _ = eprintln!(rt;
-            "farm: {}: killed by signal {signal}",
-            command.get_program()
-        );
+// The name of the program, as far as it is known.
+fn program_of(given: Given<'_>) -> &str {
+    match given {
+        Given::Words([program, ..]) => program.as_str(),
+        Given::Words([]) | Given::OwnLine => "the command",
     }
-    exit_code(status.into_raw().cast_unsigned())
 }
 
-fn tell_unstarted<R: Eprint>(rt: &R, command: &Command, error: &Error) {
-    let _ = eprintln!(rt;
-        "farm: {}: cannot be started: {error}",
-        command.get_program()
-    );
+// The exit code of a command that ended.
+fn number_of<R: Eprint>(rt: &R, program: &str, status: ExitStatus) -> u8 {
+    if let Some(signal) = status.signal() {
+        let _ = eprintln!(rt; "farm: {program}: killed by signal {signal}");
+    }
+    exit_code(status.into_raw().cast_unsigned())
 }
