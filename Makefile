@@ -11,7 +11,7 @@ boxes = $(DESTDIR)$(PREFIX)/lib/farmd
 BOXED = gcc g++ cc c++ clang clang++
 defaults = $(DESTDIR)/etc/default
 
-.PHONY: bench bench-jobs bench-wire build checks demo dist gate install test test-all uninstall
+.PHONY: bench bench-jobs bench-wire build checks demo dist edits gate install quick test test-all uninstall
 
 # The farm whole: farm with two farmds on loopback, of which one is killed in the middle of a build. Where no proved programs are, they are built for
 # this run alone, without proofs.
@@ -28,7 +28,15 @@ test: gate checks
 gate:
 	rt ci
 
-# The map of the crates, the list of what has to be believed, and whether each edit still turns a text. Then farm with a real distccd, in an odd environment, objects on a real disk, faults of a
+# The first thing to run after a change: all tests, and the checks of tests/ that need farm and farmd only, without a proof, in some ten minutes.
+quick:
+	tools/quick
+
+# Has the prover try each edit that it has to refuse, those beside the gate's too, in some hours.
+edits:
+	tools/more-edits --all
+
+# The map of the crates, the list of what has to be believed, whether each edit still turns a text, and what makes functions hard to read. Then farm with a real distccd, in an odd environment, objects on a real disk, faults of a
 # real machine, runs with an allocation refused, real clients of farmd, mutated requests for it, the options that it lets through and those that it doesn't,
 # its cache, whole projects, dependency files, two hosts in turn, sources that become a program, the manual pages, the installation and the demonstration;
 # each is skipped where what it needs isn't installed.
@@ -36,6 +44,7 @@ checks:
 	tools/layers
 	tools/believed
 	tools/more-edits
+	tools/shape
 	tests/interop
 	tests/environment
 	tests/delivery
