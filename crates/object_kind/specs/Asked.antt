@@ -1,8 +1,8 @@
 -- The kind of object that a command asks for.
-use Rattle.std.specs.Prelude.{ℕ, Bool, true, false, not, ◌&&◌, ◌||◌, nat_eq, List, [], ◌∷◌, codes, bytes_eq, if◌then◌else◌}
+use Rattle.std.specs.Prelude.{ℕ, Bool, true, false, not, ◌&&◌, ◌||◌, nat_eq, List, ◌∷◌, codes, bytes_eq, if◌then◌else◌}
 use Rattle.std.specs.List.{list_any, starts_with}
 use Rattle.farm_types.specs.declared.placed.Word.{Word}
-use Rattle.farm_types.specs.declared.placed.Word.TheVariants.{Text, Input, Output}
+use Rattle.farm_types.specs.declared.placed.Word.TheVariants.{Text}
 use Rattle.object_kind.specs.Drivers.{is_driver}
 use Rattle.object_kind.specs.Formats.{is_elf, is_mach, is_coff, is_wasm, is_bitcode, is_text}
 

@@ -19,4 +19,5 @@ reaching_fronts = codes "-fplugin" ∷ codes "-fpass-plugin" ∷ codes "-fmodule
     ∷ codes "-fbasic-block-sections=list" ∷ codes "-frandomize-layout-seed-file" ∷ codes "-frewrite-map-file" ∷ codes "-fdepscan"
     ∷ codes "-fcas-" ∷ codes "-fsycl" ∷ codes "-fintrinsic-modules-path" ∷ codes "-ftrapv-handler" ∷ codes "-fdebug-compilation-dir"
     ∷ codes "-filelist" ∷ codes "-meabi" ∷ codes "-mthread-model" ∷ codes "-mmlir" ∷ codes "-mlink-" ∷ codes "-gsplit-dwarf"
-    ∷ codes "-gcc-toolchain" ∷ codes "-gnat" ∷ []
+    ∷ codes "-gcc-toolchain" ∷ codes "-gnat" ∷ codes "-freport-bug"
+    ∷ codes "-fvtv-" ∷ codes "-fpre-include" ∷ []

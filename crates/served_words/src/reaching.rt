@@ -6,7 +6,7 @@ ghost use Rattle.served_words.specs.Served.{reaches_out};
 use crate::lists::begins;
 
 /// What a word begins with that would have a compiler load or run a program, read or write a file beside its source and its object, take the next word, or compile otherwise than once. None of these is let through.
-const REACHING_FRONTS: [&str; 72] = [
+const REACHING_FRONTS: [&str; 75] = [
     "-fplugin",
     "-fpass-plugin",
     "-fmodule",
@@ -79,12 +79,15 @@ const REACHING_FRONTS: [&str; 72] = [
     "-gsplit-dwarf",
     "-gcc-toolchain",
     "-gnat",
+    "-freport-bug",
+    "-fvtv-",
+    "-fpre-include",
 ];
 
 /// Whether the word begins with one of `REACHING_FRONTS`.
 pub fn reaches_out(word: &[u8]) -> bool
     ensures { result ≡ reaches_out word.now }
 {
-    let spellings: [&str; 72] = REACHING_FRONTS;
+    let spellings: [&str; 75] = REACHING_FRONTS;
     begins(spellings.as_slice(), word)
 }
