@@ -1,11 +1,14 @@
 -- What a station that serves others runs, and what it answers in place of a run.
-use Rattle.std.specs.Prelude.{ℕ, Bool, not, List, [], ◌∷◌, ◌++◌, take, codes, slice_get, Option, None, Some, Result, Ok, Err, ◌≡◌}
+use Rattle.std.specs.Prelude.{ℕ, Bool, true, not, List, [], ◌∷◌, ◌++◌, take, map, codes, string_bytes, slice_get, Option, None, Some, Result, Ok, Err}
+use Rattle.std.specs.Prelude.{◌≡◌}
 use Rattle.std.specs.Option.{is_some}
 use Rattle.farm_types.specs.declared.placed.Word.{Word}
 use Rattle.farm_types.specs.declared.placed.Word.TheVariants.{Text, Input, Output}
 use Rattle.farm_types.specs.declared.ran.Ran.{Ran}
 use Rattle.edge_traits.specs.declared.faults.StationFault.{StationFault}
 use Rattle.edge_traits.specs.declared.faults.StationFault.TheVariants.{Memory}
+use Rattle.edge_traits.specs.Stations.{has_output}
+use Rattle.object_kind.specs.Asked.{is_asked_kind}
 use Rattle.served_words.specs.Served.{first_unserved}
 use Rattle.edge_real.specs.declared.child.WordPolicy.{WordPolicy}
 use Rattle.edge_real.specs.declared.child.WordPolicy.TheVariants.{ServedWords, AllWords}
@@ -14,7 +17,7 @@ use Rattle.edge_real.specs.declared.child.WordPolicy.TheVariants.{ServedWords, A
 abbrev pub unserved_place : Option WordPolicy → List Word → Option ℕ
 unserved_place None words = None
 unserved_place (Some AllWords) words = None
-unserved_place (Some ServedWords) words = first_unserved words
+unserved_place (Some (ServedWords tools)) words = first_unserved words (map string_bytes tools.items)
 
 -- the words may run: each is let through, or they need not be
 abbrev pub are_let_through : Option WordPolicy → List Word → Bool
@@ -43,6 +46,10 @@ unserved_reply bound words place = record {
   err = take bound (unserved_message (slice_get words place));
   object = [];
 }
+
+-- What a program of status 0 left is an object of the kind that the words ask for.
+abbrev pub IsOfKind : List Word → Ran → Type 0
+IsOfKind words ran = ran.status ≡ 0 → has_output words ≡ true → is_asked_kind words ran.object ≡ true
 
 -- the reply that says which word isn't let through, or memory was wanting for it
 abbrev pub IsRefusal : ℕ → List Word → Result Ran StationFault → ℕ → Type 0

@@ -3,7 +3,7 @@ ghost use Rattle.edge_traits.specs.Stations.{IsWithin, has_output};
 ghost use Rattle.edge_real.specs.Counts.{run_faults, run_overruns};
 ghost use Rattle.edge_real.specs.Children.{IsRunFault, NamesNoStream, CanBeGiven, input_path, output_path, needs_folder};
 ghost use Rattle.edge_real.specs.RunFolders.{place_of, bytes_if};
-ghost use Rattle.edge_real.specs.Serving.{are_let_through, unserved_place, IsRefusal};
+ghost use Rattle.edge_real.specs.Serving.{are_let_through, unserved_place, IsOfKind, IsRefusal};
 ghost use Rattle.edge_real.specs.Views.{station_view, counted_station, folder_of, policy_of, policy_in, lifetime_of};
 
 use crate::command::{
@@ -14,7 +14,7 @@ use crate::notices::{tell_overrun, tell_unserved};
 use crate::refusing::refusal_of;
 use crate::run_folder::{RunFolder, SharedRemoval};
 use crate::run_watch::{RunWatch, Unwatched, have_descriptors};
-use crate::running::{Watched, object_left, run_command, run_watched};
+use crate::running::{Watched, object_left, of_asked_kind, run_command, run_watched};
 use edge_traits::{Bounds, Station, StationFault, has_output};
 use farm_types::{Bytes, Ran, Word};
 use served_words::first_unserved;
@@ -27,16 +27,16 @@ use std::rt::{self, Clock};
 use std::time::Duration;
 
 /// Which words a station runs that serves others.
-#[derive(Clone, Copy)]
+#[derive(Drop)]
 pub enum WordPolicy {
-    /// Those that are let through, as `served_words` has it: anybody may send them.
-    ServedWords,
+    /// Those that are let through, as `served_words` has it: anybody may send them. They may name these folders of a compiler's parts.
+    ServedWords { tools: Vec<String> },
     /// All words: whoever sends them is trusted as this process is.
     AllWords,
 }
 
 /// How a station serves others.
-#[derive(Clone, Copy)]
+#[derive(Drop)]
 pub struct ServingRules {
     pub policy: WordPolicy,
     /// How long a program may run before it is killed, if that is bounded.
@@ -142,6 +142,7 @@ impl<R: Processes + rt::Files<File = File> + RandomSource + Eprint + Clock, W: R
         ensures fault { IfErr result (IsRunFault bounds.now) }
         ensures given { are_let_through (policy_of self.old) words.now ≡ true → OnOk result (All CanBeGiven words.now) }
         ensures no_object { IfOk result (λ ran. has_output words.now ≡ false → ran.object ≡ []) }
+        ensures kind { IfOk result (IsOfKind words.now) }
         ensures refused { IfSome (unserved_place (policy_of self.old) words.now) (IsRefusal bounds.now.err words.now result) }
         ensures policy { policy_of self.new ≡ policy_of self.old }
         ensures folder { folder_of self.new ≡ folder_of self.old }
@@ -179,10 +180,10 @@ fn unserved_place<R: Eprint, W>(
     ensures { result ≡ unserved_place (policy_in service.now) words.now }
 {
     let service = service.as_ref()?;
-    match service.rules.policy {
+    match &service.rules.policy {
         WordPolicy::AllWords => None,
-        WordPolicy::ServedWords => {
-            let place = first_unserved(words)?;
+        WordPolicy::ServedWords { tools } => {
+            let place = first_unserved(words, tools.as_slice())?;
             tell_unserved(rt, words, place);
             Some(place)
         }
@@ -203,6 +204,7 @@ fn run_served<R: Processes + rt::Files<File = File> + RandomSource + Eprint + Cl
     ensures fault { IfErr result (IsRunFault bounds.now) }
     ensures given { are_let_through (policy_in service.now) words.now ≡ true → OnOk result (All CanBeGiven words.now) }
     ensures no_object { IfOk result (λ ran. has_output words.now ≡ false → ran.object ≡ []) }
+    ensures kind { IfOk result (IsOfKind words.now) }
     ensures refused { IfSome (unserved_place (policy_in service.now) words.now) (IsRefusal bounds.now.err words.now result) }
 {
     match unserved_place(rt, service, words) {
@@ -226,6 +228,7 @@ fn run_child<R: Processes + rt::Files<File = File> + RandomSource + Eprint + Clo
     ensures fault { IfErr result (IsRunFault bounds.now) }
     ensures given { OnOk result (All CanBeGiven words.now) }
     ensures no_object { IfOk result (λ ran. has_output words.now ≡ false → ran.object ≡ []) }
+    ensures kind { IfOk result (IsOfKind words.now) }
 {
     match service {
         Some(service) => { run_for_others(rt, folder, service, alloc, words, input, bounds) }
@@ -256,6 +259,7 @@ fn run_for_others<
     ensures fault { IfErr result (IsRunFault bounds.now) }
     ensures given { OnOk result (All CanBeGiven words.now) }
     ensures no_object { IfOk result (λ ran. has_output words.now ≡ false → ran.object ≡ []) }
+    ensures kind { IfOk result (IsOfKind words.now) }
 {
     have_descriptors(rt, &service.watch);
     let folder = RunFolder::create(rt, alloc, folder, &service.removal)?;
@@ -269,6 +273,7 @@ fn run_for_others<
     };
     let ended = run_watched(rt, alloc, folder.path(), command, words, &watched)?;
     let object = object_left(rt, alloc, words, &path, ended.status, bounds.object)?;
+    let object = of_asked_kind(rt, words, ended.status, object)?;
     Ok(Ran {
         status: ended.status,
         out: ended.out,
@@ -291,6 +296,7 @@ fn run_with_files<R: Processes + rt::Files<File = File> + RandomSource + Eprint>
     ensures fault { IfErr result (IsRunFault bounds.now) }
     ensures given { OnOk result (All CanBeGiven words.now) }
     ensures no_object { IfOk result (λ ran. has_output words.now ≡ false → ran.object ≡ []) }
+    ensures kind { IfOk result (IsOfKind words.now) }
 {
     let removal = None;
     let folder = RunFolder::create(rt, alloc, folder, &removal)?;
@@ -299,6 +305,7 @@ fn run_with_files<R: Processes + rt::Files<File = File> + RandomSource + Eprint>
     let command = command_of(alloc, words, path_of(&source), path_of(&path))?;
     let ended = run_command(rt, alloc, folder.path(), command, bounds)?;
     let object = object_left(rt, alloc, words, &path, ended.status, bounds.object)?;
+    let object = of_asked_kind(rt, words, ended.status, object)?;
     Ok(Ran {
         status: ended.status,
         out: ended.out,

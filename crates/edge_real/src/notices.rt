@@ -59,6 +59,14 @@ pub fn tell_killed<R: Eprint>(rt: &R, words: &[Word], end: EarlyEnd, lifetime: O
     };
 }
 
+/// The program ended with status 0, and what it left isn't of the kind that was asked for.
+pub fn tell_unasked<R: Eprint>(rt: &R, words: &[Word], bytes: usize) {
+    let _ = eprintln!(rt;
+        "{}: what it left is no object of the asked kind: {bytes} bytes",
+        program_of(words)
+    );
+}
+
 /// The program ended with status 0, and no file stands where its object was to be.
 pub fn tell_missing<R: Eprint>(rt: &R, words: &[Word]) {
     let _ = eprintln!(rt; "{}: left no object", program_of(words));

@@ -1,16 +1,19 @@
 // A program's run, from its start to what it left.
-ghost use Rattle.std.specs.Prelude.{◌≡◌, ◌≢◌, ℕ, ◌≤◌, List, [], length, Option, None, Err, IfSome, IfOk, IfErr};
+ghost use Rattle.std.specs.Prelude.{true, ◌≡◌, ◌≢◌, ℕ, ◌≤◌, List, [], length, Option, None, Err, IfSome, IfOk, IfErr};
 ghost use Rattle.edge_real.specs.Children.{IsRunFault, IsStreamFault, NamesNoStream, taken_of, left_by};
+ghost use Rattle.edge_traits.specs.Stations.{has_output};
+ghost use Rattle.object_kind.specs.Asked.{is_asked_kind};
 ghost use Rattle.edge_real.specs.Reading.{IsReadWithin, IsReadOf, IsLoadFault};
 
 use crate::disk::load;
-use crate::notices::{tell_missing, tell_unstarted};
+use crate::notices::{tell_missing, tell_unasked, tell_unstarted};
 use crate::reading::{Reading, read_to_end};
 use crate::run_folder::nameless_file;
 use crate::run_watch::RunWatch;
 use crate::waiting::wait_watched;
-use edge_traits::{Bounds, FetchFault, StationFault, Stream};
+use edge_traits::{Bounds, FetchFault, StationFault, Stream, has_output};
 use farm_types::{Bytes, Word};
+use object_kind::is_asked_kind;
 use std::alloc::Global;
 use std::fs::File;
 use std::io::{Eprint, Read, Seek};
@@ -105,6 +108,24 @@ pub fn object_left<R: rt::Files + Eprint>(
         tell_missing(rt, words);
     }
     left_by(alloc, loaded, Stream::Object)
+}
+
+/// The object, if it is of the kind that the words ask for. One of another kind, of a program that ended with status 0, is a fault, which is told.
+pub fn of_asked_kind<R: Eprint>(
+    rt: &R,
+    words: &[Word],
+    status: u32,
+    object: Bytes,
+) -> Result<Bytes, StationFault>
+    ensures same { IfOk result (λ bytes. bytes ≡ object) }
+    ensures kind { IfOk result (λ bytes. status ≡ 0 → has_output words.now ≡ true → is_asked_kind words.now bytes ≡ true) }
+    ensures fault { IfErr result NamesNoStream }
+{
+    if status == 0 && has_output(words) && !is_asked_kind(words, object.as_slice()) {
+        tell_unasked(rt, words, object.len());
+        return Err(StationFault::Failed);
+    }
+    Ok(object)
 }
 
 /// A stream of a program that goes to this file.
