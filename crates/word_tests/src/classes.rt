@@ -1,4 +1,5 @@
 use crate::lines::words_of;
+use crate::option_rows::{KEPT_HERE, SENT};
 use crate::same::{holds, same, same_bytes};
 use arg_scan::{Action, Ending, OutputPlace, Plan, Scan, Verdict, Why, classify, scan};
 use farm_types::{Ext, Words};
@@ -93,6 +94,24 @@ fn expect_classes<R: Abort>(rt: &R, alloc: Global, rows: &[Local]) -> Result<(),
 #[test]
 fn the_least_place_and_the_first_reason_count(rt: HostRuntime) -> Result<(), Fail> {
     expect_classes(&rt, rt.alloc(), FIRST_REASON)
+}
+
+#[test]
+fn options_beyond_the_first_rows_keep_a_command_here(rt: HostRuntime) -> Result<(), Fail> {
+    expect_classes(&rt, rt.alloc(), KEPT_HERE)
+}
+
+fn expect_sent<R: Abort>(rt: &R, alloc: Global, lines: &[&str]) -> Result<(), Fail> {
+    for line in lines {
+        let words = words_of(alloc, line)?;
+        holds(rt, matches!(classify(&words), Verdict::Remote(_)), line);
+    }
+    Ok(())
+}
+
+#[test]
+fn options_that_are_known_to_be_safe_are_sent(rt: HostRuntime) -> Result<(), Fail> {
+    expect_sent(&rt, rt.alloc(), SENT)
 }
 
 /// A command that may be sent, and its class.

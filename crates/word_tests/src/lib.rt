@@ -18,6 +18,8 @@ mod job_graphs;
 mod job_lists;
 pub mod lines;
 #[cfg(test)]
+mod option_rows;
+#[cfg(test)]
 mod options;
 #[cfg(test)]
 mod same;

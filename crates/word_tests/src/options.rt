@@ -1,8 +1,9 @@
+use crate::option_rows::{LATER_FORMS, LATER_LONGEST};
 use crate::same::{same, same_bytes};
 use farm_types::Bytes;
 use option_table::{
-    Effect, Form, Found, OptionRow, OptionTable, Spelling, TableFault, gcc_table, is_listing,
-    scc_table,
+    Effect, Form, Found, GCC_ROWS, OptionRow, OptionTable, Spelling, TableFault, gcc_table,
+    is_listing, scc_table,
 };
 use std::alloc::{AllocError, Global};
 use std::process::Abort;
@@ -140,9 +141,7 @@ const OTHERS: &[&str] = &[
     "-g",
     "-march=i386",
     "-target=x",
-    "-Xlinker9",
     "-z9",
-    "--coverages",
     "-wrappers",
 ];
 
@@ -217,13 +216,19 @@ fn each_row_fits_in_each_of_its_forms(rt: HostRuntime) -> Result<(), Fail> {
 }
 
 #[test]
+fn each_later_row_fits_in_each_of_its_forms(rt: HostRuntime) -> Result<(), Fail> {
+    expect_fitting(&rt, rt.alloc(), &gcc_table(), LATER_FORMS)
+}
+
+#[test]
 fn other_words_fit_no_row(rt: HostRuntime) -> Result<(), Fail> {
     expect_none(&rt, rt.alloc(), &gcc_table(), OTHERS)
 }
 
 #[test]
 fn the_longest_spelling_fits(rt: HostRuntime) -> Result<(), Fail> {
-    expect_fitting(&rt, rt.alloc(), &gcc_table(), LONGEST)
+    expect_fitting(&rt, rt.alloc(), &gcc_table(), LONGEST)?;
+    expect_fitting(&rt, rt.alloc(), &gcc_table(), LATER_LONGEST)
 }
 
 #[test]
@@ -240,6 +245,8 @@ const PLACED: &[Placed] = &[
     (21, "-iwithprefixbefore", Form::Either, Effect::Strip),
     (54, "-Wa,", Form::Joined, Effect::Listing),
     (63, "-arch", Form::Next, Effect::Local(21)),
+    (64, "--", Form::Joined, Effect::Local(21)),
+    (195, "-F", Form::Joined, Effect::Strip),
 ];
 
 fn expect_row<R: Abort>(rt: &R, row: &OptionRow, placed: &Placed) {
@@ -249,10 +256,14 @@ fn expect_row<R: Abort>(rt: &R, row: &OptionRow, placed: &Placed) {
     same(rt, &row.effect, effect, at);
 }
 
-fn expect_rows<R: Abort>(rt: &R, table: &OptionTable<64>, rows: &[Placed]) -> Result<(), Fail> {
+fn expect_rows<R: Abort>(
+    rt: &R,
+    table: &OptionTable<GCC_ROWS>,
+    rows: &[Placed],
+) -> Result<(), Fail> {
     for placed in rows {
-        if placed.0 >= 64 {
-            return Err("the table has 64 rows".into());
+        if placed.0 as usize >= GCC_ROWS {
+            return Err("the table has no such row".into());
         }
         expect_row(rt, &table.row(placed.0), placed);
     }
