@@ -4,7 +4,7 @@ use Rattle.std.specs.Prelude.{codes, Option, Some, None, is_some, bytes_eq, ifâ—
 use Rattle.std.specs.List.{list_any, list_all, starts_with, position_or_len}
 use Rattle.std.specs.Option.{option_or, option_map}
 use Rattle.farm_types.specs.declared.placed.Word.{Word}
-use Rattle.farm_types.specs.declared.placed.Word.TheVariants.{Text, Input, Output}
+use Rattle.farm_types.specs.declared.placed.Word.TheVariants.{Text, Output}
 use Rattle.served_words.specs.declared.operand.Operand.{Operand}
 use Rattle.served_words.specs.declared.operand.Operand.TheVariants.{Folder, Flag, Setting}
 use Rattle.served_words.specs.Spellings.{option_words, levels, link_words, long_words, specs_words, name_fronts, path_fronts}
