@@ -13,6 +13,11 @@ use Rattle.served_words.specs.Served.{first_unserved}
 use Rattle.edge_real.specs.declared.child.WordPolicy.{WordPolicy}
 use Rattle.edge_real.specs.declared.child.WordPolicy.TheVariants.{ServedWords, AllWords}
 
+-- the folders of a compiler's parts that words may name
+abbrev pub tools_in : WordPolicy → List (List ℕ)
+tools_in AllWords = []
+tools_in (ServedWords tools) = map string_bytes tools.items
+
 -- the place of the first word that isn't let through, if the words are tested
 abbrev pub unserved_place : Option WordPolicy → List Word → Option ℕ
 unserved_place None words = None

@@ -18,7 +18,7 @@ use edge_traits::{Door, EdgeFault};
 use std::alloc::Global;
 use std::io::{self, Eprint, Error, ErrorKind, Read, Write};
 use std::net::{Ipv4Addr, Net, OpenListener, OpenStream, SocketAddrV4, TcpListener};
-use std::os::fd::AsRawFd;
+use std::os::fd::{AsRawFd, RawFd};
 use std::rt::{Clock, Files};
 use std::sync::{Arc, Mutex, Wait};
 use std::time::Duration;
@@ -222,6 +222,7 @@ fn listen<R: Net>(
 ) -> io::Result<(R::Listener, SharedRoom<R::Listener, R::Stream>)> {
     let listener = TcpListener::bind(rt, place)?;
     listener.set_nonblocking(true)?;
+    lengthen_queue(listener.as_raw_fd());
     let inside = WaitingRoom::new(rt, alloc, listener.try_clone()?, access)?;
     let wants = Wants::new(inside.waker()?);
     let room = Room {
@@ -230,6 +231,15 @@ fn listen<R: Net>(
     };
     Ok((listener, Arc::new(alloc, room)?))
 }
+
+/// Has the system keep more connections for a listener than the library asks for, as many come at once while all doors compile. Where the system
+/// refuses that, it keeps as many as before.
+fn lengthen_queue(listener: RawFd) {
+    let _ = libc::net::listen(listener, QUEUE);
+}
+
+/// How many connections the system keeps until they are accepted. It may have a lower limit of its own.
+const QUEUE: i32 = 1024;
 
 /// Waits for the room, and then in it for a connection that is ready.
 fn lead<

@@ -42,6 +42,13 @@ fn serving(rt: HostRuntime, policy: WordPolicy) -> Result<ChildStation<HostRunti
     serving_by(rt, rules, Unwatched)
 }
 
+/// The policy of a station to which anybody may send words, with one folder of tools.
+fn served(rt: HostRuntime) -> Result<WordPolicy, AllocError> {
+    let mut tools = Vec::new(rt.alloc());
+    tools.push(String::from_str(rt.alloc(), "/opt/sdk")?)?;
+    Ok(WordPolicy::ServedWords { tools })
+}
+
 /// A command of these words.
 fn command(alloc: Global, texts: &[&[u8]]) -> Result<Vec<Word>, AllocError> {
     let mut words = Vec::new(alloc);
@@ -287,18 +294,20 @@ const SERVED: &[Command] = &[
     (&[b"/bin/true", b"@words"], Ok(28_416)),
     (&[b"/bin/true", b"-fplugin=x.so"], Ok(28_416)),
     (&[b"/bin/true", b"--specs=x"], Ok(28_416)),
+    (&[b"/bin/true", b"--sysroot=/opt/sdk/root"], Ok(0)),
+    (&[b"/bin/true", b"--sysroot=/opt/sdk2"], Ok(28_416)),
 ];
 
 #[test]
 fn words_that_are_not_let_through_do_not_run(rt: HostRuntime) -> Result<(), Fail> {
-    let mut station = serving(rt, WordPolicy::ServedWords)?;
+    let mut station = serving(rt, served(rt)?)?;
     expect_commands(&rt, rt.alloc(), &mut station, SERVED);
     expect_empty(&rt)
 }
 
 #[test]
 fn the_reply_says_which_word_is_not_let_through(rt: HostRuntime) -> Result<(), Fail> {
-    let mut station = serving(rt, WordPolicy::ServedWords)?;
+    let mut station = serving(rt, served(rt)?)?;
     let ran = run_words(rt.alloc(), &mut station, &[b"/bin/true", b"-O2", b"@words"])?;
     same_bytes(
         &rt,

@@ -277,12 +277,7 @@ fn a_shared_door_is_at_the_same_port(rt: HostRuntime) {
 }
 
 /// How long a receive waits on a link of this dialer, whose peer sends nothing, until it fails.
-fn time_to_fail(
-    rt: HostRuntime,
-    dialer: &mut Tcp,
-    name: &HostName,
-    port: u16,
-) -> Option<Duration> {
+fn time_to_fail(rt: HostRuntime, dialer: &mut Tcp, name: &HostName, port: u16) -> Option<Duration> {
     let mut link = dialer.dial(rt.alloc(), name, port).ok()?;
     let begun = Instant::now(&rt).ok()?;
     let failed = link.recv(&mut [0u8; 4]).is_err();

@@ -35,6 +35,15 @@ pub fn tell_beginning<R: Eprint + Env + Files + AllocGlobal>(
     Ok(())
 }
 
+/// Says if compiles can't be kept apart from one another, since the program that farmd-box uses isn't there.
+pub fn tell_boxes<R: Eprint + Env + Files + AllocGlobal>(rt: &R) -> Result<(), AllocError> {
+    let path = env::var(rt, "PATH").unwrap_or(String::new(rt.alloc()));
+    if !is_found(rt, path.as_str(), "bwrap")? {
+        let _ = eprintln!(rt; "farmd: compiles aren't kept apart, since bubblewrap isn't there");
+    }
+    Ok(())
+}
+
 /// Tells where the folder for the files of compiles isn't there.
 pub fn tell_folder<R: Eprint + Files>(rt: &R, folder: &str) {
     if !fs::metadata(rt, folder).is_ok_and(|found| found.is_dir()) {

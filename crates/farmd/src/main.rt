@@ -3,19 +3,22 @@
 
 mod beginning;
 
-ghost use Rattle.std.specs.Prelude.{◌≡◌, ◌≤◌, true, false, length, map, Some, IfOk, IfSome, string_bytes};
+ghost use Rattle.std.specs.Prelude.{◌≡◌, ◌≤◌, length, map, IfOk, IfSome, IsSomeAnd, string_bytes};
 ghost use Rattle.farm_types.specs.Limits.{workers_max};
-ghost use Rattle.daemon_words.specs.Commands.{trusts};
+ghost use Rattle.farmd.specs.Policies.{IsPolicyFor};
 ghost use Rattle.edge_real.specs.Views.{policy_of as station_policy};
 
 use access_list::AccessList;
-use beginning::{is_root, tell_beginning, tell_folder};
+use beginning::{is_root, tell_beginning, tell_boxes, tell_folder};
 use daemon_program::{DoorPlace, door_place, farmd};
-use daemon_words::{Command, Options, parse_words, rules_of, settings_of, trusts_options};
+use daemon_words::{
+    Command, Options, parse_words, rules_of, settings_of, tools_of, trusts_options,
+};
 use daemon_worker::DoorKit;
 use edge_real::{
-    ChildStation, HeldStreams, PendingRemoval, ServingRules, SharedRemoval, SharedWatch, StdSink,
-    TcpDoor, WaitingStream, WordPolicy, command_words, current_folder, own_folder,
+    ChildStation, ErrorLines, HeldStreams, PendingRemoval, ServingRules, SharedRemoval,
+    SharedWatch, StdSink, TcpDoor, Unhindered, WaitingStream, WordPolicy, command_words,
+    current_folder, own_folder,
 };
 use farm_types::exits::{FAULT, NO_MEMORY};
 use log::warn;
@@ -26,11 +29,14 @@ use std::sync::Arc;
 use std::time::Duration;
 
 /// The doors and stations of the system.
-type SystemDoor = DoorKit<ListeningDoor, ChildStation<HostRuntime, Option<SystemWatch>>>;
+type SystemDoor<'a> = DoorKit<ListeningDoor<'a>, ChildStation<System<'a>, Option<SystemWatch<'a>>>>;
 
-type SystemWatch = SharedWatch<HostRuntime, TcpListener, TcpStream>;
+type SystemWatch<'a> = SharedWatch<System<'a>, TcpListener, TcpStream>;
 
-type ListeningDoor = TcpDoor<HostRuntime, TcpListener, TcpStream>;
+/// The system, whose lines on standard error hold no door up.
+type System<'a> = Unhindered<'a, HostRuntime>;
+
+type ListeningDoor<'a> = TcpDoor<System<'a>, TcpListener, TcpStream>;
 
 // The words of the command line. Where one isn't UTF-8, they are one word that is no option.
 fn words_of(rt: &HostRuntime) -> Result<Vec<String>, AllocError> {
@@ -50,31 +56,33 @@ fn options_of(words: &[String]) -> Option<Options> {
     }
 }
 
-// Which words of a request the stations run.
-fn policy_of(words: &[String]) -> WordPolicy
-    ensures trusted { trusts (map string_bytes words.now) ≡ true → result ≡ WordPolicy.AllWords }
-    ensures tested { trusts (map string_bytes words.now) ≡ false → result ≡ WordPolicy.ServedWords }
+// Which words of a request a station runs.
+fn policy_of(rt: &HostRuntime, words: &[String]) -> Result<WordPolicy, AllocError>
+    ensures { IfOk result (IsPolicyFor (map string_bytes words.now)) }
 {
     if trusts_options(words) {
-        WordPolicy::AllWords
-    } else {
-        WordPolicy::ServedWords
+        return Ok(WordPolicy::AllWords);
     }
+    Ok(WordPolicy::ServedWords {
+        tools: tools_of(rt.alloc(), settings_of(words))?,
+    })
 }
 
-// How the stations serve others, by these words.
-fn serving_rules(words: &[String]) -> ServingRules
-    ensures trusted { trusts (map string_bytes words.now) ≡ true → result.policy ≡ WordPolicy.AllWords }
-    ensures tested { trusts (map string_bytes words.now) ≡ false → result.policy ≡ WordPolicy.ServedWords }
+// How long a compile may take, if that is bounded.
+fn lifetime_of(words: &[String]) -> Option<Duration> {
+    let seconds = options_of(words)?.job_lifetime()?;
+    Some(Duration::from_secs(u64::from(seconds)))
+}
+
+// How a station serves others, by these words.
+fn serving_rules(rt: &HostRuntime, words: &[String]) -> Result<ServingRules, AllocError>
+    ensures { IfOk result (λ rules. IsPolicyFor (map string_bytes words.now) rules.policy) }
 {
-    ServingRules {
-        policy: policy_of(words),
-        lifetime: Some(Duration::from_secs(JOB_LIFETIME_SECS)),
-    }
+    Ok(ServingRules {
+        policy: policy_of(rt, words)?,
+        lifetime: lifetime_of(words),
+    })
 }
-
-/// How long a compile may take.
-const JOB_LIFETIME_SECS: u64 = 600;
 
 // Who is let in, as the words say.
 fn access_of(rt: &HostRuntime, words: &[String]) -> Result<AccessList, AllocError> {
@@ -95,27 +103,29 @@ fn lets_all_in(options: &Option<Options>) -> bool {
 const LOOPBACK: u32 = 127;
 
 // A door, and the watch for the runs of its connections. Where the system gives none, they go on without.
-fn watched(
+fn watched<'a>(
     rt: &HostRuntime,
-    door: ListeningDoor,
-) -> Result<(ListeningDoor, Option<SystemWatch>), AllocError> {
+    door: ListeningDoor<'a>,
+) -> Result<(ListeningDoor<'a>, Option<SystemWatch<'a>>), AllocError> {
     let Ok(watch) = door.watch(rt.alloc()) else {
         warn!(rt; "a door doesn't see that a peer goes");
         return Ok((door, None));
     };
-    let watch: SystemWatch = Arc::new(rt.alloc(), watch)?;
+    let watch: SystemWatch<'a> = Arc::new(rt.alloc(), watch)?;
     Ok((door.watching(Arc::try_clone(&watch)?), Some(watch)))
 }
 
 // A door and a station for it, which runs what others send. The folders of its runs are in the system's folder for such files, and the door removes
 // them.
-fn kit_of(
+fn kit_of<'a>(
     rt: &HostRuntime,
-    door: ListeningDoor,
-    rules: ServingRules,
-) -> Result<SystemDoor, AllocError>
-    ensures { IfOk result (λ kit. station_policy kit.station ≡ Some rules.policy) }
+    system: System<'a>,
+    door: ListeningDoor<'a>,
+    words: &[String],
+) -> Result<SystemDoor<'a>, AllocError>
+    ensures { IfOk result (λ kit. IsSomeAnd (station_policy kit.station) (IsPolicyFor (map string_bytes words.now))) }
 {
+    let rules = serving_rules(rt, words)?;
     let folder = own_folder(rt)?;
     let here = current_folder(rt)?;
     let removal = PendingRemoval::new(rt.alloc(), own_folder(rt)?);
@@ -124,43 +134,44 @@ fn kit_of(
     let (door, watch) = watched(rt, door)?;
     Ok(DoorKit {
         door,
-        station: ChildStation::serving(*rt, folder, here, rules, Some(removal), watch),
+        station: ChildStation::serving(system, folder, here, rules, Some(removal), watch),
     })
 }
 
 // So many doors on one listener.
-fn open_doors(
+fn open_doors<'a>(
     rt: &HostRuntime,
-    first: ListeningDoor,
+    system: System<'a>,
+    first: ListeningDoor<'a>,
     count: u32,
-    rules: ServingRules,
-) -> Result<Vec<SystemDoor>, AllocError>
+    words: &[String],
+) -> Result<Vec<SystemDoor<'a>>, AllocError>
     requires { 1 ≤ count }
     ensures { IfOk result (λ doors. length doors.items ≡ count) }
 {
     let mut doors = Vec::new(rt.alloc());
     for _ in 1..count {
-        doors.push(kit_of(rt, first.share(), rules)?)?;
+        doors.push(kit_of(rt, system, first.share(), words)?)?;
     }
-    doors.push(kit_of(rt, first, rules)?)?;
+    doors.push(kit_of(rt, system, first, words)?)?;
     Ok(doors)
 }
 
 // The doors at a place. Where `farmd` isn't to serve, there is one that is closed.
-fn doors_at(
+fn doors_at<'a>(
     rt: &HostRuntime,
+    system: System<'a>,
     words: &[String],
     place: Option<DoorPlace>,
     access: AccessList,
-    rules: ServingRules,
-) -> Result<Vec<SystemDoor>, AllocError>
+) -> Result<Vec<SystemDoor<'a>>, AllocError>
     requires { IfSome place (λ place. place.doors ≤ workers_max) }
     ensures some { IfOk result (λ doors. 1 ≤ length doors.items) }
     ensures few { IfOk result (λ doors. length doors.items ≤ workers_max) }
 {
     match place {
         Some(place) if 0 < place.doors => {
-            let first = TcpDoor::open(*rt, rt.alloc(), place.addr, place.port, access);
+            let first = TcpDoor::open(system, rt.alloc(), place.addr, place.port, access);
             if !first.is_open() {
                 warn!(rt; "cannot listen");
                 first.tell_refusal();
@@ -168,14 +179,17 @@ fn doors_at(
             if let Some(port) = first.port() {
                 tell_beginning(rt, words, &place, port)?;
             }
-            open_doors(rt, first, place.doors, rules)
+            open_doors(rt, system, first, place.doors, words)
         }
-        _ => open_doors(rt, TcpDoor::closed(*rt), 1, rules),
+        _ => open_doors(rt, system, TcpDoor::closed(system), 1, words),
     }
 }
 
 // The words, and the doors that they ask for.
-fn doors_of(rt: &HostRuntime) -> Result<(Vec<String>, Vec<SystemDoor>), AllocError>
+fn doors_of<'a>(
+    rt: &HostRuntime,
+    lines: &'a ErrorLines,
+) -> Result<(Vec<String>, Vec<SystemDoor<'a>>), AllocError>
     ensures some { IfOk result (λ made. 1 ≤ length made.1.items) }
     ensures few { IfOk result (λ made. length made.1.items ≤ workers_max) }
 {
@@ -190,16 +204,23 @@ fn doors_of(rt: &HostRuntime) -> Result<(Vec<String>, Vec<SystemDoor>), AllocErr
     }
     if options.is_some() {
         tell_folder(rt, own_folder(rt)?.as_str());
+        tell_boxes(rt)?;
     }
     let access = access_of(rt, words.as_slice())?;
     let doors = doors_at(
         rt,
+        Unhindered::new(*rt, lines),
         words.as_slice(),
         place,
         access,
-        serving_rules(words.as_slice()),
     )?;
     Ok((words, doors))
+}
+
+// Says that memory is wanting before anything is served.
+fn no_memory(rt: &HostRuntime) -> ExitCode {
+    let _ = println!(rt; "farmd: no memory");
+    ExitCode::from(NO_MEMORY)
 }
 
 // Runs `farmd` on the program's words and standard output, and ends with its status.
@@ -208,9 +229,11 @@ fn main(rt: HostRuntime) -> ExitCode {
         let _ = eprintln!(rt; "farmd: neither / nor /dev/null can be opened");
         return ExitCode::from(FAULT);
     };
-    let Ok((words, mut doors)) = doors_of(&rt) else {
-        let _ = println!(rt; "farmd: no memory");
-        return ExitCode::from(NO_MEMORY);
+    let Ok(lines) = ErrorLines::new(&rt, rt.alloc()) else {
+        return no_memory(&rt);
+    };
+    let Ok((words, mut doors)) = doors_of(&rt, &lines) else {
+        return no_memory(&rt);
     };
     let mut out = StdSink::new(WaitingStream::new(rt, rt.stdout()));
     ExitCode::from(farmd(&rt, rt.alloc(), words.as_slice(), &mut doors, &mut out))
