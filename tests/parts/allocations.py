@@ -16,7 +16,7 @@ USUAL, WANTING, OWN = "as usual", "memory wanting", "refused to the program's ow
 
 
 def run(words, **more):
-    environment = {"PATH": os.environ["PATH"], "TMPDIR": tempfile.gettempdir(), "DISTCC_HOSTS": "localhost/1", "LD_PRELOAD": REFUSE, **more}
+    environment = {"PATH": os.environ["PATH"], "TMPDIR": tempfile.gettempdir(), "DISTCC_HOSTS": "localhost/1", "DISTCC_FALLBACK": "0", "LD_PRELOAD": REFUSE, **more}
     return subprocess.run(words, env=environment, stdin=subprocess.DEVNULL, capture_output=True, timeout=60)
 
 

@@ -154,9 +154,10 @@ def outputs_as_gcc(folder):
     if not shutil.which("gcc"):
         print("outputs as gcc's own: skipped, since gcc is missing")
         return
+    command = ["gcc", "-c", "x.c", "-o", "x.o"]
     for what, make in STANDING:
         seen = []
-        for words in (["gcc", "-c", "x.c", "-o", "x.o"], [FARM, "cc", "gcc", "-c", "x.c", "-o", "x.o"]):
+        for words in (command, [FARM, "build", "--hosts", "localhost"], [FARM, "cc", *command]):
             place = f"{folder}/standing"
             os.makedirs(f"{place}/there")
             write(f"{place}/x.c", "int x = 1;\n")
@@ -164,15 +165,18 @@ def outputs_as_gcc(folder):
             with open(f"{place}/new.o", "rb") as file:
                 made = file.read()
             make(place)
-            ran = subprocess.run(words, cwd=place, capture_output=True, env={**os.environ, "DISTCC_HOSTS": "localhost"})
-            seen.append((ran.returncode == 0, standing(place, made)))
+            environment = {**os.environ, "DISTCC_HOSTS": "localhost", "DISTCC_FALLBACK": "0"}
+            ran = subprocess.run(words, cwd=place, capture_output=True, env=environment, input=f"{' '.join(command)}\n".encode())
+            seen.append((ran.returncode == 0, standing(place, made), ran.stderr))
             expect(f"{what}: nothing else is left", not leftovers(place), os.listdir(place))
             shutil.rmtree(place)
-        if seen[0][0]:
-            expect(f"{what} at the output, as gcc has it", seen[0] == seen[1], (seen[0], seen[1], ran.stderr))
+        by_gcc, by_build, by_command = seen
+        expect(f"{what} at the output, as gcc has it", by_gcc[:2] == by_command[:2], (by_gcc, by_command))
+        if by_gcc[0]:
+            expect(f"{what} at the output of a job, as gcc has it", by_gcc[:2] == by_build[:2], (by_gcc, by_build))
         else:
-            # gcc takes away what stands there, and farm leaves it
-            expect(f"{what} at the output, which gcc doesn't write", not seen[1][0] and b".o: cannot be written: " in ran.stderr, (seen, ran.stderr))
+            # gcc takes away what is there, and a job leaves it
+            expect(f"{what} at the output of a job, which gcc doesn't write", not by_build[0] and b".o: cannot be written: " in by_build[2], seen)
 
 
 REMOVER = """#!/bin/sh

@@ -151,7 +151,9 @@ def blocked(folder):
     write_program(f"{folder}/noisy", "#!/bin/sh\nyes 'a line of messages' | head -c 300000 >&2\n")
     ends, starts = os.pipe()
     os.set_blocking(starts, False)
-    child = subprocess.Popen([FARM, "cc", "./noisy", "-E", "x.i"], cwd=folder, stderr=starts)
+    child = subprocess.Popen([FARM, "build", "--hosts", "localhost"], cwd=folder, stdin=subprocess.PIPE, stderr=starts, stdout=subprocess.DEVNULL)
+    child.stdin.write(b"./noisy -E x.i\n")
+    child.stdin.close()
     os.close(starts)
     held, before = -1, -2
     while held <= 0 or held != before:
