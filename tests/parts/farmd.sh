@@ -27,7 +27,13 @@ start_farmd() {
 # answered LOG: how many compiles a farmd has answered. A line comes behind its reply.
 answered() { grep -c 'gcc answered 00000000' "$1.err"; }
 
+# stops farmd, once the runs under way are over and their folders are gone, but for 5 seconds at most: a farmd that ends in a run leaves its folder
 stop_farmd() {
+  local _
+  for _ in $(seq 50); do
+    compgen -G "$work/tmp/farm-*" >/dev/null || break
+    sleep 0.1
+  done
   [ -n "${FARMD_PROCESS:-}" ] && kill "$FARMD_PROCESS" 2>/dev/null && wait "$FARMD_PROCESS" 2>/dev/null
   FARMD_PROCESS=
 }
