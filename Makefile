@@ -37,9 +37,9 @@ edits:
 	tools/more-edits --all
 
 # First what needs no program: the map of the crates, the list of what has to be believed, the texts of edits, what makes functions hard to read, and plain
-# words. Then the programs: with a real distccd, in an odd environment, on a real disk, with faults of a real machine, with an allocation refused, with real
-# and hostile clients, with options and the cache, with whole projects and their dependency files, with several hosts. Then a program of many sources, the
-# manual pages, the installation and the demonstration. Each is skipped if a program that it needs is missing.
+# words. Then the programs: with a real distccd, in an odd environment, on a real disk, with faults of a real machine, with an allocation refused. Then real
+# and hostile clients, options, the cache, whole projects with their dependency files, and several hosts. Then a program of many sources, the manual pages, the
+# installation and the demonstration. Each is skipped if a program that it needs is missing.
 checks:
 	tools/layers
 	tools/believed
@@ -69,7 +69,7 @@ test-all: test
 	tests/allocations --every
 	SLOW=yes tests/faults
 
-# Proves and builds the programs, and all libraries that they stand on.
+# Proves and builds the programs, and all libraries that they use.
 build:
 	tools/prove $(PROGRAMS)
 
