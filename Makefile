@@ -73,7 +73,7 @@ test-all: test
 build:
 	tools/prove $(PROGRAMS)
 
-# Puts below PREFIX: the programs, farmcc, farmd-box with a link for each usual compiler, manual pages, the completion for bash, and the unit of farmd for
+# Puts below PREFIX: the programs, farmcc, farmd-box with a link for each usual compiler of /usr/bin, manual pages, the completion for bash, and the unit of farmd for
 # systemd. What the unit is started with goes into /etc/default/farmd, unless it is there already. DESTDIR comes before these for a package. What isn't built
 # yet is proved and built.
 install:
@@ -86,7 +86,7 @@ install:
 	done
 	install -m 755 contrib/farmcc $(bin)/farmcc
 	install -m 755 contrib/farmd-box $(boxes)/farmd-box
-	for name in $(BOXED); do ln -sf farmd-box $(boxes)/$$name || exit 1; done
+	for name in $(BOXED); do [ ! -x /usr/bin/$$name ] || ln -sf farmd-box $(boxes)/$$name || exit 1; done
 	sed 's|/usr/local/bin/farmd|$(PREFIX)/bin/farmd|; s|/usr/local/lib/farmd/|$(PREFIX)/lib/farmd/|g' contrib/farmd.service >$(units)/farmd.service
 	chmod 644 $(units)/farmd.service
 	[ -e $(defaults)/farmd ] || { install -d $(defaults) && install -m 644 contrib/farmd.default $(defaults)/farmd; }

@@ -70,7 +70,7 @@ def ran(words, **more):
 
 
 def listed(jobs):
-    """A build of so many jobs here, one after another."""
+    """A build of N jobs here, one after another."""
     text = "".join(f"{FOLDER}/writes -c {FOLDER}/x.i -o {FOLDER}/x{number}.o\n" for number in range(jobs))
     with open(f"{FOLDER}/jobs", "w", encoding="utf-8") as file:
         file.write(text)
@@ -79,7 +79,7 @@ def listed(jobs):
 
 
 def served(connections):
-    """A farmd of one door that serves so many connections, and then ends."""
+    """A farmd of one door that serves N connections, and then ends."""
     words = ["--listen", "127.0.0.1", "--port", str(PORT), "--jobs", "1", "--serve", str(connections), "--compiler", f"writes={FOLDER}/writes"]
     path, process = counted([FARMD, *words], number=1)
     environment = {**os.environ, "DISTCC_HOSTS": f"127.0.0.1:{PORT}", "DISTCC_FALLBACK": "0", "FARM_NOTICES": "0", "TMPDIR": "/dev/shm"}

@@ -19,7 +19,7 @@ def ask(compiler, options, source):
 def lines():
     for line in sys.stdin.read().split("\n"):
         if line and not line.startswith("# "):
-            # options and operands are apart by blanks; a path that is mapped alone may have one
+            # options and operands are apart by blanks; only a path that is mapped may have one
             words = line.split(" ")
             is_path = "-prefix-map=" in words[0] and not any(word.startswith("-") for word in words[1:])
             yield [line] if is_path else words
