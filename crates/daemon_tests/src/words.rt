@@ -161,8 +161,18 @@ fn expect_tools<R: Abort>(rt: &R, alloc: Global, words: &[String]) -> Result<(),
     let [first, second] = tools.as_slice() else {
         return Err("there are two folders of tools".into());
     };
-    same_items(rt, first.as_str().as_bytes(), b"/opt/a..b", &"the first folder");
-    same_items(rt, second.as_str().as_bytes(), b"/opt/gcc", &"the second folder");
+    same_items(
+        rt,
+        first.as_str().as_bytes(),
+        b"/opt/a..b",
+        &"the first folder",
+    );
+    same_items(
+        rt,
+        second.as_str().as_bytes(),
+        b"/opt/gcc",
+        &"the second folder",
+    );
     Ok(())
 }
 
@@ -274,7 +284,12 @@ fn bad_place(alloc: Global, row: &Numbered, count: u8) -> Result<Option<usize>, 
 fn expect_most<R: Abort>(rt: &R, alloc: Global, rows: &[(Numbered, u8)]) -> Result<(), Fail> {
     for (row, most) in rows {
         let place = 2 * usize::from(*most) + 1;
-        same(rt, &bad_place(alloc, row, most.saturating_add(1))?, &Some(place), row);
+        same(
+            rt,
+            &bad_place(alloc, row, most.saturating_add(1))?,
+            &Some(place),
+            row,
+        );
         same(rt, &bad_place(alloc, row, *most)?, &None, row);
     }
     Ok(())
