@@ -11,14 +11,14 @@ FARM = os.environ["FARM"]
 
 
 def make_folder(folder, compiler, sources):
-    """A compiler, cc, and sources, each with its name, the bytes of its object, and their letter."""
-    write_program(f"{folder}/cc", compiler)
+    """A compiler, letters, and sources, each with its name, the bytes of its object, and their letter."""
+    write_program(f"{folder}/letters", compiler)
     for name, size, letter in sources:
         write(f"{folder}/{name}", f"{size} {letter}\n")
 
 
 def job(source, output):
-    return f"./cc -c {source} -o {output}\n"
+    return f"./letters -c {source} -o {output}\n"
 
 
 def content(path):
