@@ -36,10 +36,11 @@ quick:
 edits:
 	tools/more-edits --all
 
-# The map of the crates, the list of what has to be believed, whether each edit still turns a text, and what makes functions hard to read. Then farm with a real distccd, in an odd environment, objects on a real disk, faults of a
-# real machine, runs with an allocation refused, real clients of farmd, mutated requests for it, the options that it lets through and those that it doesn't,
-# its cache, whole projects, dependency files, two hosts in turn, sources that become a program, the manual pages, the installation and the demonstration;
-# each is skipped where what it needs isn't installed.
+# The map of the crates, the list of what has to be believed, whether each edit still turns a text, and what makes functions hard to read. Then farm with a
+# real distccd, in an odd environment, objects on a real disk, faults of a real machine, runs with an allocation refused, real clients of farmd, mutated
+# requests for it, the options that it lets through and those that it doesn't, its cache, whole projects, packages of Debian, dependency files, command
+# shapes beside the compiler alone, two hosts in turn, sources that become a program, the manual pages, the installation and the demonstration; each is
+# skipped where what it needs isn't installed.
 checks:
 	tools/layers
 	tools/believed
@@ -55,7 +56,9 @@ checks:
 	tests/options
 	tests/cache
 	tests/projects
+	tests/packages
 	tests/dependencies
+	tests/shapes
 	tests/randomize
 	tests/database
 	tests/programs
