@@ -173,13 +173,25 @@ def normal(shape, parts):
 
 # ---- comparison
 
-def without_debug(data, path):
-    """An object without debug information."""
+def output_of(*words):
+    return subprocess.run(words, capture_output=True, check=False).stdout
+
+
+def debug_names(path):
+    """The names and folders in the debug information of an object, and the lines that its code has."""
+    names = re.findall(rb"DW_AT_(?:name|comp_dir) *: (?:\(.*?\): )?(.*)", output_of("readelf", "--debug-dump=info", path))
+    lines = re.findall(rb"(?m)^\S.* (\d+) +(?:0x)?[0-9a-f]+ ", output_of("objdump", "-WL", path))
+    return b"\n".join(sorted({name.strip().removeprefix(b"./") for name in names} | set(lines)))
+
+
+def without_debug(data, path, keeps_names):
+    """An object without debug information, or with the names and the lines of it alone."""
     with open(path, "wb") as file:
         file.write(data)
-    stripped = subprocess.run(["objcopy", "-g", path], capture_output=True, check=False).returncode == 0
+    names = debug_names(path) if keeps_names else b""
+    output_of("objcopy", "-g", path)
     with open(path, "rb") as file:
-        return file.read() if stripped else b""
+        return file.read() + names
 
 
 def faults_named(text):
@@ -192,9 +204,9 @@ def faults_named(text):
 def let_differ(allowed, parts, number):
     """The parts of a run, without what an exception lets differ."""
     for part in allowed:
-        if part == "debug":
+        if part in ("debug", "columns"):
             path = os.path.join(FOLDER, f"{number:04}.o")
-            parts = {name: without_debug(data, path) if data[:4] == b"\x7fELF" else data for name, data in parts.items()}
+            parts = {name: without_debug(data, path, part == "columns") if data[:4] == b"\x7fELF" else data for name, data in parts.items()}
         elif part == "messages":
             parts = dict(parts, stderr=faults_named(parts["stderr"]))
         else:
