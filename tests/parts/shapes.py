@@ -122,7 +122,8 @@ def run(shape, number, way):
     os.makedirs(folder)
     source = prepare(folder, shape)
     compiler = shape.compiler if way == "alone" else f"{FARM} cc {shape.compiler}"
-    environment = dict(os.environ, CC=compiler, SOURCE_DATE_EPOCH="1700000000")
+    environment = {name: value for name, value in os.environ.items() if not name.startswith(("DISTCC_", "FARM_"))}
+    environment.update(CC=compiler, SOURCE_DATE_EPOCH="1700000000")
     if way == "farmd":
         environment.update(DISTCC_HOSTS=f"127.0.0.1:{PORT}/4", FARM_NOTICES="all")
     words = shape.words.replace("%", shlex.quote(source))

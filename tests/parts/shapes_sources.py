@@ -42,7 +42,8 @@ SOURCES = {
     "pragma-macros": b'#define A 1\n#pragma push_macro("A")\n#undef A\n#define A 2\nint a = A;\n#pragma pop_macro("A")\nint b = A;\n',
     "pragma-operator": b'#define QUIET _Pragma("GCC diagnostic push") _Pragma("GCC diagnostic ignored \\"-Wunused-variable\\"")\nQUIET\n'
     b'int f(void) { int u; return 0; }\n_Pragma("GCC diagnostic pop")\n',
-    "pragma-quiet": b'#pragma GCC diagnostic push\n#pragma GCC diagnostic ignored "-Wunused-variable"\nint f(void) { int u; return 0; }\n#pragma GCC diagnostic pop\n',
+    "pragma-quiet": b'#pragma GCC diagnostic push\n#pragma GCC diagnostic ignored "-Wunused-variable"\n'
+    b'int f(void) { int u; return 0; }\n#pragma GCC diagnostic pop\n',
     "pragma-error": b'#pragma GCC diagnostic error "-Wunused-variable"\nint f(void) { int u; return 0; }\n',
     "pragma-system": b'#include "quiet.h"\nint a;\n',
     "pragma-dependency": b'#pragma GCC dependency "h.h"\nint a;\n',
@@ -112,12 +113,13 @@ SOURCES = {
     # what objects have
     "initialized": b"extern int g(void);\n__attribute__((constructor)) static void f(void) { g(); }\n",
     "local": b"static __thread int a;\nint f(void) { static int b; return a++ + b++; }\n",
-    "sections": b"int a = 1; int b; const int c = 3;\n__attribute__((section(\".mine\"))) int d = 4;\nint f(void) { return 1; }\nstatic int g(void) { return 2; }\n"
-    b"int h(void) { return g() + a + b + c + d; }\n",
+    "sections": b"int a = 1; int b; const int c = 3;\n__attribute__((section(\".mine\"))) int d = 4;\n"
+    b"int f(void) { return 1; }\nstatic int g(void) { return 2; }\nint h(void) { return g() + a + b + c + d; }\n",
     "floats": b"double a = 0x1.8p3, b = 1e400 > 1 ? 2.5 : 0;\nfloat f(float x) { return x * 1.1f + 3; }\n",
     "vectors": b"typedef int V __attribute__((vector_size(16)));\nV f(V a, V b) { return a * b; }\n__int128 g(__int128 a) { return a * 3; }\n",
     "stack": b"extern void g(char *);\nvoid f(int n) { char a[64]; g(a); __builtin_memset(a, n, sizeof a); }\n",
-    "strings": b'const char *a = "one" "two", *b = "one" "two";\nint f(int a) { switch (a) { case 1: return 7; case 2: return 9; case 3: return 1; case 4: return 8; } return 0; }\n',
+    "strings": b'const char *a = "one" "two", *b = "one" "two";\n'
+    b"int f(int a) { switch (a) { case 1: return 7; case 2: return 9; case 3: return 1; case 4: return 8; } return 0; }\n",
     "inline": b"static inline int g(int a) { return a * 3; }\nint f(int a) { return g(a) + g(a + 1); }\n",
     "nested": b"int f(int a) { int g(int b) { return a + b; } return g(1); }\n",
     # C++ alone
