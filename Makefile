@@ -13,8 +13,8 @@ defaults = $(DESTDIR)/etc/default
 
 .PHONY: bench bench-jobs bench-wire build checks demo dist edits gate install quick test test-all uninstall
 
-# The farm whole: farm with two farmds on loopback, of which one is killed in the middle of a build. Where no proved programs are, they are built for
-# this run alone, without proofs.
+# The farm whole: farm with two farmds on loopback, of which one is killed in the middle of a build. If there are no proved programs, they are built for
+# this run only, without proofs.
 demo:
 	tools/demo
 
@@ -28,24 +28,24 @@ test: gate checks
 gate:
 	rt ci
 
-# The first thing to run after a change: all tests, and the checks of tests/ that need farm and farmd only, without a proof, in some ten minutes.
+# The first thing to run after a change: all tests, and the checks of tests/ that need only farm and farmd, without a proof, in some ten minutes.
 quick:
 	tools/quick
 
-# Has the prover try each edit that it has to refuse, those beside the gate's too, in some hours.
+# Has the prover try each edit that it has to refuse, those beside the gate's too, in some hours: before a release.
 edits:
 	tools/more-edits --all
 
-# The map of the crates, the list of what has to be believed, whether each edit still turns a text, and what makes functions hard to read. Then farm with a
-# real distccd, in an odd environment, objects on a real disk, faults of a real machine, runs with an allocation refused, real clients of farmd, mutated
-# requests for it, the options that it lets through and those that it doesn't, its cache, whole projects, packages of Debian, dependency files, command
-# shapes beside the compiler alone, two hosts in turn, sources that become a program, the manual pages, the installation and the demonstration; each is
-# skipped where what it needs isn't installed.
+# First what needs no program: the map of the crates, the list of what has to be believed, the texts of edits, what makes functions hard to read, and plain
+# words. Then the programs: with a real distccd, in an odd environment, on a real disk, with faults of a real machine, with an allocation refused. Then real
+# and hostile clients, options, the cache, whole projects and packages, dependency files, command shapes, and several hosts. Then a program of many sources,
+# the manual pages, the installation and the demonstration. Each is skipped if a program that it needs is missing.
 checks:
 	tools/layers
 	tools/believed
 	tools/more-edits
 	tools/shape
+	tools/plain
 	tests/interop
 	tests/environment
 	tests/delivery
@@ -71,14 +71,13 @@ test-all: test
 	tests/allocations --every
 	SLOW=yes tests/faults
 
-# Proves and builds the programs, and all libraries that they stand on.
+# Proves and builds the programs, and all libraries that they use.
 build:
 	tools/prove $(PROGRAMS)
 
-# The programs, farmcc, farmd-box with a link for each usual compiler, manual pages, the completion for bash, and the unit of farmd for systemd, below
-# PREFIX; what the unit is started with,
-# in /etc/default/farmd, unless it is there already. DESTDIR stands before these where a package is made. What isn't built yet is proved
-# and built.
+# Puts below PREFIX: the programs, farmcc, farmd-box with a link for each usual compiler of /usr/bin, manual pages, the completion for bash, and the unit of farmd for
+# systemd. What the unit is started with goes into /etc/default/farmd, unless it is there already. DESTDIR comes before these for a package. What isn't built
+# yet is proved and built.
 install:
 	@for program in $(PROGRAMS); do [ -x crates/$$program/out/$$program ] || exec tools/prove $(PROGRAMS); done
 	install -d $(bin) $(man) $(completions) $(units) $(boxes)
@@ -89,7 +88,7 @@ install:
 	done
 	install -m 755 contrib/farmcc $(bin)/farmcc
 	install -m 755 contrib/farmd-box $(boxes)/farmd-box
-	for name in $(BOXED); do ln -sf farmd-box $(boxes)/$$name || exit 1; done
+	for name in $(BOXED); do [ ! -x /usr/bin/$$name ] || ln -sf farmd-box $(boxes)/$$name || exit 1; done
 	sed 's|/usr/local/bin/farmd|$(PREFIX)/bin/farmd|; s|/usr/local/lib/farmd/|$(PREFIX)/lib/farmd/|g' contrib/farmd.service >$(units)/farmd.service
 	chmod 644 $(units)/farmd.service
 	[ -e $(defaults)/farmd ] || { install -d $(defaults) && install -m 644 contrib/farmd.default $(defaults)/farmd; }
@@ -106,7 +105,7 @@ uninstall:
 dist:
 	contrib/dist
 
-# The measures of docs/benchmarks.md but that of the cache and the two below, in hours. What they find goes into docs/figures and the end of that page.
+# The measures of docs/benchmarks.md but that of the cache and the two below, in hours. What they find goes into docs/figures and docs/generated/benchmarks.md.
 bench bench-wire bench-jobs: export FIGURES = docs/figures
 bench:
 	bench/run

@@ -1,6 +1,6 @@
-"""Requests for bench/cache: `hit PORT FILE`, a source of 8 MiB that is in the cache; `fill PORT COUNT PROCESS BOUND SIZES FILE`, sources that
-are all others, of so many KiB each, or of LEAST-MOST KiB by chance; `pages PORT COUNT PROCESS BOUND FILE`, the same of 4 KiB after a start; and
-`compare COUNT FILE PAGES` of what these two left."""
+"""Requests for bench/cache. `hit PORT FILE` sends a source of 8 MiB that is in the cache. `fill PORT COUNT PROCESS BOUND SIZES FILE` sends sources that
+are all others, of SIZES KiB each, or of LEAST-MOST KiB by chance. `pages PORT COUNT PROCESS BOUND FILE` does the same with 4 KiB after a start, and
+`compare COUNT FILE PAGES` compares what these two left."""
 import random
 import statistics
 import subprocess
@@ -33,13 +33,13 @@ def hit(port, path):
 
 
 def send(port, number, size):
-    """Sends a source of about so many bytes that is like no other."""
+    """Sends a source of about this number of bytes that is like no other."""
     body = b"int a;\n" * (size // 7)
     assert exchange(port, compile_request(b"probe", b"// %d\n" % number + body)).startswith(b"DONE00000001STAT00000000")
 
 
 def fill(port, count, process, bound, sizes, path):
-    """Adds to a file what is resident, but for pages of files, behind each tenth source of the second half: the median and the largest."""
+    """Adds to a file what is resident, but for pages of files, after each tenth source of the second half: the median and the largest."""
     least, most = (int(size) * 1024 for size in (sizes.split("-") * 2)[:2])
     choice = random.Random(7)
     seen = []
@@ -52,7 +52,7 @@ def fill(port, count, process, bound, sizes, path):
 
 
 def pages(port, count, process, bound, path):
-    """Adds to a file how much of the program's files is resident behind so many sources, which differs from start to start."""
+    """Adds to a file how much of the program's files is resident after a number of sources, which differs from start to start."""
     for number in range(count):
         send(port, number, 4096)
     with open(path, "a", encoding="ascii") as file:

@@ -1,5 +1,5 @@
 """Runs a command, and prints the largest resident size that it had itself, in KiB, its children left out: bench/peak.py COMMAND.. The status is that of the
-command, or 1 where it ended before it was seen."""
+command, or 1 if it ended before it was seen."""
 import subprocess
 import sys
 

@@ -70,7 +70,7 @@ def made(names):
 
 
 def compile_by(way, name):
-    """What a file took in a way: the seconds, and those of the processor, of the split its preprocessor's alone."""
+    """What a file took in a way: the seconds, and those of the processor, of the split only its preprocessor's."""
     each, hosts = commands(way, name)
     with made([name]):
         runs = [run(words, hosts) for words in each]

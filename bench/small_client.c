@@ -39,7 +39,7 @@ static size_t preprocess(char *file) {
     return length;
 }
 
-/* Waits until so many bytes of the reply behind those that were taken are there, and gives their place. */
+/* Waits until this number of bytes of the reply after those that were taken are there, and gives their place. */
 static char *next(size_t count) {
     while (have < at + count) {
         ssize_t took = read(peer, reply + have, sizeof reply - have);

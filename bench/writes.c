@@ -1,4 +1,4 @@
-/* A compiler for measures of servers: it writes an object of SIZE bytes, 1024 where that isn't set, to the word behind -o. */
+/* A compiler for measures of servers: it writes an object of SIZE bytes, by default 1024, to the word after -o. */
 #include <fcntl.h>
 #include <stdlib.h>
 #include <string.h>

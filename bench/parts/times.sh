@@ -1,6 +1,6 @@
-# The times of the measures. To be sourced by bash, behind tests/parts/checks.sh.
+# The times of the measures. To be sourced by bash, after tests/parts/checks.sh.
 
-# the folder that FIGURES names, from the top of the repository; nothing where it isn't set
+# the folder that FIGURES names, from the top of the repository; nothing if it isn't set
 figures=
 if [ -n "${FIGURES:-}" ]; then
   [ -d "$FIGURES" ] || stop "FIGURES names no folder: $FIGURES"
@@ -28,7 +28,7 @@ keep_least() {
 # ms NAME: the least of a name, in milliseconds
 ms() { echo $((least[$1] / 1000)); }
 
-# ratio NAME OTHER [PLACES]: the least of one name in that of the other, with two places behind the point or so many
+# ratio NAME OTHER [PLACES]: the least of one name in that of the other, with PLACES places after the point, by default two
 ratio() { awk -v a="${least[$1]}" -v b="${least[$2]}" -v n="${3:-2}" 'BEGIN { printf "%.*f", n, a / b }'; }
 
 # file_by_gcc, file_by_split, file_by_distcc, file_by_farm NAME: how NAME.c becomes NAME.o
@@ -48,7 +48,7 @@ keep() {
   stop "what was measured can't be kept in $figures"
 }
 
-# record NAME WORD..: where FIGURES names a folder, the script is begun anew with these words. If it succeeds, what it printed goes into the file NAME.txt
+# record NAME WORD..: if FIGURES names a folder, the script is begun anew with these words. If it succeeds, what it printed goes into the file NAME.txt
 # there, but for the lines of single rounds.
 record() {
   local name=$1 printed ends text

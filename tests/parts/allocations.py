@@ -16,7 +16,7 @@ USUAL, WANTING, OWN = "as usual", "memory wanting", "refused to the program's ow
 
 
 def run(words, **more):
-    environment = {"PATH": os.environ["PATH"], "TMPDIR": tempfile.gettempdir(), "DISTCC_HOSTS": "localhost/1", "LD_PRELOAD": REFUSE, **more}
+    environment = {"PATH": os.environ["PATH"], "TMPDIR": tempfile.gettempdir(), "DISTCC_HOSTS": "localhost/1", "DISTCC_FALLBACK": "0", "LD_PRELOAD": REFUSE, **more}
     return subprocess.run(words, env=environment, stdin=subprocess.DEVNULL, capture_output=True, timeout=60)
 
 
@@ -26,7 +26,7 @@ def count(words):
 
 
 def judged(seen):
-    """How a run of devices in memory ended, which judges itself; None where it ended as it may not."""
+    """How a run of devices in memory ended, which judges itself; None if it ended as it may not."""
     if seen.stdout:
         return None
     return {0: USUAL, 105: WANTING, 1: OWN if b"error:" in seen.stderr.lower() else None}.get(seen.returncode)
@@ -58,7 +58,7 @@ int main(int count, char **words) {
 
 
 class Compile:
-    """One command by farm over the disk, in a folder of its own. Of all that runs, farm alone is refused allocations."""
+    """One command by farm over the disk, in a folder of its own. Of all that runs, only farm is refused allocations."""
 
     def __init__(self, folder):
         os.chdir(folder)

@@ -24,7 +24,7 @@ def host(delay):
 
 
 def build(farm, port, limit, workers, count):
-    """Builds so many preprocessed sources; gives the seconds, those of the processor, and the largest resident size in KiB."""
+    """Builds this number of preprocessed sources; gives the seconds, those of the processor, and the largest resident size in KiB."""
     jobs = "".join(f"gcc -c s{k}.i -o s{k}.o\n" for k in range(1, count + 1))
     words = [farm, "build", "--hosts", f"127.0.0.1:{port}/{limit}", "--workers", str(workers), "--no-fallback"]
     begin = time.monotonic()

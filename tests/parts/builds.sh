@@ -17,7 +17,7 @@ objects() {
   for k in $(seq "$2"); do same "$1" "unit$k.o" "unit$k.ref.o"; done
 }
 
-# lines NAME COUNT PLACES: whether the lines stand in the order of the jobs, each with one of these places, and the total behind them
+# lines NAME COUNT PLACES: whether the lines are in the order of the jobs, each with one of these places, and the total after them
 lines() {
   if ! awk -v count="$2" -v places="$3" '
     NR <= count && !($1 == NR && $0 ~ "^[0-9]+ (" places ") stat 00000000$") { exit 1 }

@@ -1,4 +1,4 @@
-"""What the checks in Python share: what isn't as it should be is told and counted, and decides how a check ends."""
+"""What the checks in Python share: what isn't as it should be is printed and counted, and decides how a check ends."""
 import contextlib
 import os
 import shutil
@@ -26,14 +26,14 @@ def end():
 
 
 def verdict(check, text=""):
-    """Ends a check by what failed, and says so, with this text behind that it passed."""
+    """Ends a check by what failed, and says so, with this text after that it passed."""
     print(f"{check}: {len(failures)} failed" if failures else f"{check}: passed{text and ', '}{text}")
     end()
 
 
 @contextlib.contextmanager
 def work_folder():
-    """A folder for the files of a check and for temporary ones. It is gone at the end, also where the check is ended from outside."""
+    """A folder for the files of a check and for temporary ones. It is gone at the end, also if the check is ended from outside."""
     for number in (signal.SIGHUP, signal.SIGTERM):
         if signal.getsignal(number) != signal.SIG_IGN:  # nohup has a hang-up ignored
             signal.signal(number, lambda taken, _: sys.exit(128 + taken))

@@ -16,26 +16,26 @@ missing() {
   done
 }
 
-# skip REASON: ends the script where the machine lacks something
+# skip REASON: ends the script if the machine lacks something
 skip() {
   echo "$CHECK: skipped, since $1"
   exit 0
 }
 
-# stop REASON: ends the script where it can't go on
+# stop REASON: ends the script if it can't go on
 stop() {
   echo "$CHECK: $1"
   exit 1
 }
 
-# needs PROGRAM..: skips where one of them isn't installed
+# needs PROGRAM..: skips if one of them isn't installed
 needs() {
   local absent
   absent=$(missing "$@")
   [ -z "$absent" ] || skip "these programs are missing: $absent"
 }
 
-# programs NAME..: sets FARM, FARMD, SCC, FARM_JOBS and the like to the paths of these programs of the repository, where they don't name others, and builds
+# programs NAME..: sets FARM, FARMD, SCC, FARM_JOBS and the like to the paths of these programs of the repository, if they don't name others, and builds
 # those that aren't there
 programs() {
   local name variable path
@@ -70,7 +70,7 @@ work_folder() {
 # is_taken PORT: whether anybody listens at a port
 is_taken() { grep -q "^ *[0-9]*: [0-9A-F]*:$(printf '%04X' "$1") [0-9A-F]*:[0-9A-F]* 0A " /proc/net/tcp; }
 
-# comes_up PROCESS SIGN..: waits until a server of the script's own listens, which the command SIGN tells: for ten seconds at most, and while the process lives
+# comes_up PROCESS SIGN..: waits until a server of the script's own listens, which the command SIGN shows: for ten seconds at most, and while the process lives
 comes_up() {
   local process=$1
   shift
@@ -82,7 +82,7 @@ comes_up() {
   return 1
 }
 
-# ends_within SECONDS PROCESS: waits until a process that the script started has ended, and gives its status; after so many seconds it is killed
+# ends_within SECONDS PROCESS: waits until a process that the script started has ended, and gives its status; after SECONDS it is killed
 ends_within() {
   local process=$2
   for _ in $(seq $(($1 * 10))); do
@@ -99,7 +99,7 @@ fail() {
   failed=$((failed + 1))
 }
 
-# verdict [TEXT]: ends the check, with this text behind that it passed
+# verdict [TEXT]: ends the check, with this text after that it passed
 verdict() {
   [ "$failed" = 0 ] || stop "$failed failed"
   echo "$CHECK: passed${1:+, $1}"

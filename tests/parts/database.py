@@ -23,7 +23,7 @@ QUOTED = BARE + " \t#&;|<>()*?[]~{}!"
 
 
 def part(rng):
-    """A piece of a command that means the same to every shell: nothing that is expanded stands outside quotes."""
+    """A piece of a command that means the same to every shell: nothing that is expanded is outside quotes."""
     kind = rng.randrange(7)
     some = lambda bytes_, most: "".join(rng.choice(bytes_) for _ in range(rng.randrange(most)))
     if kind == 0:

@@ -1,6 +1,6 @@
 """Objects on a real disk, by a host of this script's own that answers in protocol 1 of distcc.
 
-A source is a number and a letter, as `30000000 B`: its object has so many bytes of this letter. FARM names the program, and ROUNDS how often
+A source is a number and a letter, as `30000000 B`: its object has that many bytes of this letter. FARM names the program, and ROUNDS how often
 two compilers run at once of which one takes its output away.
 """
 import os
@@ -116,7 +116,7 @@ def other_outputs(folder):
     expect("nothing is left", not leftovers(folder))
 
 
-# What stands at x.o before a put: a name, and a function of the folder that makes it.
+# What is at x.o before a put: a name, and a function of the folder that makes it.
 STANDING = [
     ("nothing", lambda folder: None),
     ("an empty file", lambda folder: place_file(folder, "x.o", b"", 0o600)),
@@ -137,7 +137,7 @@ def place_file(folder, name, held, mode):
 
 
 def standing(folder, made):
-    """What stands at x.o and to.o: links by their text, files by their mode and whether they hold the new object."""
+    """What is at x.o and to.o: links by their text, files by their mode and whether they hold the new object."""
     seen = {}
     for name in ("x.o", "to.o", "there/to.o"):
         path = f"{folder}/{name}"
@@ -154,9 +154,10 @@ def outputs_as_gcc(folder):
     if not shutil.which("gcc"):
         print("outputs as gcc's own: skipped, since gcc is missing")
         return
+    command = ["gcc", "-c", "x.c", "-o", "x.o"]
     for what, make in STANDING:
         seen = []
-        for words in (["gcc", "-c", "x.c", "-o", "x.o"], [FARM, "cc", "gcc", "-c", "x.c", "-o", "x.o"]):
+        for words in (command, [FARM, "build", "--hosts", "localhost"], [FARM, "cc", *command]):
             place = f"{folder}/standing"
             os.makedirs(f"{place}/there")
             write(f"{place}/x.c", "int x = 1;\n")
@@ -164,15 +165,18 @@ def outputs_as_gcc(folder):
             with open(f"{place}/new.o", "rb") as file:
                 made = file.read()
             make(place)
-            ran = subprocess.run(words, cwd=place, capture_output=True, env={**os.environ, "DISTCC_HOSTS": "localhost"})
-            seen.append((ran.returncode == 0, standing(place, made)))
+            environment = {**os.environ, "DISTCC_HOSTS": "localhost", "DISTCC_FALLBACK": "0"}
+            ran = subprocess.run(words, cwd=place, capture_output=True, env=environment, input=f"{' '.join(command)}\n".encode())
+            seen.append((ran.returncode == 0, standing(place, made), ran.stderr))
             expect(f"{what}: nothing else is left", not leftovers(place), os.listdir(place))
             shutil.rmtree(place)
-        if seen[0][0]:
-            expect(f"{what} at the output, as gcc has it", seen[0] == seen[1], (seen[0], seen[1], ran.stderr))
+        by_gcc, by_build, by_command = seen
+        expect(f"{what} at the output, as gcc has it", by_gcc[:2] == by_command[:2], (by_gcc, by_command))
+        if by_gcc[0]:
+            expect(f"{what} at the output of a job, as gcc has it", by_gcc[:2] == by_build[:2], (by_gcc, by_build))
         else:
-            # gcc takes away what stands there, and farm leaves it
-            expect(f"{what} at the output, which gcc doesn't write", not seen[1][0] and b".o: cannot be written: " in ran.stderr, (seen, ran.stderr))
+            # gcc removes what is there, and a job leaves it
+            expect(f"{what} at the output of a job, which gcc doesn't write", not by_build[0] and b".o: cannot be written: " in by_build[2], seen)
 
 
 REMOVER = """#!/bin/sh

@@ -1,5 +1,5 @@
 """Compares the dependency files of `farm cc` with those of the compiler itself: dependencies.py FARM [--all]. Each command is run twice in a new folder, once
-as it stands and once behind `farm cc`, without a host, and has to leave the same files of the same text, objects left out."""
+by itself and once after `farm cc`, as a job of this machine, and has to leave the same files of the same text, objects left out."""
 import concurrent.futures
 import itertools
 import os

@@ -1,6 +1,6 @@
 # A real distccd for the checks. Sourced by checks.sh, whose functions it calls.
 
-# start_daemon JOBS FOLDER: starts a distccd on loopback that runs so many jobs at once, and sets PORT and DAEMON, its process. Its files are in the folder.
+# start_daemon JOBS FOLDER: starts a distccd on loopback that runs JOBS jobs at once, and sets PORT and DAEMON, its process. Its files are in the folder.
 start_daemon() {
   local jobs=$1 folder=$2 log
   for PORT in $(seq 13632 13731); do

@@ -1,7 +1,7 @@
-"""Clients of a farmd that holds doors for nobody: of ten one drips from its first byte, one drips behind some bytes, one is silent, one is denied,
+"""Clients of a farmd that holds doors for nobody: of ten one drips from its first byte, one drips after some bytes, one is silent, one is denied,
 one does the like after its reply, and the others are answered.
 
-PORT, CONNECTIONS and how many at once are the arguments, and the longest that an answer may take, in seconds: 2 where it isn't given. The farmd
+PORT, CONNECTIONS and how many at once are the arguments, and the longest that an answer may take, in seconds: 2 by default. The farmd
 denies 127.0.0.2 and lets in all else.
 """
 import random

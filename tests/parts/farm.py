@@ -22,7 +22,7 @@ def job(source, output):
 
 
 def content(path):
-    """The letter of a file that is whole, and its length; None where it is in part or of two letters."""
+    """The letter of a file that is whole, and its length; None if it is in part or of two letters."""
     with open(path, "rb") as file:
         data = file.read()
     return (chr(data[0]), len(data)) if data and data == data[:1] * len(data) else None
@@ -42,7 +42,7 @@ def remove_leftovers(folder):
 
 
 def file_limit(most):
-    """What a child has to call first so that none of its files grows above so many bytes."""
+    """What a child has to call first so that none of its files grows above this number of bytes."""
 
     def limit():
         signal.signal(signal.SIGXFSZ, signal.SIG_IGN)

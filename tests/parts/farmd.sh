@@ -1,7 +1,7 @@
 # A farmd for the checks. Sourced by checks.sh, whose functions it calls.
 
 # start_farmd LOG [WORD..]: starts farmd on loopback with these words, and sets PORT and FARMD_PROCESS. Its output goes to the file LOG, its messages to
-# LOG.err. --trust-options comes first, and in its place may stand the word anywhere: farmd listens as where no word says at which address.
+# LOG.err. --trust-options comes first. The word `anywhere` may come in its place: farmd then listens as without --listen.
 start_farmd() {
   local log=$1 trust='' listen='--listen 127.0.0.1'
   shift
@@ -11,7 +11,7 @@ start_farmd() {
   esac
   for PORT in $(seq 14632 14731); do
     is_taken "$PORT" && continue
-    : >"$log.err" # an earlier one may have told this port
+    : >"$log.err" # an earlier one may have printed this port
     # shellcheck disable=SC2086
     "$FARMD" $trust $listen --port "$PORT" "$@" >"$log" 2>"$log.err" &
     FARMD_PROCESS=$!
@@ -24,10 +24,16 @@ start_farmd() {
   return 1
 }
 
-# answered LOG: how many compiles a farmd has answered. A line comes behind its reply.
+# answered LOG: how many compiles a farmd has answered. A line comes after its reply.
 answered() { grep -c 'gcc answered 00000000' "$1.err"; }
 
+# stops farmd, once the runs under way are over and their folders are gone, but for 5 seconds at most: a farmd that ends in a run leaves its folder
 stop_farmd() {
+  local _
+  for _ in $(seq 50); do
+    compgen -G "$work/tmp/farm-*" >/dev/null || break
+    sleep 0.1
+  done
   [ -n "${FARMD_PROCESS:-}" ] && kill "$FARMD_PROCESS" 2>/dev/null && wait "$FARMD_PROCESS" 2>/dev/null
   FARMD_PROCESS=
 }

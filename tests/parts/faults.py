@@ -1,6 +1,6 @@
-"""Faults of a real machine: each leaves every named file old or whole, and is told.
+"""Faults of a real machine: each leaves every named file old or whole, and is reported.
 
-A source is a number and a letter, as `65536 B`: its object has so many bytes of this letter, whoever compiles it. FARM names the program.
+A source is a number and a letter, as `65536 B`: its object has that many bytes of this letter, whoever compiles it. FARM names the program.
 """
 import fcntl
 import os
@@ -51,7 +51,7 @@ def hang(link):
 
 
 def reset_after(tenths):
-    """A host that resets the link after so many tenths of its reply."""
+    """A host that resets the link after this number of tenths of its reply."""
 
     def serve(link):
         made = object_of(read_request(link))
@@ -72,7 +72,7 @@ def line(port, text):
 # faults of the disk
 
 def not_put(name, folder, seen, put=False):
-    """The object wasn't put: the old file is there, and nothing else, and a line names the file and the reason. Where it fits it was."""
+    """The object wasn't put: the old file is there, and nothing else, and a line names the file and the reason. If it fits it was."""
     status, text = seen
     told = [each for each in text.splitlines(True) if "x.o: cannot be written: " in each and "(os error " in each]
     for each in told:
@@ -151,7 +151,9 @@ def blocked(folder):
     write_program(f"{folder}/noisy", "#!/bin/sh\nyes 'a line of messages' | head -c 300000 >&2\n")
     ends, starts = os.pipe()
     os.set_blocking(starts, False)
-    child = subprocess.Popen([FARM, "cc", "./noisy", "-E", "x.i"], cwd=folder, stderr=starts)
+    child = subprocess.Popen([FARM, "build", "--hosts", "localhost"], cwd=folder, stdin=subprocess.PIPE, stderr=starts, stdout=subprocess.DEVNULL)
+    child.stdin.write(b"./noisy -E x.i\n")
+    child.stdin.close()
     os.close(starts)
     held, before = -1, -2
     while held <= 0 or held != before:

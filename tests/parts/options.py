@@ -19,8 +19,10 @@ def ask(compiler, options, source):
 def lines():
     for line in sys.stdin.read().split("\n"):
         if line and not line.startswith("# "):
-            # an option and its operand are apart by a blank; a path that is mapped may have one
-            yield [line] if "-prefix-map=" in line else line.split(" ")
+            # options and operands are apart by blanks; only a path that is mapped may have one
+            words = line.split(" ")
+            is_path = "-prefix-map=" in words[0] and not any(word.startswith("-") for word in words[1:])
+            yield [line] if is_path else words
 
 
 # Of each kind of line how often it runs, what begins the reply, and whether that says that a word isn't let through. 00006f00 is the status 28,416.

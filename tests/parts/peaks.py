@@ -1,10 +1,10 @@
-"""The resident size of a process, its children left out. What wait4 tells of it begins with the size of whoever started it."""
+"""The resident size of a process, its children left out. What wait4 says of it begins with the size of whoever started it."""
 import threading
 import time
 
 
 def resident(process, field="VmRSS"):
-    """The resident size of a process, or another field of its status, in KiB; 0 where it is gone."""
+    """The resident size of a process, or another field of its status, in KiB; 0 if it is gone."""
     try:
         with open(f"/proc/{process}/status", encoding="ascii") as file:
             return next((int(line.split()[1]) for line in file if line.startswith(field)), 0)

@@ -1,4 +1,4 @@
-/* Refuses one allocation of a program that this is loaded into: the one whose number, from 1, REFUSED names. Where COUNTED is there it
+/* Refuses one allocation of a program that this is loaded into: the one whose number, from 1, REFUSED names. If COUNTED is there it
    writes at the end how many allocations there were to standard error. */
 #include <stdatomic.h>
 #include <stdio.h>

@@ -93,7 +93,7 @@ def read_request(link):
 
 
 def reply_head(size):
-    """What stands before an object of so many bytes."""
+    """What comes before an object of this number of bytes."""
     return token(b"DONE", 1) + token(b"STAT", 0) + token(b"SERR", 0) + token(b"SOUT", 0) + token(b"DOTO", size)
 
 

@@ -10,24 +10,25 @@ use edge_real::{
 };
 use edge_traits::Kit;
 use farm_program::farm;
-use farm_types::Words;
 use farm_types::exits::STOPPED;
+use farm_types::{Host, Words};
 use farm_words::{back_off_period, lookup};
 use host_list::{HostError, parse};
 use object_delivery::FileKeeper;
 use std::alloc::AllocError;
 use std::sync::Wait;
 use std::thread::Threads;
-use std::{fs, process};
+use std::{fs, process, str};
 use stream_print::print;
 use whole_command::{
-    Given, HeldSink, PreprocessorStation, Whole, handed_descriptors, run_whole, runs_again,
+    Given, HeldSink, PreprocessorStation, Whole, handed_descriptors, is_there, run_whole,
+    runs_again,
 };
 
 /// Does a compile command, and returns the exit status. It may wait for a slot.
 ///
-/// It runs here as it stands, if it may not be sent, if it has no host, or if no host compiled it with status 0. The last two hold with
-/// fallback only.
+/// It runs here as it stands, if it may not be sent, if it has no host or this machine is its first, or if no host compiled it with status 0. All
+/// but the first hold with fallback only.
 pub fn compile<W: Threads + Wait + Sync>(
     waits: &W,
     rt: &HostRuntime,
@@ -39,7 +40,7 @@ pub fn compile<W: Threads + Wait + Sync>(
     let asked = compile_command(words.as_slice()).unwrap_or(&[]);
     let command = bytes_of(alloc, asked)?;
     let place = place_of(rt, &command, variables.as_slice())?;
-    if place == Place::Here || place == Place::NoHost && fallback {
+    if place == Place::Here || place == Place::HereFirst && fallback {
         return run_here(rt, Given::Words(asked));
     }
     let count = words.len();
@@ -56,8 +57,8 @@ pub fn compile<W: Threads + Wait + Sync>(
 enum Place {
     /// Here, as it stands.
     Here,
-    /// No host is named.
-    NoHost,
+    /// Here first of all: no host is named, or the first is this machine.
+    HereFirst,
     /// On a host, or as the environment's fault says.
     Host,
 }
@@ -74,9 +75,12 @@ fn place_of(
     match parse(alloc, lookup(variables, HOSTS).unwrap_or("").as_bytes()) {
         Err(HostError::Fault { .. }) => Ok(Place::Host),
         Err(HostError::Memory) => Err(AllocError),
-        Ok(_) if is_whole(rt, alloc, command)? => Ok(Place::Here),
-        Ok(hosts) if hosts.list.is_empty() => Ok(Place::NoHost),
-        Ok(_) => Ok(Place::Host),
+        Ok(_) if is_whole(rt, command)? => Ok(Place::Here),
+        Ok(hosts) => Ok(match hosts.list.as_slice() {
+            // The one job is given the first entry: nobody else takes a slot of it, and this machine isn't left alone.
+            [] | [Host { local: true, .. }, ..] => Place::HereFirst,
+            _ => Place::Host,
+        }),
     }
 }
 
@@ -85,10 +89,19 @@ pub fn compile_unread(rt: &HostRuntime) -> Result<Option<u8>, AllocError> {
     let Ok(line) = fs::read(rt, "/proc/self/cmdline") else {
         return Ok(None);
     };
-    match line.as_slice().split(|byte| *byte == 0).nth(1) {
-        Some(b"cc") => Ok(Some(run_here(rt, Given::OwnLine)?)),
-        _ => Ok(None),
+    let mut words = line.as_slice().split(|byte| *byte == 0).skip(1);
+    if words.next() != Some(b"cc") {
+        return Ok(None);
     }
+    let program = words.next().and_then(|word| str::from_utf8(word).ok());
+    if let Some(program) = program {
+        if !is_there(rt, program)? {
+            // Its start fails, and says so.
+            let program = String::from_str(rt.alloc(), program)?;
+            return Ok(Some(run_here(rt, Given::Words(&[program]))?));
+        }
+    }
+    Ok(Some(run_here(rt, Given::OwnLine)?))
 }
 
 // Runs a command here as it stands.

@@ -1,4 +1,4 @@
-// What is told on the standard error as farmd begins: where it listens, and its table of compilers.
+// What farmd says on standard error as it begins: where it listens, and its table of compilers.
 use daemon_program::DoorPlace;
 use daemon_words::{compilers_of, settings_of};
 use std::alloc::AllocError;
@@ -9,7 +9,7 @@ use std::os::unix::fs::{MetadataExt, PermissionsExt};
 use std::rt::Files;
 use std::{fs, str};
 
-/// Tells where the doors are, at this port, and each compiler of the table, with a word where its program can't be found.
+/// Says where the doors are, at this port, and each compiler of the table: whether its program is found, and whether its compiles are kept apart.
 pub fn tell_beginning<R: Eprint + Env + Files + AllocGlobal>(
     rt: &R,
     words: &[String],
@@ -25,26 +25,31 @@ pub fn tell_beginning<R: Eprint + Env + Files + AllocGlobal>(
         // Both are parts of a word, which is a text.
         let name = str::from_utf8(compiler.name.as_slice()).unwrap_or("");
         let program = str::from_utf8(compiler.program.as_slice()).unwrap_or("");
-        let found = if is_found(rt, path.as_str(), program)? {
-            ""
-        } else {
-            ", which can't be found"
-        };
-        let _ = eprintln!(rt; "farmd: {name} is {program}{found}");
+        let remark = remark(rt, path.as_str(), program)?;
+        let _ = eprintln!(rt; "farmd: {name} is {program}{remark}");
     }
     Ok(())
 }
 
-/// Says if compiles can't be kept apart from one another, since the program that farmd-box uses isn't there.
-pub fn tell_boxes<R: Eprint + Env + Files + AllocGlobal>(rt: &R) -> Result<(), AllocError> {
-    let path = env::var(rt, "PATH").unwrap_or(String::new(rt.alloc()));
-    if !is_found(rt, path.as_str(), "bwrap")? {
-        let _ = eprintln!(rt; "farmd: compiles aren't kept apart, since bubblewrap isn't there");
+// What a row of the table says after its program: whether it can't be found, and whether its compiles are kept apart from others.
+fn remark<R: Files + AllocGlobal>(
+    rt: &R,
+    path: &str,
+    program: &str,
+) -> Result<&'static str, AllocError> {
+    let Some(file) = found(rt, path, program)? else {
+        return Ok(", which can't be found");
+    };
+    if !is_box(rt, file.as_str()) {
+        return Ok(", not kept apart");
     }
-    Ok(())
+    match found(rt, path, "bwrap")? {
+        Some(_) => Ok(""),
+        None => Ok(", not kept apart, since bubblewrap isn't there"),
+    }
 }
 
-/// Tells where the folder for the files of compiles isn't there.
+/// Says so if the folder for the files of compiles isn't there.
 pub fn tell_folder<R: Eprint + Files>(rt: &R, folder: &str) {
     if !fs::metadata(rt, folder).is_ok_and(|found| found.is_dir()) {
         let _ = eprintln!(rt; "farmd: {folder}: no folder for files of compiles, see TMPDIR");
@@ -56,18 +61,28 @@ pub fn is_root<R: Files>(rt: &R) -> bool {
     fs::metadata(rt, "/proc/self").is_ok_and(|found| found.uid() == 0)
 }
 
-// Whether a program is there, by its path or in a folder of `PATH`.
-fn is_found<R: Files + AllocGlobal>(rt: &R, path: &str, program: &str) -> Result<bool, AllocError> {
+// The file of a program, by its path or in a folder of `PATH`, if it is there.
+fn found<R: Files + AllocGlobal>(
+    rt: &R,
+    path: &str,
+    program: &str,
+) -> Result<Option<String>, AllocError> {
     if program.contains('/') {
-        return Ok(is_program(rt, program));
+        let file = String::from_str(rt.alloc(), program)?;
+        return Ok(is_program(rt, program).then_some(file));
     }
     for folder in path.split(':') {
         let file = format!(in rt.alloc(); "{folder}/{program}")?;
         if is_program(rt, file.as_str()) {
-            return Ok(true);
+            return Ok(Some(file));
         }
     }
-    Ok(false)
+    Ok(None)
+}
+
+// Whether a program is farmd-box, or a link to it.
+fn is_box<R: Files + AllocGlobal>(rt: &R, file: &str) -> bool {
+    fs::canonicalize(rt, file).is_ok_and(|found| found.as_path().ends_with("farmd-box"))
 }
 
 // Whether a file that may be run is there.

@@ -9,7 +9,7 @@ ghost use Rattle.farmd.specs.Policies.{IsPolicyFor};
 ghost use Rattle.edge_real.specs.Views.{policy_of as station_policy};
 
 use access_list::AccessList;
-use beginning::{is_root, tell_beginning, tell_boxes, tell_folder};
+use beginning::{is_root, tell_beginning, tell_folder};
 use daemon_program::{DoorPlace, door_place, farmd};
 use daemon_words::{
     Command, Options, parse_words, rules_of, settings_of, tools_of, trusts_options,
@@ -204,7 +204,6 @@ fn doors_of<'a>(
     }
     if options.is_some() {
         tell_folder(rt, own_folder(rt)?.as_str());
-        tell_boxes(rt)?;
     }
     let access = access_of(rt, words.as_slice())?;
     let doors = doors_at(

@@ -1,11 +1,13 @@
 -- What was printed while workers worked.
-use Rattle.std.specs.Prelude.{◌≡◌, ℕ, ◌+◌, ◌<◌, nat_le, Bool, true, ◌&&◌, List, [], ◌∷◌, ◌++◌, length, take}
+use Rattle.std.specs.Prelude.{◌≡◌, ℕ, ◌+◌, ◌<◌, nat_le, Bool, true, ◌&&◌, List, [], ◌∷◌, ◌++◌, length, min, take}
 use Rattle.edge_traits.specs.Told.{Grew}
 use Rattle.edge_traits.specs.Sinks.{SinkView}
 use Rattle.stream_print.specs.Prints.{GoesOn, DidStop}
 use Rattle.watch_lines.specs.declared.count.Count.{Count}
 use Rattle.watch_lines.specs.declared.line_end.LineEnd.{LineEnd}
 use Rattle.watch_lines.specs.declared.line_end.LineEnd.TheVariants.{Whole, SinkFault, Memory}
+use Rattle.farm_monitor.specs.declared.ends.Watcher.{Watcher}
+use Rattle.watch_lines.specs.Counts.{total, AreLooks}
 use Rattle.watch_lines.specs.Lines.{watch_line, lines_text, counts_rise, lines_end, none_says_all}
 
 -- no more jobs have ended than there are, and no more workers are at a job than there are
@@ -49,3 +51,15 @@ abbrev pub WatchLines : ℕ → ℕ → ℕ → ℕ → ℕ → SinkView → Sin
 WatchLines jobs workers at lines least old new Whole = LinesPrinted jobs workers at lines least old new
 WatchLines jobs workers at lines least old new SinkFault = LinesCut jobs workers at lines least old new × DidStop old new
 WatchLines jobs workers at lines least old new Memory = LinesCut jobs workers at lines least old new × GoesOn old new
+
+-- the counts of the lines that were printed, the last one in part perhaps
+abbrev pub counts_told : (jobs workers at lines least : ℕ) (old new : SinkView) (end : LineEnd)
+    → WatchLines jobs workers at lines least old new end → List Count
+counts_told jobs workers at lines least old new Whole w = w.counts
+counts_told jobs workers at lines least old new SinkFault w = w.0.counts ++ w.0.next ∷ []
+counts_told jobs workers at lines least old new Memory w = w.0.counts ++ w.0.next ∷ []
+
+-- Lines were printed, or cut, and each tells what these watchers knew at one look.
+pub record WatchTells (jobs at lines : ℕ) (old new : List Watcher) (before after : SinkView) (end : LineEnd) : Type 0 where
+  pub printed : WatchLines jobs (length old) at lines (min jobs (total old)) before after end
+  pub looks : AreLooks jobs old (counts_told jobs (length old) at lines (min jobs (total old)) before after end printed) new

@@ -1,7 +1,8 @@
 //! The last line, once all workers have ended.
 ghost use Rattle.std.specs.Prelude.{◌≡◌, ◌+◌, ◌^◌, ◌<◌, ◌≤◌, ◌++◌, [], length, map, true, decimal, codes};
 ghost use Rattle.farm_monitor.specs.Boards.{board_watched};
-ghost use Rattle.watch_lines.specs.Lines.{last_line, last_text};
+ghost use Rattle.watch_lines.specs.Counts.{count_of, KnowMore};
+ghost use Rattle.watch_lines.specs.Lines.{are_all, last_line, last_text};
 ghost use Rattle.watch_lines.specs.Texts.{text_of};
 ghost use Rattle.watch_lines.specs.Printed.{LinePrinted};
 
@@ -29,7 +30,7 @@ fn print_last<E: Sink>(jobs: u32, told: bool, err: &mut E) -> LineEnd
 }
 
 /// Prints the last line, and answers how that ended, and whether the line says that all jobs have ended. Each board was told
-/// all its rows where `told` holds.
+/// all its rows if `told` holds.
 pub fn watch_last<E: Sink>(
     watchers: &mut [Watcher],
     jobs: u32,
@@ -38,7 +39,8 @@ pub fn watch_last<E: Sink>(
 ) -> (LineEnd, bool)
     requires few { length watchers.old < 2 ^ 32 }
     ensures same { map board_watched watchers.new ≡ map board_watched watchers.old }
-    ensures told { result.1 ≡ true → told ≡ true }
+    ensures more { KnowMore watchers.old watchers.new }
+    ensures told { result.1 ≡ true → (told ≡ true) × (are_all jobs (count_of jobs watchers.new) ≡ true) }
     ensures printed { LinePrinted (last_text jobs result.1) (E.shows err.old) (E.shows err.new) result.0 }
 {
     let count = count_rows(watchers, jobs);

@@ -1,10 +1,10 @@
 //! The lines that are printed while workers work.
-ghost use Rattle.std.specs.Prelude.{◌≡◌, ◌+◌, ◌==◌, ◌^◌, ◌<◌, ◌≤◌, ◌||◌, [], length, map, min};
+ghost use Rattle.std.specs.Prelude.{◌≡◌, ◌+◌, ◌==◌, ◌^◌, ◌<◌, ◌≤◌, ◌||◌, [], length, map};
 ghost use Rattle.edge_traits.specs.Told.{Grew};
 ghost use Rattle.farm_monitor.specs.Boards.{board_watched};
-ghost use Rattle.watch_lines.specs.Counts.{total};
+ghost use Rattle.watch_lines.specs.Counts.{total, KnowMore};
 ghost use Rattle.watch_lines.specs.Lines.{watch_line, are_all};
-ghost use Rattle.watch_lines.specs.Printed.{LinePrinted, WatchLines};
+ghost use Rattle.watch_lines.specs.Printed.{LinePrinted, WatchTells};
 
 use crate::count::{Count, count_rows};
 use crate::line_end::LineEnd;
@@ -33,6 +33,7 @@ fn pause_on<C: Clock>(clock: &mut C, watchers: &mut [Watcher], jobs: u32, pauses
     requires few { length watchers.old < 2 ^ 32 }
     ensures same { map board_watched watchers.new ≡ map board_watched watchers.old }
     ensures rises { total watchers.old ≤ total watchers.new }
+    ensures more { KnowMore watchers.old watchers.new }
     ensures paused { Grew (C.shows clock.old).moments (C.shows clock.new).moments [] }
 {
     if pauses == 0 {
@@ -64,8 +65,7 @@ fn watch_on<C: Clock, E: Sink>(
     requires room { number + left < 2 ^ 32 }
     ensures same { map board_watched watchers.new ≡ map board_watched watchers.old }
     ensures paused { Grew (C.shows clock.old).moments (C.shows clock.new).moments [] }
-    ensures printed { WatchLines jobs (length watchers.old) number left (min jobs (total watchers.old))
-        (E.shows err.old) (E.shows err.new) result }
+    ensures tells { WatchTells jobs number left watchers.old watchers.new (E.shows err.old) (E.shows err.new) result }
 {
     if left == 0 {
         return LineEnd::Whole;
@@ -96,8 +96,7 @@ pub fn watch<C: Clock, E: Sink>(
     requires most { lines < 1000 }
     ensures same { map board_watched watchers.new ≡ map board_watched watchers.old }
     ensures paused { Grew (C.shows clock.old).moments (C.shows clock.new).moments [] }
-    ensures printed { WatchLines jobs (length watchers.old) 1 lines (min jobs (total watchers.old))
-        (E.shows err.old) (E.shows err.new) result }
+    ensures tells { WatchTells jobs 1 lines watchers.old watchers.new (E.shows err.old) (E.shows err.new) result }
 {
     watch_on(clock, watchers, jobs, 1, lines, err)
 }

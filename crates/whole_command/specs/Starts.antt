@@ -14,9 +14,9 @@ sign Read = codes "<"
 sign Write = codes ">>"
 sign Both = codes "<>"
 
--- Opens a descriptor of this process again under its number.
+-- Opens a descriptor of this process again under its number. Without `command` a shell of POSIX's manner would end where that is refused.
 abbrev pub opening_text : ℕ → ℕ → Mode → List ℕ
-opening_text process number mode = codes "{ exec " ++ decimal number ++ sign mode ++ codes "/proc/" ++ decimal process
+opening_text process number mode = codes "{ command exec " ++ decimal number ++ sign mode ++ codes "/proc/" ++ decimal process
     ++ codes "/fd/" ++ decimal number ++ codes "; } 2>/dev/null\n"
 
 abbrev pub opening_texts : ℕ → List Descriptor → List ℕ
@@ -27,12 +27,17 @@ abbrev pub taking_text : Given → ℕ → List ℕ
 taking_text (Words words) process = []
 taking_text OwnLine process = codes "mapfile -d '' -t words </proc/" ++ decimal process ++ codes "/cmdline; set -- \"${words[@]:2}\"\n"
 
--- What the shell does before it becomes the command.
-abbrev pub start_text : Whole → List ℕ
-start_text whole = opening_texts whole.process whole.descriptors.now ++ taking_text whole.given whole.process ++ codes "exec \"$@\"\n"
+-- Becomes the command, whose first word may look like an option.
+abbrev pub becoming_text : List ℕ
+becoming_text = codes "exec -- \"$@\"\n"
 
+-- What the shell does.
+abbrev pub start_text : Whole → List ℕ
+start_text whole = opening_texts whole.process whole.descriptors.now ++ taking_text whole.given whole.process ++ becoming_text
+
+-- By `-p` the shell takes nothing from the environment that would change what it does: no file, function or option.
 abbrev pub shell_words : Whole → List (List ℕ) → List (List ℕ)
-shell_words whole words = codes "bash" ∷ codes "-c" ∷ start_text whole ∷ codes "farm" ∷ words
+shell_words whole words = codes "bash" ∷ codes "-p" ∷ codes "-c" ∷ start_text whole ∷ codes "farm" ∷ words
 
 -- A command with known words and nothing to hand on is started by its own words, any other by the shell.
 abbrev pub words_by : Whole → List (List ℕ) → List Descriptor → List (List ℕ)

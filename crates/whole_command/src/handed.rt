@@ -1,18 +1,36 @@
 //! The descriptors that whoever started this process handed on to it.
 
 ghost use Rattle.std.specs.Prelude.{◌≡◌};
-ghost use Rattle.whole_command.specs.Handed.{mode_of};
+ghost use Rattle.whole_command.specs.Handed.{mode_of, opens_again};
 
 use crate::words::{Descriptor, Mode};
 use std::alloc::AllocError;
-use std::fs;
+use std::fs::{self, FileType};
+use std::os::unix::fs::FileTypeExt;
 use std::rt::Files;
 
 /// How many descriptors are looked at.
 const MOST: usize = 1024;
 
-/// The descriptors that this process was handed, beside the standard streams: those that it doesn't close for a program which it becomes. All
-/// that it opens itself it closes. None if the system doesn't tell them.
+/// What a descriptor leads to.
+#[derive(Clone, Copy, Debug, PartialEq, Eq)]
+pub enum Kind {
+    /// A regular file.
+    File,
+    /// A character device, as a terminal.
+    Device,
+    /// A pipe, with a name or without.
+    Pipe,
+    /// A socket, a folder or the like.
+    Other,
+}
+
+/// The descriptors that this process was handed, beside the standard streams, and that can be handed on: those that it doesn't close for a
+/// program which it becomes, if they lead to a regular file, a character device or a pipe without a name. All that it opens itself it closes. None
+/// if the system doesn't tell them.
+///
+/// Each is opened anew: who reads a regular file begins at its start, and who writes to one adds to its end. A socket can't be opened again, and
+/// to open a pipe with a name may wait for ever.
 pub fn handed_descriptors<R: Files + AllocGlobal + Clone + Drop>(
     rt: &R,
 ) -> Result<Vec<Descriptor>, AllocError> {
@@ -46,7 +64,47 @@ fn descriptor_named<R: Files + AllocGlobal>(
     let Ok(text) = fs::read_to_string(rt, path.as_str()) else {
         return Ok(None);
     };
-    Ok(mode_told(text.as_str()).map(|mode| Descriptor { number, mode }))
+    match mode_told(text.as_str()) {
+        Some(mode) if can_be_opened(rt, number)? => Ok(Some(Descriptor { number, mode })),
+        _ => Ok(None),
+    }
+}
+
+// Whether what a descriptor leads to can be opened again, with the same meaning.
+fn can_be_opened<R: Files + AllocGlobal>(rt: &R, number: u32) -> Result<bool, AllocError> {
+    let path = format!(in rt.alloc(); "/proc/self/fd/{number}")?;
+    let Ok(found) = fs::metadata(rt, path.as_str()) else {
+        return Ok(false);
+    };
+    let kind = kind_of(found.file_type());
+    Ok(match fs::read_link(rt, path.as_str()) {
+        Ok(link) => opens_again(kind, link.to_string_lossy().as_bytes()),
+        // Its path isn't UTF-8: it has a name.
+        Err(_) => opens_again(kind, &[]),
+    })
+}
+
+// Whether it can, by what it leads to and the text of its link.
+fn opens_again(kind: Kind, link: &[u8]) -> bool
+    ensures { result ≡ opens_again kind link.now }
+{
+    match kind {
+        Kind::File | Kind::Device => true,
+        Kind::Pipe => link.starts_with(b"pipe:["),
+        Kind::Other => false,
+    }
+}
+
+fn kind_of(found: FileType) -> Kind {
+    if found.is_file() {
+        Kind::File
+    } else if found.is_char_device() {
+        Kind::Device
+    } else if found.is_fifo() {
+        Kind::Pipe
+    } else {
+        Kind::Other
+    }
 }
 
 // The mode of a descriptor by what the system tells of it; None if it is closed for other programs.

@@ -3,7 +3,7 @@
 ghost use Rattle.std.specs.Prelude.{◌≡◌, ◌∷◌, ◌++◌, None, IfOk, OnOk, codes, map, string_bytes};
 ghost use Rattle.std.specs.Fmt.{decimal};
 ghost use Rattle.std.specs.Process.{command_args, command_dir, command_program};
-ghost use Rattle.whole_command.specs.Starts.{opening_text, sign, start_text, start_words, taking_text};
+ghost use Rattle.whole_command.specs.Starts.{becoming_text, opening_text, sign, start_text, start_words, taking_text};
 
 use std::alloc::{AllocError, Global};
 use std::process::Command;
@@ -64,11 +64,12 @@ pub fn command_of(alloc: Global, whole: &Whole<'_>) -> Result<Command, AllocErro
 fn shell(alloc: Global, whole: &Whole<'_>, words: &[String]) -> Result<Command, AllocError>
     ensures program { IfOk result (λ command. command_program command ≡ codes "bash") }
     ensures arguments { IfOk result (λ command. command_args command
-        ≡ codes "-c" ∷ start_text whole.now ∷ codes "farm" ∷ map string_bytes words.now) }
+        ≡ codes "-p" ∷ codes "-c" ∷ start_text whole.now ∷ codes "farm" ∷ map string_bytes words.now) }
     ensures folder { IfOk result (λ command. command_dir command ≡ None) }
 {
     let script = script_of(alloc, whole)?;
     let mut command = Command::new(alloc, "bash")?;
+    command.arg("-p")?;
     command.arg("-c")?;
     command.arg(script.as_str())?;
     command.arg("farm")?;
@@ -97,8 +98,15 @@ fn script_of(alloc: Global, whole: &Whole<'_>) -> Result<String, AllocError>
         script.push_str(line.as_str())?;
     }
     script.push_str(taking_line(alloc, whole)?.as_str())?;
-    script.push_str("exec \"$@\"\n")?;
+    script.push_str(becoming_line())?;
     Ok(script)
+}
+
+// The line by which the shell becomes the command.
+fn becoming_line() -> &'static str
+    ensures { result.now ≡ becoming_text }
+{
+    "exec -- \"$@\"\n"
 }
 
 // The line that takes the words, if they aren't known.
@@ -118,7 +126,7 @@ fn taking_line(alloc: Global, whole: &Whole<'_>) -> Result<String, AllocError>
 fn opening_line(alloc: Global, process: u32, number: u32, mode: Mode) -> Result<String, AllocError>
     ensures { IfOk result (λ line. string_bytes line ≡ opening_text process number mode) }
 {
-    let mut line = String::from_str(alloc, "{ exec ")?;
+    let mut line = String::from_str(alloc, "{ command exec ")?;
     push_number(alloc, &mut line, number)?;
     line.push_str(sign_of(mode))?;
     line.push_str("/proc/")?;

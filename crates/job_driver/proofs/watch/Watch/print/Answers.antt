@@ -13,4 +13,4 @@ returns-clause-printed g c =
     let new = shows c.watch.new.err in
     lines-from jobs _ 1 lines _ 0 _ _ c.watch.result (omega arith)
     (subst (λ ws. WatchLines jobs (length ws) 1 lines (min jobs (total ws)) old new c.watch.result) c.as_mut_slice.ensures.value
-    c.watch.ensures.printed)
+    c.watch.ensures.tells.printed)
