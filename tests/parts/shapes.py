@@ -1,5 +1,5 @@
 """Runs each row of tests/parts/shapes three ways, and compares what is left and said: shapes.py FARM PORT FOLDER [PATTERN]. The ways are the compiler
-alone, `farm cc` without a host, and `farm cc` with the farmd at this port. FOLDER is for files. With PATTERN only the rows are run whose text it fits."""
+by itself, `farm cc` without a host, and `farm cc` with the farmd at this port. FOLDER is for files. With PATTERN only the rows are run whose text it fits."""
 import concurrent.futures
 import os
 import re
@@ -116,7 +116,7 @@ def tree(folder):
 
 
 def run(shape, number, way):
-    """What a run leaves, by the names of its parts; and where its command was done. Each run has a new folder. All three of a shape have one path, since
+    """What a run leaves, by the names of its parts; and the place at which its command was done. Each run has a new folder. All three of a shape have one path, since
     objects name their folder."""
     folder = os.path.join(FOLDER, f"{number:04}")
     os.makedirs(folder)
@@ -186,7 +186,7 @@ def debug_names(path):
 
 
 def without_debug(data, path, keeps_names):
-    """An object without debug information, or with the names and the lines of it alone."""
+    """An object without debug information, or with only its names and lines."""
     with open(path, "wb") as file:
         file.write(data)
     names = debug_names(path) if keeps_names else b""

@@ -122,7 +122,7 @@ SOURCES = {
     b"int f(int a) { switch (a) { case 1: return 7; case 2: return 9; case 3: return 1; case 4: return 8; } return 0; }\n",
     "inline": b"static inline int g(int a) { return a * 3; }\nint f(int a) { return g(a) + g(a + 1); }\n",
     "nested": b"int f(int a) { int g(int b) { return a + b; } return g(1); }\n",
-    # C++ alone
+    # only C++
     "template": b"template <typename T> T add(T a, T b) { return a + b; }\ntemplate int add<int>(int, int);\nint f() { return add(1, 2); }\n",
     "classes": b"namespace { struct A { virtual ~A() {} virtual int f() { return 1; } }; }\nstruct B : A { int f() override { return 2; } };\n"
     b"int g() { B b; A &a = b; return a.f(); }\n",
