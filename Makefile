@@ -38,8 +38,8 @@ edits:
 
 # First what needs no program: the map of the crates, the list of what has to be believed, the texts of edits, what makes functions hard to read, and plain
 # words. Then the programs: with a real distccd, in an odd environment, on a real disk, with faults of a real machine, with an allocation refused. Then real
-# and hostile clients, options, the cache, whole projects with their dependency files, and several hosts. Then a program of many sources, the manual pages, the
-# installation and the demonstration. Each is skipped if a program that it needs is missing.
+# and hostile clients, options, the cache, whole projects and packages, dependency files, command shapes, and several hosts. Then a program of many sources,
+# the manual pages, the installation and the demonstration. Each is skipped if a program that it needs is missing.
 checks:
 	tools/layers
 	tools/believed
@@ -56,7 +56,9 @@ checks:
 	tests/options
 	tests/cache
 	tests/projects
+	tests/packages
 	tests/dependencies
+	tests/shapes
 	tests/randomize
 	tests/database
 	tests/programs
