@@ -1,8 +1,10 @@
 pub mod Again
 pub mod Clang
+pub mod Gcc
 pub mod Handed
 pub mod Held
 pub mod Outputs
+pub mod Passed
 pub mod Programs
 pub mod Starts
 pub mod Stations

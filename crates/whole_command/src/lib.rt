@@ -3,9 +3,11 @@
 
 mod again;
 mod clang;
+mod gcc;
 mod handed;
 mod held;
 mod outputs;
+mod passed;
 mod programs;
 mod running;
 mod station;
@@ -13,9 +15,11 @@ mod words;
 
 pub use again::runs_again;
 pub use clang::needs_folder;
+pub use gcc::needs_marks;
 pub use handed::handed_descriptors;
 pub use held::HeldSink;
 pub use outputs::{Found, found_at, takes_whole_command};
+pub use passed::passes_option;
 pub use programs::is_there;
 pub use running::run_whole;
 pub use station::PreprocessorStation;
