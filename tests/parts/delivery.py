@@ -193,18 +193,18 @@ def objects_of_two_workers(folder, rounds):
     """Two workers at once: one's compiler takes its output away and ends later, the other's writes its object meanwhile. Each has its own."""
     place = f"{folder}/own"
     os.mkdir(place)
-    write_program(f"{place}/cc1", REMOVER)
+    write_program(f"{place}/remover", REMOVER)
     write(f"{place}/a.c", "")
     write(f"{place}/b.cc", "")
     os.mkdir(f"{place}/tmp")
     for number in range(rounds):
-        jobs = f"./cc1 -fremoves-{number % 2} -c a.c -o a.o\n./cc1 -fwrites -c b.cc -o b.o\n"
+        jobs = f"./remover -fremoves-{number % 2} -c a.c -o a.o\n./remover -fwrites -c b.cc -o b.o\n"
         words = [FARM, "build", "--hosts", "--localslots=2", "--workers", "2"]
         farm = subprocess.run(words, cwd=place, input=jobs.encode(), capture_output=True, env={**os.environ, "TMPDIR": f"{place}/tmp"})
         with open(f"{place}/b.o", "rb") as file:
             held = file.read()
         expect("an object is that of its own compiler", held == b"OTHER\n", (number, held, farm.stdout, farm.stderr))
-        told = b"./cc1: left no object\n" in farm.stderr
+        told = b"./remover: left no object\n" in farm.stderr
         expect("a compile that left no object is told", told == (number % 2 == 0), (number, farm.stderr))
         expect("the folder of each run is gone", not os.listdir(f"{place}/tmp"))
         for name in ("a.o", "b.o"):
