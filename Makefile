@@ -60,6 +60,7 @@ checks:
 	tests/dependencies
 	tests/shapes
 	tests/randomize
+	bench/instructions --check
 	tests/database
 	tests/programs
 	tests/manual
