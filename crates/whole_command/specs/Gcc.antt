@@ -2,6 +2,7 @@
 use Rattle.std.specs.Prelude.{ℕ, Bool, false, not, ◌&&◌, ◌||◌, nat_eq, List, [], ◌∷◌, codes}
 use Rattle.std.specs.List.{list_any, starts_with}
 use Rattle.arg_scan.specs.Names.{last_name}
+use Rattle.whole_command.specs.Clang.{asks_debug}
 
 -- The name of gcc or g++ begins at some place of the name.
 abbrev pub is_gcc : List ℕ → Bool
@@ -21,8 +22,8 @@ asks_link_time words = list_any is_link_time words
 abbrev pub settles_marks : List (List ℕ) → Bool
 settles_marks words = list_any says_marks words
 
--- gcc's command for link-time optimisation that doesn't say whether the text names its folder
+-- gcc's command for link-time optimisation without debug information that doesn't say whether the text names its folder
 abbrev pub needs_marks : List (List ℕ) → Bool
 needs_marks [] = false
 needs_marks (program ∷ arguments) =
-    is_gcc (last_name program) && (asks_link_time arguments && not (settles_marks arguments))
+    is_gcc (last_name program) && (asks_link_time arguments && (not (asks_debug arguments) && not (settles_marks arguments)))

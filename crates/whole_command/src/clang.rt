@@ -29,7 +29,7 @@ fn is_clang(name: &[u8]) -> bool
     }
 }
 
-fn asks_debug(words: &[Bytes]) -> bool
+pub(crate) fn asks_debug(words: &[Bytes]) -> bool
     ensures { result ≡ asks_debug words.now }
 {
     words.iter().any(|word| is_debug(word.as_slice()))
