@@ -38,7 +38,7 @@ edits:
 
 # First what needs no program: the map of the crates, the list of what has to be believed, the texts of edits, what makes functions hard to read, and plain
 # words. Then the programs: with a real distccd, in an odd environment, on a real disk, with faults of a real machine, with an allocation refused. Then real
-# and hostile clients, options, the cache, whole projects and packages, dependency files, command shapes, and several hosts. Then a program of many sources,
+# and hostile clients, options, the cache, whole projects and packages, dependency files, command shapes, several hosts and shared runs. Then a program of many sources,
 # the manual pages, the installation and the demonstration. Each is skipped if a program that it needs is missing.
 checks:
 	tools/layers
@@ -60,6 +60,7 @@ checks:
 	tests/dependencies
 	tests/shapes
 	tests/randomize
+	tests/share
 	bench/instructions --check
 	tests/database
 	tests/programs
@@ -112,6 +113,7 @@ bench:
 	bench/run
 	bench/builds 100 7
 	bench/make
+	bench/share
 	bench/servers 64 7
 	bench/scale
 	bench/transfer

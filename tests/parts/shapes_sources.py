@@ -20,7 +20,10 @@ SOURCES = {
     "timestamp": b"const char *a = __TIMESTAMP__;\n",
     "line": b'#line 100 "other.c"\nint a = __LINE__;\nconst char *b = __FILE__;\nint f(void) { return a; }\n',
     "line-marks": b'# 7 "made.y"\nint a = __LINE__;\nint f(void) { return a; }\n',
+    "marked-late": b'# 7 "made.y"\nint a = 7;\nint f(void) { return a; }\n',
+    "marked": b'# 1 "made.y"\nint a = 7;\nint f(void) { return a; }\n',
     "ident": b'#ident "made by hand"\nint a;\n',
+    "place-in-header": b'#include "place.h"\nconst char *f(void) { return here(); }\n',
     "builtin-file": b"const char *f(void) { return __builtin_FILE(); }\nconst char *g(void) { return __FILE__; }\n",
     # branches by the preprocessor
     "has-include": b"#if __has_include(<stdio.h>) && !__has_include(<no/such.h>)\nint a = 1;\n#endif\n",
@@ -32,6 +35,9 @@ SOURCES = {
     # pragmas
     "pragma-target": b"#pragma GCC target(\"avx2\")\n#ifdef __AVX2__\nint f(void) { return 2; }\n#else\nint f(void) { return 0; }\n#endif\n",
     "pragma-optimize": b"#pragma GCC optimize(\"O2\")\n#ifdef __OPTIMIZE__\nint f(void) { return 2; }\n#else\nint f(void) { return 0; }\n#endif\n",
+    "pragma-in-header": b'#include "target.h"\n#ifdef __AVX2__\nint f(void) { return 2; }\n#else\nint f(void) { return 0; }\n#endif\n',
+    "pragma-by-operator": b'_Pragma("GCC target(\\"avx2\\")")\n#ifdef __AVX2__\nint f(void) { return 2; }\n#else\nint f(void) { return 0; }\n#endif\n',
+    "pragma-with-gaps": b"  #\tpragma  GCC\t optimize (\"O2\")\n#ifdef __OPTIMIZE__\nint f(void) { return 2; }\n#else\nint f(void) { return 0; }\n#endif\n",
     "pragma-undef": b'#pragma GCC diagnostic ignored "-Wundef"\n#if FOO\n#endif\nint x;\n',
     "pragma-poison": b"#pragma GCC poison gets\nint a;\n",
     "pragma-poisoned": b"#define NO gets\n#pragma GCC poison gets\nint NO;\n",
@@ -141,6 +147,8 @@ SOURCES = {
 # Headers and other files, by the last parts of their names.
 FILES = {
     "h.h": b"#define H 3\n",
+    "target.h": b'#pragma GCC target("avx2")\n',
+    "place.h": b"static inline const char *here(void) { return __builtin_FILE(); }\n",
     "pre.h": b"#define VALUE 5\n",
     "config.h": b"#define H 4\n#define VALUE 6\n",
     "quiet.h": b"#pragma GCC system_header\n#if FOO\n#endif\nstatic int unused_here;\n",

@@ -3,7 +3,7 @@ use Rattle.std.specs.Prelude.{◌≡◌, ◌≢◌, ℕ, suc, ◌-◌, ◌/◌, 
 use Rattle.std.specs.Prelude.{Option, Some, None, unwrap_or, if◌then◌else◌}
 use Rattle.std.specs.List.{position_or_len}
 use Rattle.farm_types.specs.Limits.{rules_max}
-use Rattle.farm_types.specs.Decimals.{IsPlainDecimal}
+use Rattle.farm_types.specs.Decimals.{IsDecimal}
 use Rattle.farm_types.specs.Bytes.{slash}
 use Rattle.access_list.specs.declared.rule.Rule.{Rule}
 use Rattle.access_list.specs.declared.rule.AccessFault.{AccessFault}
@@ -22,11 +22,11 @@ address_part text = take (slash_in text) text
 abbrev pub bits_part : List ℕ → List ℕ
 bits_part text = drop (slash_in text) text
 
--- what stands behind an address says this number of bits: `/BITS`, 1 or 2 digits without a leading zero and with a value of 0 to
--- 32, or nothing, which means 32
+-- what follows an address says this number of bits: `/BITS`, 1 or 2 digits with a value of 0 to 32, where a zero may be in front,
+-- or nothing, which means 32
 abbrev pub bits_of : List ℕ → ℕ → Type 0
 bits_of [] bits = bits ≡ 32
-bits_of (first ∷ digits) bits = IsPlainDecimal 2 0 32 digits bits
+bits_of (first ∷ digits) bits = IsDecimal 2 0 32 digits bits
 
 -- the text says this rule
 pub record RuleOf (allow : Bool) (text : List ℕ) (rule : Rule) : Type 0 where

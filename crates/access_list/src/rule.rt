@@ -6,7 +6,7 @@ ghost use Rattle.access_list.specs.declared.rule.AccessFault.{AccessFault};
 ghost use Rattle.access_list.specs.Rules.{RuleOf, WrongRule, bits_of, matches};
 
 use crate::address::{place_of, read_address};
-use farm_types::{Items, read_plain_decimal};
+use farm_types::{Items, read_decimal};
 
 /// Whether peers with these first bits of their addresses are let in.
 #[derive(Clone, Copy, Debug, PartialEq, Eq)]
@@ -47,7 +47,7 @@ fn read_bits(text: &[u8]) -> Option<u32>
 {
     match text {
         [] => Some(32),
-        [_, digits @ ..] => read_plain_decimal(digits, 2, 0, 32),
+        [_, digits @ ..] => read_decimal(digits, 2, 0, 32),
     }
 }
 
@@ -70,8 +70,8 @@ fn read_rule(allow: bool, text: &[u8]) -> Result<Rule, AccessFault>
     })
 }
 
-/// Reads a rule: an IPv4 address, with or without `/BITS` behind it, 1 or 2 digits without a leading zero and with a value of
-/// 0 to 32. Without it BITS is 32. It takes no memory.
+/// Reads a rule: an IPv4 address, with or without `/BITS` after it, 1 or 2 digits with a value of 0 to 32. Without it BITS is
+/// 32. A zero may be in front in BITS, as in `08`, and not in the address. It takes no memory.
 pub fn parse_rule(allow: bool, text: &[u8]) -> Result<Rule, AccessFault>
     ensures rule { IfOk result (RuleOf allow text.now) }
     ensures fault { IfErr result (WrongRule text.now) }

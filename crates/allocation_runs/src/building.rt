@@ -134,7 +134,7 @@ fn report_count(ended: &Ended) -> usize {
     count
 }
 
-// The status of a run, and how many jobs have a report, where every slot is back.
+// The status of a run, and how many jobs have a report, if every slot is back.
 fn seen_of(ended: &Ended) -> Option<(u8, usize)> {
     if is_all_back(ended) {
         Some((ended.status, report_count(ended)))
@@ -168,7 +168,7 @@ fn kit_objects(alloc: Global, kit: FileKit) -> Result<Option<u32>, AllocError> {
     objects(alloc, &mut files)
 }
 
-// How many objects were put, where each is whole and nothing is left of a put.
+// How many objects were put, if each is whole and nothing is left of a put.
 fn all_objects(alloc: Global, kits: Vec<FileKit>) -> Result<Option<u32>, AllocError> {
     let mut whole = Some(0u32);
     for kit in kits {
@@ -180,7 +180,7 @@ fn all_objects(alloc: Global, kits: Vec<FileKit>) -> Result<Option<u32>, AllocEr
     Ok(whole)
 }
 
-// How a run ended that answered this, printed so, has so many reports, and put so many objects, if each is whole.
+// How a run ended that answered this, printed so, has that many reports, and put that many objects, if each is whole.
 fn judge(status: u8, out: &[u8], err: &[u8], reports: usize, whole: Option<u32>) -> Verdict {
     let Some(whole) = whole else {
         return Verdict::Wrong("a put is there in part");

@@ -1,4 +1,4 @@
-//! What may come of a run in which memory was wanting.
+//! What may come of a run in which memory ran out.
 
 use edge_traits::FetchFault;
 use farm_types::Bytes;
@@ -9,7 +9,7 @@ use std::alloc::{AllocError, Global};
 pub enum Verdict {
     /// As it ends with ample memory.
     Usual,
-    /// In one of the ways in which it may end where memory is wanting.
+    /// In one of the ways in which it may end if memory runs out.
     Wanting,
     /// Otherwise.
     Wrong(&'static str),
@@ -29,7 +29,7 @@ pub struct Printed {
     pub total: bool,
 }
 
-// The number at the front of a line, where this is behind it.
+// The number at the front of a line, if this is after it.
 fn numbered(line: &str, rest: &str) -> Option<u32> {
     line.strip_suffix(rest)?.parse().ok()
 }
@@ -45,7 +45,7 @@ fn is_skip(line: &str, job: u32) -> bool {
     number == job && by < job
 }
 
-// One line more: of the next job, which succeeded, wanted memory or was skipped, or the total of all of them.
+// One line more: of the next job, which succeeded, was out of memory or was skipped, or the total of all of them.
 fn with_line(printed: Printed, line: &str) -> Option<Printed> {
     if printed.total {
         return None;
@@ -74,7 +74,7 @@ fn with_line(printed: Printed, line: &str) -> Option<Printed> {
     None
 }
 
-/// The whole lines that were printed, where each of them is one that a run may print.
+/// The whole lines that were printed, if each of them is one that a run may print.
 pub fn lines_of(text: &str) -> Option<Printed> {
     let mut seen = Printed {
         lines: 0,
@@ -108,7 +108,7 @@ fn look_up(alloc: Global, files: &mut MemFiles, name: &[u8]) -> Result<Found, Al
     }
 }
 
-/// How many of the jobs' objects are in the files, where each of them is whole and nothing is left of a put.
+/// How many of the jobs' objects are in the files, if each of them is whole and nothing is left of a put.
 pub fn objects(alloc: Global, files: &mut MemFiles) -> Result<Option<u32>, AllocError> {
     let mut whole: u32 = 0;
     for number in 1..=JOBS {

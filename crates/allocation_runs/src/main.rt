@@ -1,7 +1,7 @@
 //! Runs over devices in memory, in which a test has one allocation after another refused. The argument names the run: `one` and `four` are
 //! twelve jobs by one worker and by four, `graph` is a graph of twelve jobs, `daemon` is a whole request of the daemon.
 //!
-//! It ends with 0 and prints nothing where the run ended as usual, and with 105 where memory was wanting and it ended as it may then. Where
+//! It ends with 0 and prints nothing if the run ended as usual, and with 105 if memory ran out and it ended as it may then. If
 //! it ended otherwise it ends with 0, too, and prints how, so that a refused allocation shows as other output with the same status.
 #![tactic(auto)]
 
@@ -14,11 +14,12 @@ use farm_types::exits::{BAD_WORDS, NO_MEMORY};
 use judging::Verdict;
 use std::env;
 use std::process::ExitCode;
+use std::random::RandomSource;
 use std::sync::Wait;
 use std::thread::Threads;
 
-// Does the run of this name, where there is one. It may wait for a slot.
-fn run<W: Threads + Wait + Sync>(
+// Does the run of this name, if there is one. It may wait for a slot.
+fn run<W: Threads + Wait + RandomSource + Sync>(
     waits: &W,
     rt: &HostRuntime,
     name: &str,

@@ -1,5 +1,8 @@
 //! A whole request of the daemon over devices in memory.
 
+ghost use Rattle.std.specs.Prelude.{◌≡◌, false, length};
+ghost use Rattle.edge_memory.specs.Sinks.{sink_state, sink_shows};
+
 use crate::judging::Verdict;
 use daemon_program::farmd;
 use daemon_worker::DoorKit;
@@ -7,6 +10,8 @@ use edge_memory::{LinkScript, LinkScripts, MemDoor, MemSink, MemStation, Moves, 
 use edge_traits::CallNumbers;
 use farm_types::Bytes;
 use std::alloc::{AllocError, Global};
+use std::random::RandomSource;
+use std::sync::Wait;
 use std::thread::Threads;
 
 const WORDS: [&str; 6] = ["--compiler", "scc=scc", "--jobs", "1", "--serve", "1"];
@@ -39,7 +44,7 @@ fn door(alloc: Global) -> Result<MemDoor, AllocError> {
     Ok(MemDoor::new(alloc, links, Peers::new(alloc), CallNumbers::new(alloc)))
 }
 
-// Where memory was wanting it was in the connection or at the door, and the line says so; or outside, and a notice stands behind what
+// If memory ran out it was in the connection or at the door, and the line says so; or outside, and a notice is after what
 // was printed before, which is none of the line here.
 fn is_wanting(status: u8, out: &[u8]) -> bool {
     match status {
@@ -49,7 +54,7 @@ fn is_wanting(status: u8, out: &[u8]) -> bool {
     }
 }
 
-// How a run ended that answered this, printed so, and sent so much to its peer. A reply is cut where the link itself wanted memory.
+// How a run ended that answered this, printed so, and sent so much to its peer. A reply is cut if the link itself was out of memory.
 fn judge(status: u8, out: &[u8], sent: &[u8]) -> Verdict {
     if !REPLY.starts_with(sent) {
         return Verdict::Wrong("the reply is none of this run");
@@ -73,8 +78,25 @@ fn judge(status: u8, out: &[u8], sent: &[u8]) -> Verdict {
     Verdict::Wrong("what is printed is none of this run")
 }
 
+// Serves by the words at a door in memory.
+fn serve<W: Threads + Wait + RandomSource + Sync>(
+    rt: &W,
+    alloc: Global,
+    words: &[String],
+    doors: &mut Vec<DoorKit<MemDoor, MemStation>>,
+    out: &mut MemSink,
+) -> u8
+    requires door { length doors.old.items ≡ 1 }
+    requires out { (sink_shows (sink_state out.old)).stopped ≡ false }
+{
+    farmd(rt, alloc, words, doors, out)
+}
+
 /// Serves one whole request.
-pub fn one_request<W: Threads + Sync>(rt: &W, alloc: Global) -> Result<Verdict, AllocError> {
+pub fn one_request<W: Threads + Wait + RandomSource + Sync>(
+    rt: &W,
+    alloc: Global,
+) -> Result<Verdict, AllocError> {
     let mut words = Vec::new(alloc);
     for word in WORDS {
         words.push(String::from_str(alloc, word)?)?;
@@ -91,7 +113,7 @@ pub fn one_request<W: Threads + Sync>(rt: &W, alloc: Global) -> Result<Verdict, 
             ..moves(alloc)
         },
     );
-    let status = farmd(rt, alloc, words.as_slice(), &mut doors, &mut out);
+    let status = serve(rt, alloc, words.as_slice(), &mut doors, &mut out);
     let visit = match doors.pop() {
         Some(kit) => kit.door.into_visits().take_last(),
         None => None,

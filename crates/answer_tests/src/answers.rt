@@ -36,7 +36,7 @@ fn empty_page(alloc: Global) -> Page {
     }
 }
 
-/// An answer to ask for. Words stand with single blanks between them.
+/// An answer to ask for. Words have single blanks between them.
 #[derive(Clone, Copy)]
 enum Ask {
     Hosts(&'static str),
@@ -208,7 +208,7 @@ const ROWS: &[Row] = &[
     Row {
         ask: Ask::Help(Some(CommandName::Cc)),
         status: 0,
-        out: "Usage: farm cc WORD...\nDoes the compile command that the words are, on the hosts of DISTCC_HOSTS, and\nends with the compiler's exit code. A command that may not be sent is run here\nas it stands.\n\nEach command asks the hosts in the order of the list, from the first on. With\n--randomize in the list each process begins at another one, so that make -j\nuses them all.\n",
+        out: "Usage: farm cc WORD...\nDoes the compile command that the words are, on the hosts of DISTCC_HOSTS, and\nends with the compiler's exit code. A command that may not be sent is run here\nas it stands.\n\nEach command asks the hosts in the order of the list, from the first on. With\n--randomize in the list each process begins at another one, so that make -j\nuses them all. Below farm share each is given a slot of a host.\n",
         err: "",
     },
 ];

@@ -192,7 +192,7 @@ fn each_bad_database_has_its_fault(rt: HostRuntime) {
     expect_faults(&rt, rt.alloc(), FAULTS);
 }
 
-/// A database of so many entries, each of them `true`.
+/// A database of that many entries, each of them `true`.
 fn many(alloc: Global, count: usize) -> Result<String, AllocError> {
     let mut text = String::from_str(alloc, "[")?;
     for at in 0..count {

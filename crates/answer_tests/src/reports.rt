@@ -17,7 +17,7 @@ enum Way {
     Failed(Why5),
 }
 
-/// An end, what stands in its line behind the number, and its exit status.
+/// An end, what is in its line after the number, and its exit status.
 type Row = (Way, &'static str, u8);
 
 const ROWS: &[Row] = &[
@@ -236,7 +236,7 @@ fn expect_lines<R: Abort>(
     Ok(())
 }
 
-/// What is printed of an end of a command that is run alone.
+/// What is printed of an end of a command that is run only.
 fn expect_alone<R: Abort>(
     rt: &R,
     alloc: Global,
@@ -266,7 +266,7 @@ fn expect_report<R: Abort>(
     expect_alone(rt, alloc, &alone, row)
 }
 
-/// What is printed of an end, in a build and alone, and its exit status.
+/// What is printed of an end, in a build and by itself, and its exit status.
 fn expect_end<R: Abort>(rt: &R, alloc: Global, hosts: &Hosts, row: &Row) -> Result<(), AllocError> {
     let report = report_of(alloc, 4_294_967_294, row.0)?;
     expect_report(rt, alloc, hosts, &report, row)?;

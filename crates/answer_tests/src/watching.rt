@@ -1,10 +1,11 @@
 //! The lines of a watched build, and the last one.
 
 ghost use Rattle.std.specs.Prelude.{◌≡◌, []};
+ghost use Rattle.edge_traits.specs.Told.{untold};
 ghost use Rattle.farm_monitor.specs.Boards.{shown_rows};
 
 use crate::same::{same, same_bytes};
-use edge_memory::{MemClock, MemSink, Moments, Moves};
+use edge_memory::{MemSink, Moves};
 use edge_traits::{CallNumbers, Clock, Sink};
 use farm_monitor::{Progress, Shower, Watcher, board};
 use std::alloc::{AllocError, Global};
@@ -28,6 +29,24 @@ fn sink_of(alloc: Global, fails: &[u64]) -> Result<MemSink, AllocError> {
         most: 1_000,
     };
     Ok(MemSink::new(alloc, moves))
+}
+
+/// A clock that counts its pauses.
+#[derive(Drop)]
+struct CountingClock {
+    pauses: u32,
+}
+
+impl Clock for CountingClock {
+    ghost shows = { λ clock. record { moments = untold [] } };
+
+    fn now(&mut self) -> u64 {
+        0
+    }
+
+    fn pause(&mut self) {
+        self.pauses = self.pauses.saturating_add(1);
+    }
 }
 
 /// A board on which this row was shown last, and told of.
@@ -76,6 +95,7 @@ struct LineRow {
     /// The writes that fail.
     fails: &'static [u64],
     end: LineEnd,
+    pauses: u32,
     text: &'static str,
 }
 
@@ -87,6 +107,7 @@ const LINE_ROWS: &[LineRow] = &[
         lines: 2,
         fails: &[],
         end: LineEnd::Whole,
+        pauses: 100,
         text: "watch 1 ended 2 of 4 busy 2\nwatch 2 ended 2 of 4 busy 2\n",
     },
     LineRow {
@@ -96,6 +117,7 @@ const LINE_ROWS: &[LineRow] = &[
         lines: 1,
         fails: &[],
         end: LineEnd::Whole,
+        pauses: 0,
         text: "watch 1 ended 3 of 4 busy 1\n",
     },
     LineRow {
@@ -105,6 +127,7 @@ const LINE_ROWS: &[LineRow] = &[
         lines: 1,
         fails: &[],
         end: LineEnd::Whole,
+        pauses: 0,
         text: "watch 1 ended 4 of 4 busy 1\n",
     },
     LineRow {
@@ -114,6 +137,7 @@ const LINE_ROWS: &[LineRow] = &[
         lines: 3,
         fails: &[],
         end: LineEnd::Whole,
+        pauses: 0,
         text: "watch 1 ended 6 of 6 busy 0\n",
     },
     LineRow {
@@ -123,6 +147,7 @@ const LINE_ROWS: &[LineRow] = &[
         lines: 3,
         fails: &[2],
         end: LineEnd::SinkFault,
+        pauses: 100,
         text: "watch 1 ended 5 of 5 busy 1\n",
     },
 ];
@@ -143,9 +168,10 @@ fn expect_lines<R: Abort>(
     row: &LineRow,
 ) -> Result<(), AllocError> {
     let mut err = sink_of(alloc, row.fails)?;
-    let mut clock = MemClock::new(Moments::new(alloc));
+    let mut clock = CountingClock { pauses: 0 };
     let end = ended(&mut clock, watchers, row, &mut err);
     same(rt, &end, &row.end, &row.text);
+    same(rt, &clock.pauses, &row.pauses, &row.text);
     same_bytes(rt, err.written(), row.text.as_bytes(), &row.text);
     Ok(())
 }
@@ -159,7 +185,9 @@ fn expect_line_rows<R: Wait + Abort>(rt: &R, alloc: Global, rows: &[LineRow]) ->
 }
 
 #[test]
-fn each_line_counts_what_all_boards_show(rt: HostRuntime) -> Result<(), Fail> {
+fn each_line_counts_what_all_boards_show_and_pauses_lie_between_lines(
+    rt: HostRuntime,
+) -> Result<(), Fail> {
     expect_line_rows(&rt, rt.alloc(), LINE_ROWS)
 }
 

@@ -9,7 +9,7 @@ use Rattle.arg_scan.specs.Class.{plan_of}
 use Rattle.arg_strip.specs.Words.{output_of}
 use Rattle.command_checks.specs.declared.overwriting.Names.{Names}
 
--- the word `-` where an option may stand
+-- the word `-` where an option may be
 abbrev pub is_dash : Part → Bool
 is_dash (part.Word role.Dash) = true
 is_dash _ = false
@@ -18,7 +18,7 @@ is_dash _ = false
 abbrev pub reads_input : List (List ℕ) → Bool
 reads_input words = any_below (λ at. is_dash (part_at words at)) (length words)
 
--- the word of the source and the name of the output, where one is named
+-- the word of the source and the name of the output, if one is named
 abbrev pub names_of : List (List ℕ) → Option Names
 names_of words =
     if is_some (plan_of words).output

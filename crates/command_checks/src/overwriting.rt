@@ -17,7 +17,7 @@ pub struct Names {
     pub output: Bytes,
 }
 
-/// The names of the source and of the output, where a command that may be sent names an output. Where these name one file, the command would replace its
+/// The names of the source and of the output, if a command that may be sent names an output. If these name one file, the command would replace its
 /// source.
 pub fn source_and_output(alloc: Global, words: &Words) -> Result<Option<Names>, AllocError>
     requires { IsRemote words.now }

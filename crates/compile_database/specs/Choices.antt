@@ -4,7 +4,7 @@ use Rattle.std.specs.List.{slice_get}
 use Rattle.serde_json.specs.Data.{Data}
 use Rattle.compile_database.specs.Entries.{folder_of}
 
--- the places of the values that pass a test, where the first value has this place
+-- the places of the values that pass a test, if the first value has this place
 abbrev pub places_from : ℕ → (Data → Bool) → List Data → List ℕ
 places_from at passes [] = []
 places_from at passes (d ∷ ds) = if passes d then at ∷ places_from (at + 1) passes ds else places_from (at + 1) passes ds
@@ -61,6 +61,6 @@ abbrev pub at_most : Option ℕ → List ℕ → List ℕ
 at_most (Some count) places = take count places
 at_most None places = places
 
--- the places of the entries that are taken, where this is their folder
+-- the places of the entries that are taken, if this is their folder
 abbrev pub taken : Choice → List ℕ → List Data → List ℕ
 taken choice folder entries = at_most choice.count (drop choice.from (places (is_in folder) entries))

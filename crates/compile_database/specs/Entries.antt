@@ -16,7 +16,7 @@ text_of name entry = option_and_then as_str (get name entry)
 abbrev pub folder_of : Data → Option (List ℕ)
 folder_of entry = text_of (codes "directory") entry
 
--- the texts of a list that has texts alone
+-- the texts of a list that has texts only
 abbrev pub texts_of : List Data → Option (List (List ℕ))
 texts_of [] = Some []
 texts_of (d ∷ ds) = option_and_then (λ text. option_map (λ texts. text ∷ texts) (texts_of ds)) (as_str d)
@@ -44,7 +44,7 @@ abbrev pub words_by : Option Data → Data → Result (List (List ℕ)) NoWords
 words_by (Some arguments) entry = words_of_array (as_array arguments)
 words_by None entry = words_of_text (text_of (codes "command") entry)
 
--- the words that an entry says: those of `arguments` where it stands, and else those of `command`
+-- the words that an entry says: those of `arguments` if it is there, and else those of `command`
 abbrev pub said_words : Data → Result (List (List ℕ)) NoWords
 said_words entry = words_by (get (codes "arguments") entry) entry
 
@@ -52,7 +52,7 @@ abbrev pub completed_by : Bool → List (List ℕ) → List (List ℕ)
 completed_by true words = with_dependencies words
 completed_by false words = words
 
--- the words of a command as a job has them: with those of its dependency file, where it may be sent
+-- the words of a command as a job has them: with those of its dependency file, if it may be sent
 abbrev pub completed : List (List ℕ) → List (List ℕ)
 completed words = completed_by (is_remote_verdict (verdict_of words)) words
 

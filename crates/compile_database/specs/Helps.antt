@@ -42,7 +42,7 @@ text_of Version = version
 abbrev pub ask_of : List ℕ → Option Ask
 ask_of word = if bytes_eq word (codes "--help") then Some Help else (if bytes_eq word (codes "--version") then Some Version else None)
 
--- what the words ask for, where they are `--help` or `--version` alone
+-- what the words ask for, if they are `--help` or `--version` only
 abbrev pub asked : List (List ℕ) → Option Ask
 asked [] = None
 asked (word ∷ []) = ask_of word

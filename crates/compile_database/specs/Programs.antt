@@ -42,27 +42,27 @@ output text = record { sink = Out; bytes = text }
 
 -- ---- the endings
 
--- the text was printed, or printing stopped, or memory was wanting
+-- the text was printed, or printing stopped, or memory ran out
 abbrev pub Told : List ℕ → SinksView → SinksView → ℕ → Type 0
 Told text sinks sinks_now answer = Printing no_memory_text (output text ∷ []) 0 sinks sinks_now answer
 
--- this refusal was printed, or printing stopped, or memory was wanting
+-- this refusal was printed, or printing stopped, or memory ran out
 abbrev pub Refused : List ℕ → ℕ → SinksView → SinksView → ℕ → Type 0
 Refused message status sinks sinks_now answer = Printing no_memory_text (complaint message ∷ []) status sinks sinks_now answer
 
--- memory was wanting before anything was printed
+-- memory ran out before anything was printed
 abbrev pub Wanted : SinksView → SinksView → ℕ → Type 0
 Wanted sinks sinks_now answer = WantOf no_memory_text [] sinks sinks_now answer
 
--- The job list of the text was printed; or the text has this fault, which was told; or memory was wanting.
+-- The job list of the text was printed; or the text has this fault, which was told; or memory ran out.
 pub data Listed (choice : Choice) (text : List ℕ) (sinks sinks_now : SinksView) (answer : ℕ) : Type 0 where
   printed_list : (list : List ℕ) → ListOf choice text list → Told list sinks sinks_now answer → Listed choice text sinks sinks_now answer
   faulty_text : (fault : DatabaseFault) → FaultStands choice text fault
       → Refused (refusal_text fault) bad_text_status sinks sinks_now answer → Listed choice text sinks sinks_now answer
   unlisted : Wanted sinks sinks_now answer → Listed choice text sinks sinks_now answer
 
--- The input was read to its end, and its text was listed; or it was too long, or couldn't be read; or memory was wanting while it was
--- read, and then its count stands still: no fault of the input is told so.
+-- The input was read to its end, and its text was listed; or it was too long, or couldn't be read; or memory ran out while it was
+-- read, and then its count stays: no fault of the input is told so.
 pub data Reads (choice : Choice) (old new : SourceView) (sinks sinks_now : SinksView) (answer : ℕ) : Type 0 where
   whole_input : (text : List ℕ) → AllRead old new text → length text < too_long → Listed choice text sinks sinks_now answer
       → Reads choice old new sinks sinks_now answer

@@ -10,7 +10,7 @@ is_escapable c = c == 36 || c == 96 || c == double_quote || c == backslash
 
 -- ---- words
 
--- the bytes of a word, where one is open
+-- the bytes of a word, if one is open
 abbrev pub opened : Option (List ℕ) → List ℕ
 opened None = []
 opened (Some bytes) = bytes
@@ -24,8 +24,8 @@ abbrev pub ended : List (List ℕ) → Option (List ℕ) → List (List ℕ)
 ended done None = done
 ended done (Some bytes) = done ++ bytes ∷ []
 
--- The words of a text that goes on outside quotes, behind a backslash, between single quotes, between double quotes, or
--- there behind a backslash, after these words and this open one. None where it ends in a quote or behind a backslash.
+-- The words of a text that goes on outside quotes, after a backslash, between single quotes, between double quotes, or
+-- there after a backslash, after these words and this open one. None if it ends in a quote or after a backslash.
 abbrev pub words_from : Mode → List (List ℕ) → Option (List ℕ) → List ℕ → Option (List (List ℕ))
 words_from Outside done word [] = Some (ended done word)
 words_from Escaped done word [] = None
@@ -53,6 +53,6 @@ words_from DoubleEscaped done word (c ∷ cs) =
     else if is_escapable c then words_from Double done (grown word c) cs
     else words_from Double done (grown (grown word backslash) c) cs
 
--- the words of a command, or None where a quote is open or a backslash stands last
+-- the words of a command, or None if a quote is open or a backslash is last
 abbrev pub shell_words : List ℕ → Option (List (List ℕ))
 shell_words text = words_from Outside [] None text

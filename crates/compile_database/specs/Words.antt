@@ -38,7 +38,7 @@ option_of word =
     else if bytes_eq word (codes "--count") then Some Count
     else None
 
--- what is known of an option: each has a value, and stands at most once
+-- what is known of an option: each has a value, and is at most once
 abbrev pub row_of : Option OptionName → Option Row
 row_of None = None
 row_of (Some name) = Some (record { takes_value = true; repeats = false })
@@ -65,7 +65,7 @@ given_by items = record {
   count = option_and_then count_of (value_in (codes "--count") items);
 }
 
--- the entries that are taken by these options: from the first on, where nothing else is said
+-- the entries that are taken by these options: from the first on, if nothing else is said
 abbrev pub choice_by : Given → Choice
 choice_by given = record { folder = given.folder; from = unwrap_or given.from 0; count = given.count }
 
@@ -73,7 +73,7 @@ choice_by given = record { folder = given.folder; from = unwrap_or given.from 0;
 abbrev pub Chooses : List (List ℕ) → Choice → Type 0
 Chooses words choice = (items : List Item) × AreOptions options words items × (choice ≡ choice_by (given_by items))
 
--- the words are no options, and this is the place, from 0, of the first that doesn't fit; that of a missing word is behind the last
+-- the words are no options, and this is the place, from 0, of the first that doesn't fit; that of a missing word is after the last
 abbrev pub BadWordsAt : List (List ℕ) → ℕ → Type 0
 BadWordsAt words place = BadOptionAt options words place
 

@@ -15,11 +15,11 @@ use std::alloc::{AllocError, Global};
 /// Which entries of a compile database are taken.
 #[derive(Clone, Copy, Debug, PartialEq, Eq)]
 pub struct Selection<'a> {
-    /// The folder whose entries are taken. Where none is named, all entries have to be of one folder.
+    /// The folder whose entries are taken. If none is named, all entries have to be of one folder.
     pub folder: Option<&'a str>,
     /// How many of these are passed over first.
     pub from: usize,
-    /// How many are taken at most behind those.
+    /// How many are taken at most after those.
     pub count: Option<usize>,
 }
 
@@ -92,7 +92,7 @@ pub(crate) fn chosen_folder<'a>(selection: &Selection<'a>, entries: &'a [Value])
     }
 }
 
-// At most so many of these places.
+// At most that many of these places.
 fn at_most(places: &[usize], count: Option<usize>) -> &[usize]
     ensures { result.now ≡ at_most count places.now }
 {
@@ -102,7 +102,7 @@ fn at_most(places: &[usize], count: Option<usize>) -> &[usize]
     }
 }
 
-/// The places of the entries that are taken, where this is their folder.
+/// The places of the entries that are taken, if this is their folder.
 pub(crate) fn taken(
     alloc: Global,
     selection: &Selection<'_>,

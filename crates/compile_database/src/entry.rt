@@ -20,7 +20,7 @@ use std::alloc::{AllocError, Global};
 pub(crate) enum NoWords {
     /// Neither `arguments` nor `command` is there in its form.
     NoForm,
-    /// The text of `command` ends in a quote, or behind a backslash.
+    /// The text of `command` ends in a quote, or after a backslash.
     OpenQuote,
 }
 
@@ -57,7 +57,7 @@ pub(crate) fn folder_of(entry: &Value) -> Option<&str>
     text_of(entry, "directory")
 }
 
-// The texts of a list, where it has texts alone.
+// The texts of a list, if it has texts only.
 fn texts_of(alloc: Global, items: &[Value]) -> Result<Option<Words>, AllocError>
     ensures { IfOk result (λ texts. texts ≡ texts_of (map view items.now)) }
 {
@@ -101,7 +101,7 @@ fn words_of_text(alloc: Global, command: Option<&str>) -> Result<Words, Unread>
     }
 }
 
-// The words that an entry says: those of `arguments` where it stands, and else those of `command`.
+// The words that an entry says: those of `arguments` if it is there, and else those of `command`.
 fn said_words(alloc: Global, entry: &Value) -> Result<Words, Unread>
     ensures words { IfOk result (λ words. said_words (view entry.now) ≡ Ok words) }
     ensures unread { IfErr result (IsUnread (said_words (view entry.now))) }
@@ -112,8 +112,8 @@ fn said_words(alloc: Global, entry: &Value) -> Result<Words, Unread>
     }
 }
 
-/// The words of the job of an entry: those that it says, and behind them those of its dependency
-/// file where the command may be sent.
+/// The words of the job of an entry: those that it says, and after them those of its dependency
+/// file if the command may be sent.
 pub(crate) fn words_of(alloc: Global, entry: &Value) -> Result<Words, Unread>
     ensures words { IfOk result (λ words. words_of (view entry.now) ≡ Ok words) }
     ensures unread { IfErr result (IsUnread (words_of (view entry.now))) }

@@ -19,9 +19,9 @@ pub enum DatabaseFault {
     NoEntries,
     /// A 513th entry is taken.
     TooMany { entry: usize },
-    /// An entry has neither an array of texts `arguments` nor, where `arguments` isn't there, a text `command`.
+    /// An entry has neither an array of texts `arguments` nor, if `arguments` isn't there, a text `command`.
     NoForm { entry: usize },
-    /// A quote in `command` isn't closed, or a backslash stands last in it.
+    /// A quote in `command` isn't closed, or a backslash is last in it.
     OpenQuote { entry: usize },
     /// An entry has no word.
     NoWords { entry: usize },
@@ -69,7 +69,7 @@ impl std::error::Error for DatabaseFault {}
 /// Why a text gives no job list, or that memory ran out.
 #[derive(Clone, Copy, Debug, PartialEq, Eq, Drop)]
 pub enum DatabaseError {
-    /// This fault stands.
+    /// There is this fault.
     Fault(DatabaseFault),
     /// Memory ran out.
     Memory,

@@ -57,7 +57,7 @@ fn ask_of(word: &str) -> Option<Ask>
     }
 }
 
-/// What the words ask for, where they are `--help` or `--version` alone.
+/// What the words ask for, if they are `--help` or `--version` only.
 pub(crate) fn asked(words: &[String]) -> Option<Ask>
     ensures { result ≡ asked (map string_bytes words.now) }
 {

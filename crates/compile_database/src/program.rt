@@ -18,7 +18,7 @@ use farm_types::exits::{BAD_TEXT, BAD_WORDS, FAULT};
 use std::alloc::Global;
 use stream_print::{Input, Piece, SinkKind, complain, finish, no_memory, read_input};
 
-/// A compile database of so many bytes is too long.
+/// A compile database of that many bytes is too long.
 const TOO_LONG: usize = 67_108_864;
 
 const UNREADABLE_TEXT: &[u8] = b"farm_jobs: cannot read the database\n";

@@ -9,19 +9,19 @@ ghost use Rattle.compile_database.specs.Rests.{rest_words};
 use farm_types::{Bytes, Words};
 use std::alloc::{AllocError, Global};
 
-/// Where in a command a byte stands.
+/// Where in a command a byte is.
 #[derive(Clone, Copy, Debug, PartialEq, Eq, Drop)]
 pub(crate) enum Mode {
     Outside,
-    /// Outside quotes, behind a backslash.
+    /// Outside quotes, after a backslash.
     Escaped,
     Single,
     Double,
-    /// Between double quotes, behind a backslash.
+    /// Between double quotes, after a backslash.
     DoubleEscaped,
 }
 
-// The words that have ended, the one that is open, and where the next byte stands.
+// The words that have ended, the one that is open, and where the next byte is.
 #[derive(Debug, Drop)]
 pub(crate) struct Splitter {
     pub words: Words,
@@ -52,7 +52,7 @@ impl Splitter {
         }
     }
 
-    // Opens a word where none is open.
+    // Opens a word if none is open.
     fn open_word(&mut self, alloc: Global)
         ensures { self.new ≡ record self.old { word = Some (opened self.old.word) } }
     {
@@ -61,7 +61,7 @@ impl Splitter {
         }
     }
 
-    // A byte of a word, which opens one where none is open.
+    // A byte of a word, which opens one if none is open.
     fn add(&mut self, alloc: Global, byte: u8) -> Result<(), AllocError>
         ensures { OnOk result (self.new ≡ record self.old { word = grown self.old.word byte }) }
     {
@@ -166,7 +166,7 @@ impl Splitter {
         }
     }
 
-    // The words, where no quote is open and no backslash stood last.
+    // The words, if no quote is open and no backslash was last.
     fn finish(mut self) -> Result<Option<Words>, AllocError>
         ensures { IfOk result (λ words. words ≡ rest_words self []) }
     {
@@ -178,8 +178,8 @@ impl Splitter {
     }
 }
 
-/// The words of a command, split as a shell does: by blanks, with single quotes, double quotes and backslashes. None where a
-/// quote isn't closed, or a backslash stands last.
+/// The words of a command, split as a shell does: by blanks, with single quotes, double quotes and backslashes. None if a
+/// quote isn't closed, or a backslash is last.
 pub(crate) fn split_command(alloc: Global, text: &[u8]) -> Result<Option<Words>, AllocError>
     ensures { IfOk result (λ words. words ≡ shell_words text.now) }
 {

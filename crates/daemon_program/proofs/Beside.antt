@@ -64,7 +64,7 @@ pub first_of : {K : Type 0} (count : ℕ) (first others all : List K) → length
 first_of count first others all many are = ap (λ l. take count l) are ∙ ap (λ n. take n (first ++ others)) (sym many)
     ∙ take-append_seam first others
 
-others_of : {K : Type 0} (count : ℕ) (first others all : List K) → length first ≡ count → all ≡ first ++ others → drop count all ≡ others
+pub others_of : {K : Type 0} (count : ℕ) (first others all : List K) → length first ≡ count → all ≡ first ++ others → drop count all ≡ others
 others_of count first others all many are =
     let place : count ≡ length first + 0 = omega (arith, many) in
     ap (λ l. drop count l) are ∙ ap (λ n. drop n (first ++ others)) place ∙ drop-append-add first others 0

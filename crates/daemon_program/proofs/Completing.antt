@@ -48,7 +48,7 @@ numbered_right door number (c ∷ cs) right =
 
 module _ {A S : Type 0} (door : A → DoorView) (station : S → StationView) (ran : S → List Word → List ℕ → Ran → Type 0)
     (table : List Compiler) (rules : List Rule) (serve : ℕ) where
-  no_fault : (number : ℕ) (olds news : List (DoorKit A S)) (log : List Entry)
+  pub no_fault : (number : ℕ) (olds news : List (DoorKit A S)) (log : List Entry)
       → DoorsRight door station ran table rules serve number olds news log → list_any is_fault log ≡ false
   no_fault number [] [] log right = ap (list_any is_fault) right
   no_fault number [] (new ∷ news) log right = absurd right
@@ -59,7 +59,7 @@ module _ {A S : Type 0} (door : A → DoorView) (station : S → StationView) (r
       ap (list_any is_fault) right.2 ∙ list_any-append is_fault right.0 right.1 ∙ ap (λ b. b || list_any is_fault right.1) mine
       ∙ no_fault (suc number) olds news right.1 right.5
 
-  right_doors : (number : ℕ) (olds news : List (DoorKit A S)) (log : List Entry)
+  pub right_doors : (number : ℕ) (olds news : List (DoorKit A S)) (log : List Entry)
       → DoorsServed table rules serve door station ran number olds news log → AllSmooth door station ran olds news
       → DoorsRight door station ran table rules serve number olds news log
   right_doors number [] [] log done smooth = done
@@ -78,7 +78,7 @@ module _ {A S : Type 0} (door : A → DoorView) (station : S → StationView) (r
       )
 
 -- what a station with a book tells of faults and overruns is what the station tells
-smooth_beside : {A S : Type 0} (door : A → DoorView) (station : S → StationView) (ran : S → List Word → List ℕ → Ran → Type 0)
+pub smooth_beside : {A S : Type 0} (door : A → DoorView) (station : S → StationView) (ran : S → List Word → List ℕ → Ran → Type 0)
     (olds news : List (DoorKit A S)) → AllSmooth door station ran olds news
     → AllSmooth door (λ s. cached_shows (station s)) ran olds news
 smooth_beside door station ran [] news smooth = smooth
@@ -92,25 +92,25 @@ smooth_beside door station ran (old ∷ olds) (new ∷ news) smooth = (
 abbrev status_of : Bool → Bool → ℕ
 status_of fault memory = if fault then fault_status else (if memory then memory_status else 0)
 
-status_by : (a b : Bool) → a ≡ false → (status_of a b ≡ 0) ⊎ (status_of a b ≡ memory_status)
+pub status_by : (a b : Bool) → a ≡ false → (status_of a b ≡ 0) ⊎ (status_of a b ≡ memory_status)
 status_by true b none = absurd (cc none)
 status_by false true none = inr refl
 status_by false false none = inl refl
 
 -- ---- the sink went on
 
-never : (old new : SinkView) → ((DidStop old new) → ⊥) → (answer : ℕ) (told : List ℕ) → Noticed old new answer told → answer ≡ memory_status
+pub never : (old new : SinkView) → ((DidStop old new) → ⊥) → (answer : ℕ) (told : List ℕ) → Noticed old new answer told → answer ≡ memory_status
 never old new on answer told (told_whole is goes status) = status
 never old new on answer told (told_stopped rest parts left stop status) = absurd (on stop)
 never old new on answer told (told_wanted rest parts left goes status) = status
 
-ended_as : (text : List ℕ) (status : ℕ) (old new : SinkView) (answer : ℕ) → ((DidStop old new) → ⊥) → Ends text status old new answer
+pub ended_as : (text : List ℕ) (status : ℕ) (old new : SinkView) (answer : ℕ) → ((DidStop old new) → ⊥) → Ends text status old new answer
     → (answer ≡ status) ⊎ (answer ≡ memory_status)
 ended_as text status old new answer on (printed grew goes is) = inl is
 ended_as text status old new answer on (stopped part stop is) = absurd (on stop)
 ended_as text status old new answer on (wanted front rest parts left wants) = inr (never old new on answer wants.told wants.noticed)
 
-either_status : (status answer : ℕ) → (answer ≡ status) ⊎ (answer ≡ memory_status) → (status ≡ 0) ⊎ (status ≡ memory_status)
+pub either_status : (status answer : ℕ) → (answer ≡ status) ⊎ (answer ≡ memory_status) → (status ≡ 0) ⊎ (status ≡ memory_status)
     → (answer ≡ 0) ⊎ (answer ≡ memory_status)
 either_status status answer (inl is) (inl none) = inl (is ∙ none)
 either_status status answer (inl is) (inr memory) = inr (is ∙ memory)
@@ -118,7 +118,7 @@ either_status status answer (inr memory) none = inr memory
 
 module _ {A S : Type 0} (door : A → DoorView) (station : S → StationView) (ran : S → List Word → List ℕ → Ran → Type 0)
     (goes : S → List Word → List ℕ → Bounds → Result Ran StationFault → S → Type 0) (words : List (List ℕ)) (options : Options) (olds news : List (DoorKit A S)) (old new : SinkView) (answer : ℕ) where
-  goes_on : IsSmooth door station ran options olds news old new → DidStop old new → ⊥
+  pub goes_on : IsSmooth door station ran options olds news old new → DidStop old new → ⊥
   goes_on smooth (inl rose) = smooth.sink rose
   goes_on smooth (inr stop) = cc (stop, smooth.going)
 

@@ -43,77 +43,9 @@ use Rattle.std.proofs.lemmas.List.{length-map}
 use Rattle.std.proofs.lemmas.Simd.{map-map}
 use Rattle.farm_types.specs.Limits.{connections_max, workers_max}
 use Rattle.daemon_program.specs.Books.{plain_kit, book_of, stats_of}
-use Rattle.daemon_program.specs.Counts.{is_compile_status, is_compiled, compiled_in, is_failed, AreShort, AreCounted, failures, beside_goes}
+use Rattle.daemon_program.specs.Counts.{beside_goes}
+use Rattle.daemon_program.proofs.Tallies.{Adds, adds_nothing, adds_hit, adds_miss, counted, wanted_compiled}
 use Rattle.daemon_program.specs.Counts.{DoorKept, DoorsKept, BooksKept}
-
--- ---- programs, answers
-
-short_found : (b : Bool) (row : Compiler) (rest : Option Compiler) (program : List ℕ) → length row.program < 4294967296
-    → (option_map (λ (r : Compiler). r.program) rest ≡ Some program → length program < 4294967296)
-    → option_map (λ (r : Compiler). r.program) (cond b (Some row) rest) ≡ Some program → length program < 4294967296
-short_found true row rest program here there is = let same : row.program ≡ program = cc is in subst (λ p. length p < 4294967296) same here
-short_found false row rest program here there is = there is
-
-short_program : (rows : List Compiler) (name program : List ℕ) → AreShort rows → program_of rows name ≡ Some program
-    → length program < 4294967296
-short_program [] name program short is = absurd (cc is)
-short_program (row ∷ rows) name program short is = short_found (bytes_eq row.name name) row
-    (find (λ r. bytes_eq r.name name) rows) program short.0 (short_program rows name program short.1) is
-
-none_compiled : (answer : Served) → IsUncompiled answer → is_compiled (met.Served answer) ≡ false
-none_compiled (Answered status) (inl is) = ap is_compile_status is
-none_compiled (Answered status) (inr is) = ap is_compile_status is
-none_compiled (Refused at fault) is = refl
-none_compiled (Cut have) is = refl
-none_compiled LinkFault is = refl
-none_compiled Stopped is = refl
-none_compiled StationFault is = refl
-none_compiled Memory is = refl
-
-wanted_compiled : (answer : Served) (ended : Result Ran RunStop) → IsEnded ended answer → ended ≡ Err stop.Memory
-    → is_compiled (met.Served answer) ≡ false
-wanted_compiled (Answered status) ended is none = absurd (cc (is.1, none))
-wanted_compiled (Refused at fault) ended is none = refl
-wanted_compiled (Cut have) ended is none = refl
-wanted_compiled LinkFault ended is none = refl
-wanted_compiled Stopped ended is none = refl
-wanted_compiled StationFault ended is none = refl
-wanted_compiled Memory ended is none = refl
-
-came : (answer : Served) (ended : Result Ran RunStop) → IsEnded ended answer → is_failed (met.Served answer) ≡ false
-    → (ran : Ran) × (ended ≡ Ok ran)
-came (Answered status) ended is calm = (is.0, is.1)
-came (Refused at fault) ended is calm = is
-came (Cut have) ended is calm = is
-came LinkFault ended is calm = is
-came Stopped ended is calm = is
-came StationFault ended is calm = absurd (cc calm)
-came Memory ended is calm = absurd (cc calm)
-
--- ---- numbers
-
-raised : (n : ℕ) → n < greatest → one_more n ≡ n + 1
-raised n less = ap (λ b. if b then n + 1 else n) (lt-ltb n greatest less)
-
-at_most_one : (b : Bool) → (if b then 1 else 0) ≤ 1
-at_most_one true = omega arith
-at_most_one false = omega arith
-
-abbrev one_if : Bool → ℕ
-one_if b = if b then 1 else 0
-
-no_one : (b : Bool) → b ≡ false → one_if b ≡ 0
-no_one b is = ap one_if is
-
-or_parts : (a b : Bool) → (a || b) ≡ false → (a ≡ false) × (b ≡ false)
-or_parts true b is = absurd (cc is)
-or_parts false b is = (refl, is)
-
--- a run left something or failed
-one_of : (words : List Word) (input : List ℕ) (result : Result Ran RunStop)
-    → length (run_entries words input result) + length (failures result) ≡ 1
-one_of words input (Ok ran) = refl
-one_of words input (Err fault) = refl
 
 -- ---- books
 
@@ -141,141 +73,24 @@ module _ {S : Type 0} (shows : S → StationView) (goes : S → List Word → Li
       (after_miss old) new is
   learned_counts words input old new (Err fault) is = (ap (λ b. b.hits) is, ap (λ b. b.misses) is)
 
-  -- what one connection adds
-  record Counts (what : Met) (old new : Cached S) : Type 0 where
-    answers : (if is_compiled what then 1 else 0) + (old.book.hits + old.book.misses) ≤ new.book.hits + new.book.misses
-    few : new.book.hits + new.book.misses ≤ old.book.hits + old.book.misses + 1
-    runs : List Run
-    failed : List RunStop
-    grew : Grew (shows old.station).runs (shows new.station).runs runs
-    misses : length runs + length failed + old.book.misses ≡ new.book.misses
-    calm : is_failed what ≡ false → failed ≡ []
-
-  nothing : (what : Met) (old new : Cached S) → is_compiled what ≡ false → new.station ≡ old.station → new.book ≡ old.book
-      → Counts what old new
-  nothing what old new none station book =
-      let hits : new.book.hits ≡ old.book.hits = ap (λ b. b.hits) book in
-      let misses : new.book.misses ≡ old.book.misses = ap (λ b. b.misses) book in
-      record {
-        answers = omega (arith, no_one (is_compiled what) none, hits, misses);
-        few = omega (arith, hits, misses);
-        runs = [];
-        failed = [];
-        grew = subst (λ s. Grew (shows old.station).runs (shows s).runs []) (sym station) (Grew-refl (shows old.station).runs);
-        misses = omega (arith, misses);
-        calm = λ is. refl;
-      }
-
-  by_run : (answer : Served) (words : List Word) (input : List ℕ) (bounds : Bounds) (old new : Cached S) (ended : Result Ran RunStop)
-      → old.book.hits + old.book.misses < greatest → is_cacheable words input ≡ true
-      → IsEnded ended answer → CacheRun shows goes words input bounds old new ended → Counts (met.Served answer) old new
-  by_run answer words input bounds old new ended room may is (hit entry cacheable found result station book) =
-      let hits : new.book.hits ≡ old.book.hits + 1 = ap (λ b. b.hits) book ∙ raised old.book.hits (omega (arith, room)) in
-      let misses : new.book.misses ≡ old.book.misses = ap (λ b. b.misses) book in
-      record {
-        answers = omega (arith, at_most_one (is_compiled (met.Served answer)), hits, misses);
-        few = omega (arith, hits, misses);
-        runs = [];
-        failed = [];
-        grew = subst (λ s. Grew (shows old.station).runs (shows s).runs []) (sym station) (Grew-refl (shows old.station).runs);
-        misses = omega (arith, misses);
-        calm = λ is. refl;
-      }
-  by_run answer words input bounds old new ended room may is (miss cacheable none asked learned) =
-      let counts = learned_counts words input old.book new.book ended learned in
-      let hits : new.book.hits ≡ old.book.hits = counts.0 in
-      let misses : new.book.misses ≡ old.book.misses + 1 = counts.1 ∙ raised old.book.misses (omega (arith, room)) in
-      record {
-        answers = omega (arith, at_most_one (is_compiled (met.Served answer)), hits, misses);
-        few = omega (arith, hits, misses);
-        runs = run_entries words input ended;
-        failed = failures ended;
-        grew = asked.runs;
-        misses = omega (arith, misses, one_of words input ended);
-        calm = λ is_calm. let ok = came answer ended is is_calm in ap failures ok.1;
-      }
-  by_run answer words input bounds old new ended room may is (direct not_cacheable asked book) = absurd (cc (may, not_cacheable))
-  by_run answer words input bounds old new ended room may is (wanted cacheable result station book) =
-      nothing (met.Served answer) old new (wanted_compiled answer ended is result) station book
-
   abbrev went : Cached S → List Word → List ℕ → Bounds → Result Ran RunStop → Cached S → Type 0
   went = beside_goes shows goes
 
-  module _ (table : List Compiler) (short : AreShort table) where
-    by_calls : (answer : Served) (old new : Cached S) → old.book.hits + old.book.misses < greatest → Calls went table old new answer
-        → Counts (met.Served answer) old new
-    by_calls answer old new room (uncalled same none) =
-        nothing (met.Served answer) old new (none_compiled answer none) (ap (λ c. c.station) same) (ap (λ c. c.book) same)
-    by_calls answer old new room (called q program ended fits remote named run is) =
-        by_run answer (with_program program (placed_words q.words)) q.source compile_bounds old new ended room
-        (cacheable q.words q.source program fits remote (short_program table (first_word q.words) program short named)) is run
-
-    by_meeting : (what : Met) (old new : Cached S) → old.book.hits + old.book.misses < greatest → MetCalls went table old new what
-        → Counts what old new
-    by_meeting (met.Served answer) old new room calls = by_calls answer old new room calls
-    by_meeting (met.Denied addr rule) old new room same = nothing (met.Denied addr rule) old new refl (ap (λ c. c.station) same)
-        (ap (λ c. c.book) same)
-    by_meeting met.DoorFault old new room same = nothing met.DoorFault old new refl (ap (λ c. c.station) same) (ap (λ c. c.book) same)
-    by_meeting met.DoorMemory old new room same = nothing met.DoorMemory old new refl (ap (λ c. c.station) same) (ap (λ c. c.book) same)
-
-    -- ---- the connections of a door
-
-    record AllCounts (entries : List Entry) (old new : Cached S) : Type 0 where
-      answers : compiled_in entries + (old.book.hits + old.book.misses) ≤ new.book.hits + new.book.misses
-      runs : List Run
-      failed : List RunStop
-      grew : Grew (shows old.station).runs (shows new.station).runs runs
-      misses : length runs + length failed + old.book.misses ≡ new.book.misses
-      calm : list_any (λ (entry : Entry). is_failed entry.what) entries ≡ false → failed ≡ []
-
-    one_more_counted : (entry : Entry) (entries : List Entry) (old mid new : Cached S) → Counts entry.what old mid
-        → AllCounts entries mid new → AllCounts (entry ∷ entries) old new
-    one_more_counted entry entries old mid new first rest =
-        let both : length (first.runs ++ rest.runs) ≡ length first.runs + length rest.runs = length-append first.runs rest.runs in
-        record {
-          answers = omega (arith, first.answers, rest.answers);
-          runs = first.runs ++ rest.runs;
-          failed = first.failed ++ rest.failed;
-          grew = Grew-then first.grew rest.grew;
-          misses = omega (arith, both, length-append first.failed rest.failed, first.misses, rest.misses);
-          calm = λ is.
-              let parts = or_parts (is_failed entry.what) (list_any (λ (e : Entry). is_failed e.what) entries) is in
-              ap (λ l. l ++ rest.failed) (first.calm parts.0) ∙ rest.calm parts.1;
-        }
-
-    all_counts : (entries : List Entry) (old new : Cached S) → old.book.hits + old.book.misses + length entries < greatest
-        → Path went table old new entries → AllCounts entries old new
-    all_counts [] old new room same =
-        let hits : new.book.hits ≡ old.book.hits = ap (λ c. c.book.hits) same in
-        let misses : new.book.misses ≡ old.book.misses = ap (λ c. c.book.misses) same in
-        record {
-          answers = omega (arith, hits, misses);
-          runs = [];
-          failed = [];
-          grew = subst (λ (c : Cached S). Grew (shows old.station).runs (shows c.station).runs []) (sym same)
-              (Grew-refl (shows old.station).runs);
-          misses = omega (arith, misses);
-          calm = λ is. refl;
-        }
-    all_counts (entry ∷ entries) old new room path =
-        let first = by_meeting entry.what old path.0 (omega (arith, room)) path.1 in
-        one_more_counted entry entries old path.0 new first (all_counts entries path.0 new (omega (arith, room, first.few)) path.2)
-
-    counted : (entries : List Entry) (old new : Cached S) (bound : ℕ) → old.book ≡ new_book bound → length entries < greatest
-        → Path went table old new entries
-        → AreCounted shows old.station new.station entries (stats_of new.book)
-    counted entries old new bound fresh room path =
-        let hits : old.book.hits ≡ 0 = ap (λ b. b.hits) fresh in
-        let misses : old.book.misses ≡ 0 = ap (λ b. b.misses) fresh in
-        let all = all_counts entries old new (omega (arith, hits, misses, room)) path in
-        record {
-          answers = omega (arith, all.answers, hits, misses);
-          runs = all.runs;
-          failed = all.failed;
-          grew = all.grew;
-          misses = omega (arith, all.misses, misses);
-          calm = all.calm;
-        }
+  by_run : (answer : Served) (words : List Word) (input : List ℕ) (bounds : Bounds) (old new : Cached S) (ended : Result Ran RunStop)
+      → old.book.hits + old.book.misses < greatest → is_cacheable words input ≡ true → IsEnded ended answer
+      → went old words input bounds ended new
+      → Adds shows (λ c. c.station) (λ c. c.book.hits) (λ c. c.book.misses) (met.Served answer) old new
+  by_run answer words input bounds old new ended room may is (hit entry cacheable found result station book) =
+      adds_hit shows (λ c. c.station) (λ c. c.book.hits) (λ c. c.book.misses) answer old new room station
+      (ap (λ b. b.hits) book) (ap (λ b. b.misses) book)
+  by_run answer words input bounds old new ended room may is (miss cacheable none asked learned) =
+      let counts = learned_counts words input old.book new.book ended learned in
+      adds_miss shows (λ c. c.station) (λ c. c.book.hits) (λ c. c.book.misses) answer words input ended old new room is
+      asked.runs counts.0 counts.1
+  by_run answer words input bounds old new ended room may is (direct not_cacheable asked book) = absurd (cc (may, not_cacheable))
+  by_run answer words input bounds old new ended room may is (wanted cacheable result station book) =
+      adds_nothing shows (λ c. c.station) (λ c. c.book.hits) (λ c. c.book.misses) (met.Served answer) old new
+      (wanted_compiled answer ended is result) station (ap (λ b. b.hits) book) (ap (λ b. b.misses) book)
 
   -- ---- the doors
 
@@ -316,7 +131,8 @@ module _ {S : Type 0} (shows : S → StationView) (goes : S → List Word → Li
       record {
         own = subst (λ c. DoorPath went table number c new entries) begins own;
         within = subst (λ n. sizes new.book.entries ≤ n) (path_bound table entries old new own.path ∙ ap (λ b. b.bound) fresh) within;
-        counted = λ short. counted table short entries old new bound fresh room own.path;
+        counted = λ short. counted shows (λ c. c.station) (λ c. c.book.hits) (λ c. c.book.misses) went by_run table short entries old new
+            (ap (λ b. b.hits) fresh) (ap (λ b. b.misses) fresh) room own.path;
       }
 
   pub doors_kept : {A : Type 0} (table : List Compiler) (bound number : ℕ) (olds news : List (DoorKit A (Cached S))) (log : List Entry)

@@ -55,12 +55,12 @@ failures (Err fault) = fault ∷ []
 
 -- Each answer with the status of a compile is a hit or a miss. Each miss is a run of the station: one that left something, which is a new run, or
 -- one that failed. None failed, if no connection ended with a fault of the station or out of memory.
-pub record AreCounted {S : Type 0} (shows : S → StationView) (before after : S) (entries : List Entry) (stats : Stats) : Type 0 where
-  pub answers : compiled_in entries ≤ stats.hits + stats.misses
+pub record AreCounted {S : Type 0} (shows : S → StationView) (before after : S) (entries : List Entry) (hits misses : ℕ) : Type 0 where
+  pub answers : compiled_in entries ≤ hits + misses
   pub runs : List Run
   pub failed : List RunStop
   pub grew : Grew (shows before).runs (shows after).runs runs
-  pub misses : length runs + length failed ≡ stats.misses
+  pub asked : length runs + length failed ≡ misses
   pub calm : list_any (λ entry. is_failed entry.what) entries ≡ false → failed ≡ []
 
 -- what a run does to a station beside a book
@@ -75,7 +75,7 @@ pub record DoorKept {S : Type 0} (shows : S → StationView) (goes : S → List 
   pub own : DoorPath (beside_goes shows goes) table number (record { station = before; book = new_book bound })
       (record { station = after; book = book }) entries
   pub within : sizes book.entries ≤ bound
-  pub counted : AreShort table → AreCounted shows before after entries (stats_of book)
+  pub counted : AreShort table → AreCounted shows before after entries book.hits book.misses
 
 -- The log is that of the doors one after the other, whose numbers go on from this one, each with its book.
 abbrev pub DoorsKept : {A S : Type 0} → (S → StationView) → (S → List Word → List ℕ → Bounds → Result Ran RunStop → S → Type 0)

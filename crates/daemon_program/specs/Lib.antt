@@ -4,3 +4,4 @@ pub mod Counts
 pub mod Endings
 pub mod Daemons
 pub mod Complete
+pub mod Sharing

@@ -5,6 +5,8 @@ mod books;
 mod lines;
 mod output;
 mod printing;
+mod share_printing;
+mod sharing;
 mod status;
 mod top;
 

@@ -3,12 +3,14 @@
 ghost use Rattle.std.specs.Prelude.{◌≡◌, ◌++◌, IfOk, OnOk};
 ghost use Rattle.std.specs.Fmt.{decimal};
 ghost use Rattle.wire_tokens.specs.Token.{lower_digits};
+ghost use Rattle.daemon_program.specs.Sharing.{counts_line, shared_line};
 ghost use Rattle.daemon_program.specs.Texts.{book_line, line_text, rule_text, served_text, what_text};
 
 use daemon_service::{Served, fault_number};
 use daemon_worker::{Entry, Met};
 use farm_types::Bytes;
 use object_cache::Stats;
+use shared_cache::{Counts, SharedStats};
 use std::alloc::{AllocError, Global};
 use wire_tokens::{Name4, write_token};
 
@@ -103,6 +105,32 @@ pub(crate) fn book_line(alloc: Global, door: u32, stats: &Stats) -> Result<Bytes
     text.try_extend(b" misses ")?;
     add_number(alloc, &mut text, stats.misses)?;
     text.try_extend(b" unkept ")?;
+    add_number(alloc, &mut text, stats.unkept)?;
+    text.try_extend(b" bytes ")?;
+    add_number(alloc, &mut text, stats.bytes)?;
+    text.try_extend(b"\n")?;
+    Ok(text)
+}
+
+/// The line of a door whose station shares a book.
+pub(crate) fn counts_line(alloc: Global, door: u32, counts: &Counts) -> Result<Bytes, AllocError>
+    ensures { IfOk result (λ text. text ≡ counts_line door counts.now) }
+{
+    let mut text = Bytes::from_slice(alloc, b"cache door ")?;
+    add_number(alloc, &mut text, u64::from(door))?;
+    text.try_extend(b" hits ")?;
+    add_number(alloc, &mut text, counts.hits)?;
+    text.try_extend(b" misses ")?;
+    add_number(alloc, &mut text, counts.misses)?;
+    text.try_extend(b"\n")?;
+    Ok(text)
+}
+
+/// The line of the book that doors share.
+pub(crate) fn shared_line(alloc: Global, stats: &SharedStats) -> Result<Bytes, AllocError>
+    ensures { IfOk result (λ text. text ≡ shared_line stats.now) }
+{
+    let mut text = Bytes::from_slice(alloc, b"cache shared unkept ")?;
     add_number(alloc, &mut text, stats.unkept)?;
     text.try_extend(b" bytes ")?;
     add_number(alloc, &mut text, stats.bytes)?;

@@ -23,8 +23,12 @@ fn print_line<O: Sink>(alloc: Global, entry: &Entry, out: &mut O) -> Result<(), 
     }
 }
 
-// Prints the lines of all entries.
-fn print_lines<O: Sink>(alloc: Global, log: &[Entry], out: &mut O) -> Result<(), PrintStop>
+/// Prints the lines of all entries.
+pub(crate) fn print_lines<O: Sink>(
+    alloc: Global,
+    log: &[Entry],
+    out: &mut O,
+) -> Result<(), PrintStop>
     ensures { PrintEnded (log_text log.now) result (O.shows out.old) (O.shows out.new) }
 {
     let mut rest = log;

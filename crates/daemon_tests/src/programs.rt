@@ -2,19 +2,19 @@
 
 ghost use Rattle.std.specs.Prelude.{◌≡◌, false};
 ghost use Rattle.edge_memory.specs.Sinks.{sink_state, sink_shows};
+ghost use Rattle.daemon_program.specs.Sharing.{RunAlike};
 
 use crate::devices::{numbers, sink};
 use crate::lines::words_of;
 use crate::same::{same, same_items};
-use crate::scripts::{REPLY, REQUEST, door, runs_of};
+use crate::scripts::{REQUEST, door};
 use daemon_program::farmd;
 use daemon_worker::DoorKit;
-use edge_gates::GateStation;
 use edge_memory::{MemDoor, MemSink, MemStation, RanList};
-use edge_traits::{CallNumbers, Door, Sink, Station, Visit};
-use farm_types::{Bytes, Ran};
+use edge_traits::{Door, Sink, Station};
 use std::alloc::{AllocError, Global};
 use std::process::Abort;
+use std::random::RandomSource;
 use std::sync::Wait;
 use std::test::Fail;
 use std::thread::Threads;
@@ -29,21 +29,22 @@ const NEAR: u32 = 167_838_211;
 
 const HERE: u32 = 2_130_706_433;
 
-// What the doors' links give, one list for each door, and from which peers; which accepts and runs fail; which writes of the
-// output take nothing; what is printed.
+/// What the doors' links give, one list for each door, and from which peers; which accepts and runs fail; which writes of the
+/// output take nothing; what is printed.
 #[derive(Clone, Copy)]
-struct Row {
-    words: &'static str,
-    doors: &'static [&'static [&'static [u8]]],
-    peers: &'static [u32],
-    accepts_fail: &'static [u64],
-    runs_fail: &'static [u64],
-    zeros: &'static [u64],
-    out: &'static str,
-    status: u8,
+pub struct Row {
+    pub words: &'static str,
+    pub doors: &'static [&'static [&'static [u8]]],
+    pub peers: &'static [u32],
+    pub accepts_fail: &'static [u64],
+    pub runs_fail: &'static [u64],
+    pub zeros: &'static [u64],
+    pub out: &'static str,
+    pub status: u8,
 }
 
-const ONE: Row = Row {
+/// One door of one request.
+pub const ONE: Row = Row {
     words: "--compiler scc=scc --jobs 1 --serve 1",
     doors: &[&[REQUEST]],
     peers: &[],
@@ -109,6 +110,19 @@ const ROWS: &[Row] = &[
         out: "door 1 conn 1 answered 00000000\ndoor 1 conn 2 answered 00000000\ncache door 1 hits 1 misses 1 unkept 0 bytes 18\n",
         ..ONE
     },
+    // the same beside a book of all doors; a request that isn't compiled is none of its
+    Row {
+        words: "--compiler scc=scc --jobs 1 --serve 2 --shared-cache 1",
+        doors: &[&[REQUEST, REQUEST]],
+        out: "door 1 conn 1 answered 00000000\ndoor 1 conn 2 answered 00000000\ncache door 1 hits 1 misses 1\ncache shared unkept 0 bytes 18\n",
+        ..ONE
+    },
+    Row {
+        words: "--compiler scc=scc --jobs 2 --serve 1 --shared-cache 1",
+        doors: &[&[REQUEST], &[OTHER]],
+        out: "door 1 conn 1 answered 00000000\ndoor 2 conn 1 answered 00006e00\ncache door 1 hits 0 misses 1\ncache door 2 hits 0 misses 0\ncache shared unkept 0 bytes 18\n",
+        ..ONE
+    },
     // fewer doors than jobs, and more
     TWO_DOORS,
     Row {
@@ -168,7 +182,12 @@ fn kits(alloc: Global, row: &Row) -> Result<Vec<DoorKit<MemDoor, MemStation>>, A
 }
 
 // Runs `farmd` by these words.
-fn run<R: Threads + Sync, D: Door + Send + Drop, S: Station + Send + Drop, O: Sink>(
+fn run<
+    R: Threads + Wait + RandomSource + Sync,
+    D: Door + Send + Drop,
+    S: Station + Send + Drop,
+    O: Sink,
+>(
     rt: &R,
     alloc: Global,
     words: &[String],
@@ -177,7 +196,8 @@ fn run<R: Threads + Sync, D: Door + Send + Drop, S: Station + Send + Drop, O: Si
 ) -> Result<u8, Fail>
 where
     D::Link: Send,
-    requires { (O.shows out.old).stopped ≡ false }
+    requires alike { RunAlike S.ran doors.old.items }
+    requires out { (O.shows out.old).stopped ≡ false }
 {
     if doors.is_empty() || 16 < doors.len() {
         return Err("there are 1 to 16 doors".into());
@@ -185,7 +205,11 @@ where
     Ok(farmd(rt, alloc, words, doors, out))
 }
 
-fn expect_run<R: Abort + Threads + Sync, D: Door + Send + Drop, S: Station + Send + Drop>(
+fn expect_run<
+    R: Abort + Threads + Wait + RandomSource + Sync,
+    D: Door + Send + Drop,
+    S: Station + Send + Drop,
+>(
     rt: &R,
     alloc: Global,
     row: &Row,
@@ -195,7 +219,8 @@ fn expect_run<R: Abort + Threads + Sync, D: Door + Send + Drop, S: Station + Sen
 ) -> Result<(), Fail>
 where
     D::Link: Send,
-    requires { (sink_shows (sink_state out.old)).stopped ≡ false }
+    requires alike { RunAlike S.ran doors.old.items }
+    requires out { (sink_shows (sink_state out.old)).stopped ≡ false }
 {
     let status = run(rt, alloc, words, doors, out)?;
     same_items(rt, out.written(), row.out.as_bytes(), &row.words);
@@ -208,28 +233,46 @@ where
     Ok(())
 }
 
-// Runs `farmd` by a row's words and sink over these doors, and compares what is printed, the status, and how many doors are
-// there then.
-fn expect<R: Abort + Threads + Sync, D: Door + Send + Drop, S: Station + Send + Drop>(
-    rt: &R,
-    alloc: Global,
-    row: &Row,
-    doors: &mut Vec<DoorKit<D, S>>,
-) -> Result<(), Fail>
+/// Runs `farmd` by a row's words and sink over these doors, and compares what is printed, the status, and how many doors are
+/// there then.
+pub fn expect<
+    R: Abort + Threads + Wait + RandomSource + Sync,
+    D: Door + Send + Drop,
+    S: Station + Send + Drop,
+>(rt: &R, alloc: Global, row: &Row, doors: &mut Vec<DoorKit<D, S>>) -> Result<(), Fail>
 where
     D::Link: Send,
+    requires { RunAlike S.ran doors.old.items }
 {
     let words = words_of(alloc, row.words)?;
     let mut out = sink(alloc, row.zeros)?;
     expect_run(rt, alloc, row, words.as_slice(), doors, &mut out)
 }
 
-fn expect_row<R: Abort + Threads + Sync>(rt: &R, alloc: Global, row: &Row) -> Result<(), Fail> {
-    let mut doors = kits(alloc, row)?;
-    expect(rt, alloc, row, &mut doors)
+/// The same over doors in memory, whose stations' programs may leave anything.
+pub fn expect_in_memory<R: Abort + Threads + Wait + RandomSource + Sync>(
+    rt: &R,
+    alloc: Global,
+    row: &Row,
+    doors: &mut Vec<DoorKit<MemDoor, MemStation>>,
+) -> Result<(), Fail> {
+    expect(rt, alloc, row, doors)
 }
 
-fn expect_rows<R: Abort + Threads + Sync>(rt: &R, alloc: Global, rows: &[Row]) -> Result<(), Fail> {
+fn expect_row<R: Abort + Threads + Wait + RandomSource + Sync>(
+    rt: &R,
+    alloc: Global,
+    row: &Row,
+) -> Result<(), Fail> {
+    let mut doors = kits(alloc, row)?;
+    expect_in_memory(rt, alloc, row, &mut doors)
+}
+
+fn expect_rows<R: Abort + Threads + Wait + RandomSource + Sync>(
+    rt: &R,
+    alloc: Global,
+    rows: &[Row],
+) -> Result<(), Fail> {
     for row in rows {
         expect_row(rt, alloc, row)?;
     }
@@ -260,139 +303,4 @@ const STOPPED: &[Row] = &[
 #[test]
 fn a_sink_that_stops(rt: HostRuntime) -> Result<(), Fail> {
     expect_rows(&rt, rt.alloc(), STOPPED)
-}
-
-const CACHED: Row = Row {
-    words: "--compiler scc=scc --jobs 1 --serve 2 --cache 1",
-    doors: &[&[REQUEST, REQUEST]],
-    out: "door 1 conn 1 answered 00000000\ndoor 1 conn 2 answered 00000000\ncache door 1 hits 1 misses 1 unkept 0 bytes 31\n",
-    ..ONE
-};
-
-fn object_ran(alloc: Global) -> Result<Ran, AllocError> {
-    let object = Bytes::from_slice(alloc, b"SCO1\ndef a 1\n")?;
-    Ok(Ran {
-        status: 0,
-        out: Bytes::new(alloc),
-        err: Bytes::new(alloc),
-        object,
-    })
-}
-
-// A station whose first run makes an object, and no other does.
-fn compiling(alloc: Global) -> Result<MemStation, AllocError> {
-    let mut rans = RanList::new(alloc);
-    rans.try_push(object_ran(alloc)?)?;
-    Ok(MemStation::new(rans, CallNumbers::new(alloc)))
-}
-
-// A door of these requests, beside this station.
-fn one_door<S: Drop>(
-    alloc: Global,
-    gives: &[&[u8]],
-    station: S,
-) -> Result<DoorKit<MemDoor, S>, AllocError> {
-    let door = door(alloc, gives, &[], &[])?;
-    Ok(DoorKit { door, station })
-}
-
-fn one_kit<K: Drop>(alloc: Global, kit: K) -> Result<Vec<K>, AllocError> {
-    let mut kits = Vec::new(alloc);
-    kits.push(kit)?;
-    Ok(kits)
-}
-
-fn two_kits<K: Drop>(alloc: Global, first: K, second: K) -> Result<Vec<K>, AllocError> {
-    let mut kits = Vec::new(alloc);
-    kits.push(first)?;
-    kits.push(second)?;
-    Ok(kits)
-}
-
-fn expect_visits<R: Abort>(rt: &R, visits: &[Visit], count: usize) {
-    same(rt, &visits.len(), &count, &"visits");
-    for visit in visits {
-        same_items(rt, visit.sent.as_slice(), REPLY, &"a visit");
-    }
-}
-
-fn expect_replies<R: Abort>(
-    rt: &R,
-    alloc: Global,
-    door: MemDoor,
-    count: usize,
-) -> Result<(), Fail> {
-    let visits = door.into_visits().into_items(alloc)?;
-    expect_visits(rt, visits.as_slice(), count);
-    Ok(())
-}
-
-fn expect_one_compile<R: Abort>(
-    rt: &R,
-    alloc: Global,
-    kit: DoorKit<MemDoor, MemStation>,
-) -> Result<(), Fail> {
-    let DoorKit { door, station } = kit;
-    let runs = runs_of(alloc, station)?;
-    same(rt, &runs, &1, &"runs");
-    expect_replies(rt, alloc, door, 2)
-}
-
-// The kit of the one door, once it has served.
-fn served_kit<R: Abort + Threads + Sync>(
-    rt: &R,
-    alloc: Global,
-    row: &Row,
-) -> Result<DoorKit<MemDoor, MemStation>, Fail> {
-    let kit = one_door(alloc, &[REQUEST, REQUEST], compiling(alloc)?)?;
-    let mut doors = one_kit(alloc, kit)?;
-    expect(rt, alloc, row, &mut doors)?;
-    match doors.pop() {
-        Some(kit) => Ok(kit),
-        None => Err("there is no door".into()),
-    }
-}
-
-fn expect_cache<R: Abort + Threads + Sync>(rt: &R, alloc: Global, row: &Row) -> Result<(), Fail> {
-    expect_one_compile(rt, alloc, served_kit(rt, alloc, row)?)
-}
-
-// The same compile twice beside a book: both are answered alike, by one run.
-#[test]
-fn a_cache(rt: HostRuntime) -> Result<(), Fail> {
-    expect_cache(&rt, rt.alloc(), &CACHED)
-}
-
-const SIDE_BY_SIDE: Row = Row {
-    words: "--compiler scc=scc --jobs 2 --serve 1",
-    doors: &[&[REQUEST], &[REQUEST]],
-    out: "door 1 conn 1 answered 00000000\ndoor 2 conn 1 answered 00000000\n",
-    ..ONE
-};
-
-// Two doors of one request each, by these stations.
-fn two_doors<S: Drop>(
-    alloc: Global,
-    first: S,
-    second: S,
-) -> Result<Vec<DoorKit<MemDoor, S>>, AllocError> {
-    let first = one_door(alloc, &[REQUEST], first)?;
-    let second = one_door(alloc, &[REQUEST], second)?;
-    two_kits(alloc, first, second)
-}
-
-fn expect_side_by_side<R: Abort + Threads + Wait + Sync>(
-    rt: &R,
-    alloc: Global,
-    row: &Row,
-) -> Result<(), Fail> {
-    let (first, second) = GateStation::pair(rt, alloc)?;
-    let mut doors = two_doors(alloc, first, second)?;
-    expect(rt, alloc, row, &mut doors)
-}
-
-// The station of door 1 waits until that of door 2 was called, so both doors have to be served at one time.
-#[test]
-fn two_doors_at_one_time(rt: HostRuntime) -> Result<(), Fail> {
-    expect_side_by_side(&rt, rt.alloc(), &SIDE_BY_SIDE)
 }

@@ -29,10 +29,16 @@ const BAD: &[(&[&str], usize)] = &[
     (&["--compiler", "a=b", "--compiler", "a=c"], 3),
     (&["--cache", "0"], 1),
     (&["--cache", "129"], 1),
-    (&["--cache", "01"], 1),
+    (&["--cache", "000"], 1),
     (&["--cache", "0128"], 1),
     (&["--cache"], 1),
     (&["--cache", "1", "--cache", "2"], 2),
+    (&["--shared-cache", "0"], 1),
+    (&["--shared-cache", "65537"], 1),
+    (&["--shared-cache", "000016"], 1),
+    (&["--shared-cache"], 1),
+    (&["--shared-cache", "1", "--cache", "1"], 3),
+    (&["--cache", "1", "--jobs", "1", "--shared-cache", "1"], 5),
     (&["--tools", "bin"], 1),
     (&["--tools", "/opt/gcc/"], 1),
     (&["--tools", "/"], 1),
@@ -150,6 +156,7 @@ const OPTIONS: Options = Options {
     jobs: Some(16),
     serve: Some(7),
     cache: Some(128),
+    shared: None,
     job_lifetime: Some(0),
     compilers: 2,
     rules: 2,
@@ -192,6 +199,30 @@ fn expect_all_options<R: Abort>(rt: &R, alloc: Global, words: &[&str]) -> Result
 #[test]
 fn all_options(rt: HostRuntime) -> Result<(), Fail> {
     expect_all_options(&rt, rt.alloc(), GOOD)
+}
+
+// The bytes of a door's cache and of that of all doors.
+const CACHES: &[(&[&str], (Option<u64>, Option<u64>))] = &[
+    (&["--cache", "016"], (Some(16_777_216), None)),
+    (&["--shared-cache", "00016"], (None, Some(16_777_216))),
+    (&["--shared-cache", "65536"], (None, Some(68_719_476_736))),
+];
+
+fn expect_caches<R: Abort>(rt: &R, alloc: Global) -> Result<(), Fail> {
+    for (words, bounds) in CACHES {
+        let words = owned(alloc, words)?;
+        let Ok(Command::Serve(options)) = parse_words(words.as_slice()) else {
+            return Err("it serves".into());
+        };
+        let shown = (options.book_bound(), options.shared_bound());
+        same(rt, &shown, bounds, &words);
+    }
+    Ok(())
+}
+
+#[test]
+fn sizes_of_caches(rt: HostRuntime) -> Result<(), Fail> {
+    expect_caches(&rt, rt.alloc())
 }
 
 const PLACE: DoorPlace = DoorPlace {

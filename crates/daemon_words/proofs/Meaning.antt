@@ -7,7 +7,7 @@ use Rattle.std.proofs.lemmas.List.Elements.{All-nil, All-cons, All-append}
 use Rattle.std.proofs.Math.Seq.{take-length}
 use Rattle.std.proofs.lemmas.List.{append-nil}
 use Rattle.farm_types.specs.Limits.{cache_max, compilers_max, connections_max, port_max, rules_max, workers_max}
-use Rattle.farm_types.proofs.DecimalLemmas.{one_plain}
+use Rattle.farm_types.proofs.DecimalLemmas.{one_decimal, one_plain}
 use Rattle.farm_types.specs.Decimals.{IsPlainDecimal}
 use Rattle.access_list.specs.declared.rule.Rule.{Rule}
 use Rattle.access_list.specs.Rules.{RuleOf, AreRight, bits_of, bits_part}
@@ -26,7 +26,7 @@ use Rattle.daemon_words.specs.declared.options.Options.{Options}
 use Rattle.daemon_words.specs.declared.command.Command.{Command}
 use Rattle.daemon_words.specs.declared.command.Command.TheVariants.{Help, Version, Serve}
 use Rattle.daemon_words.specs.Names.{option_named}
-use Rattle.daemon_words.specs.Options.{row_of, is_of, count_in, name_in, named_in, IsWithin, AreWithin, IsSpelled, ValueFits, GivenBy, tools_max, job_lifetime_max}
+use Rattle.daemon_words.specs.Options.{row_of, is_of, count_in, name_in, named_in, IsWithin, AreWithin, IsSpelled, ValueFits, GivenBy, tools_max, job_lifetime_max, shared_cache_max, given_in}
 use Rattle.daemon_words.specs.Options.{Says, Reads, options}
 use Rattle.daemon_words.specs.Commands.{asked, served, trusts, settings_of, placed, ByFirst, ReadWords}
 use Rattle.daemon_words.specs.Tables.{SaysRule, RuleIn, AreRules, compilers_of, tools_of}
@@ -39,7 +39,8 @@ one_spelled option.Port value n m p q = one_plain _ _ _ _ n m p q
 one_spelled option.Listen value n m p q = one_address value n m p q
 one_spelled option.Jobs value n m p q = one_plain _ _ _ _ n m p q
 one_spelled option.Serve value n m p q = one_plain _ _ _ _ n m p q
-one_spelled option.Cache value n m p q = one_plain _ _ _ _ n m p q
+one_spelled option.Cache value n m p q = one_decimal _ _ _ _ n m p q
+one_spelled option.SharedCache value n m p q = one_decimal _ _ _ _ n m p q
 one_spelled option.JobLifetime value n m p q = one_plain _ _ _ _ n m p q
 one_spelled option.Compiler value n m p q = absurd p
 one_spelled option.Tools value n m p q = absurd p
@@ -60,6 +61,7 @@ one_saying words items a b p q = λ i. record {
   jobs = one_given option.Jobs (value_in (codes "--jobs") items) a.jobs b.jobs p.jobs q.jobs i;
   serve = one_given option.Serve (value_in (codes "--serve") items) a.serve b.serve p.serve q.serve i;
   cache = one_given option.Cache (value_in (codes "--cache") items) a.cache b.cache p.cache q.cache i;
+  shared = one_given option.SharedCache (value_in (codes "--shared-cache") items) a.shared b.shared p.shared q.shared i;
   job_lifetime = one_given option.JobLifetime (value_in (codes "--job-lifetime") items) a.job_lifetime b.job_lifetime
       p.job_lifetime q.job_lifetime i;
   compilers = (p.compilers ∙ sym q.compilers) i;
@@ -108,6 +110,7 @@ one_in value a b (Some option.Serve) p q = p ∙ sym q
 one_in value a b (Some option.Cache) p q = p ∙ sym q
 one_in value a b (Some option.Tools) p q = p ∙ sym q
 one_in value a b (Some option.JobLifetime) p q = p ∙ sym q
+one_in value a b (Some option.SharedCache) p q = p ∙ sym q
 one_in value a b None p q = p ∙ sym q
 
 pub same_rules : (words : List (List ℕ)) (a b : List Rule) → AreRules words a → AreRules words b → a ≡ b
@@ -120,7 +123,7 @@ same_rules (word ∷ value ∷ more) a b p q =
 -- the bits of each
 bits_small : (text : List ℕ) (bits : ℕ) → bits_of text bits → bits ≤ 32
 bits_small [] bits is = omega (arith, is)
-bits_small (slash ∷ digits) bits is = is.number.high
+bits_small (slash ∷ digits) bits is = is.high
 
 abbrev IsSmall : Rule → Type 0
 IsSmall rule = rule.bits ≤ 32
@@ -141,6 +144,7 @@ found_small value (Some rule) (Some option.Serve) is = absurd (cc is)
 found_small value (Some rule) (Some option.Cache) is = absurd (cc is)
 found_small value (Some rule) (Some option.Tools) is = absurd (cc is)
 found_small value (Some rule) (Some option.JobLifetime) is = absurd (cc is)
+found_small value (Some rule) (Some option.SharedCache) is = absurd (cc is)
 found_small value (Some rule) None is = absurd (cc is)
 
 all_small : (words : List (List ℕ)) (rules : List Rule) → AreRules words rules → All IsSmall rules
@@ -221,8 +225,11 @@ room_by kind.Compiler (Some option.Tools) before value holds fits = absurd (cc h
 room_by kind.Rule (Some option.Tools) before value holds fits = absurd (cc holds)
 room_by kind.Tools (Some option.Tools) before value holds fits = fits.room
 room_by kind.Compiler (Some option.JobLifetime) before value holds fits = absurd (cc holds)
+room_by kind.Compiler (Some option.SharedCache) before value holds fits = absurd (cc holds)
 room_by kind.Rule (Some option.JobLifetime) before value holds fits = absurd (cc holds)
+room_by kind.Rule (Some option.SharedCache) before value holds fits = absurd (cc holds)
 room_by kind.Tools (Some option.JobLifetime) before value holds fits = absurd (cc holds)
+room_by kind.Tools (Some option.SharedCache) before value holds fits = absurd (cc holds)
 
 room : (kind : Kind) (before : List Item) (name : List ℕ) (value : Option (List ℕ)) → follows options before name ≡ true
     → HasValue options before name value → is_of kind (option_named name) ≡ true
@@ -266,6 +273,7 @@ found_few value (Some rule) (Some option.Serve) is = absurd (cc is)
 found_few value (Some rule) (Some option.Cache) is = absurd (cc is)
 found_few value (Some rule) (Some option.Tools) is = absurd (cc is)
 found_few value (Some rule) (Some option.JobLifetime) is = absurd (cc is)
+found_few value (Some rule) (Some option.SharedCache) is = absurd (cc is)
 found_few value (Some rule) None is = absurd (cc is)
 
 rules_few : (words : List (List ℕ)) (rules : List Rule) → AreRules words rules → length rules ≤ count_in kind.Rule words
@@ -341,7 +349,9 @@ says_within words items given says = record {
       (value_in (codes "--serve") items) given.serve says.serve;
   job_lifetime = within_by 0 job_lifetime_max option.JobLifetime (λ value n is. (is.number.low, is.number.high))
       (value_in (codes "--job-lifetime") items) given.job_lifetime says.job_lifetime;
-  cache = within_by 1 cache_max option.Cache (positive_within 3 cache_max) (value_in (codes "--cache") items) given.cache says.cache;
+  cache = within_by 1 cache_max option.Cache (λ value n is. (is.low, is.high)) (value_in (codes "--cache") items) given.cache says.cache;
+  shared = within_by 1 shared_cache_max option.SharedCache (λ value n is. (is.low, is.high))
+      (value_in (codes "--shared-cache") items) given.shared says.shared;
 }
 
 served_within : (words : List (List ℕ)) (given : Options) (read : Result Options ℕ) → Reads words read
@@ -387,6 +397,17 @@ named_more f rest x y word value name some x_is y_is word_is value_is other =
     (subst (λ v. (bytes_eq word (codes "--compiler") && bytes_eq (name_in v) name) ≡ false) value_is other) in
     ap (λ l. named_in (map f l) name) (two_parts rest x y some x_is y_is)
     ∙ ap (λ b. b || named_in (map f (take (length rest - 2) (drop 2 rest))) name) not_here
+
+pub given_more : {A : Type 0} (f : A → List ℕ) (rest : List A) (x : A) (word name : List ℕ) → 2 ≤ length rest → x ≡ get_or rest 0 x
+    → word ≡ f x → bytes_eq word name ≡ false
+    → given_in (map f rest) name ≡ given_in (map f (take (length rest - 2) (drop 2 rest))) name
+given_more f [] x word name some x_is word_is other = absurd (omega (arith, some))
+given_more f (a ∷ []) x word name some x_is word_is other = absurd (omega (arith, some))
+given_more f (a ∷ b ∷ more) x word name some x_is word_is other =
+    let left : length more ≡ length (a ∷ b ∷ more) - 2 = omega arith in
+    let here : bytes_eq (f a) name ≡ false = subst (λ w. bytes_eq w name ≡ false) (word_is ∙ ap f x_is) other in
+    ap (λ c. c || given_in (map f more) name) here
+    ∙ ap (λ l. given_in (map f l) name) (sym (take-length more) ∙ ap (λ n. take n more) left)
 
 rules_none : {A : Type 0} (f : A → List ℕ) (rest : List A) → length rest < 2 → AreRules (map f rest) []
 rules_none f [] few = refl

@@ -25,6 +25,8 @@ help =
     ++ codes "  --deny ADDRESS[/BITS]    leave peers of this network\n"
     ++ codes "  --cache N                answer repeated compiles from memory: at most N MiB at\n"
     ++ codes "                           each of these doors, 1 to 128\n"
+    ++ codes "  --shared-cache N         the same from one memory for all doors, in place of\n"
+    ++ codes "                           theirs: at most N MiB, 1 to 65536\n"
     ++ codes "  --tools FOLDER           let requests name FOLDER, or one below, as one of a\n"
     ++ codes "                           compiler's own parts: -B, --sysroot= and the like; up\n"
     ++ codes "                           to 16 times\n"

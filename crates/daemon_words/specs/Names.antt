@@ -16,4 +16,5 @@ option_named word =
     else (if bytes_eq word (codes "--cache") then Some option.Cache
     else (if bytes_eq word (codes "--tools") then Some option.Tools
     else (if bytes_eq word (codes "--job-lifetime") then Some option.JobLifetime
-    else None)))))))))
+    else (if bytes_eq word (codes "--shared-cache") then Some option.SharedCache
+    else None))))))))))

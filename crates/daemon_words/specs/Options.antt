@@ -2,7 +2,7 @@
 use Rattle.std.specs.Prelude.{◌≡◌, ℕ, ◌+◌, ◌*◌, ◌<◌, ◌≤◌, ◌==◌, ◌||◌, ◌&&◌, Bool, true, false, List, [], ◌∷◌, length, take, drop, codes}
 use Rattle.std.specs.Prelude.{bytes_eq, Option, Some, None, unwrap_or, Result, Ok, Err, if◌then◌else◌}
 use Rattle.std.specs.List.{position_or_len}
-use Rattle.farm_types.specs.Decimals.{IsPlainDecimal}
+use Rattle.farm_types.specs.Decimals.{IsDecimal, IsPlainDecimal}
 use Rattle.farm_types.specs.Limits.{workers_max, connections_max, cache_max, compilers_max, port_max, rules_max}
 use Rattle.served_words.specs.Folders.{is_tool_folder}
 use Rattle.option_words.specs.declared.table.Row.{Row}
@@ -26,6 +26,10 @@ use Rattle.daemon_words.specs.Names.{option_named}
 -- the most folders of tools
 abbrev pub tools_max : ℕ
 tools_max = 16
+
+-- the most MiB of the book that all doors share
+abbrev pub shared_cache_max : ℕ
+shared_cache_max = 65536
 
 -- the most seconds of a compile that may be given, and the seconds where none are
 abbrev pub job_lifetime_max : ℕ
@@ -107,9 +111,22 @@ IsSpelled option.Port value n = IsPlainDecimal 5 1 port_max value n
 IsSpelled option.Listen value n = IsAddress value n
 IsSpelled option.Jobs value n = IsPlainDecimal 2 1 workers_max value n
 IsSpelled option.Serve value n = IsPlainDecimal 6 1 connections_max value n
-IsSpelled option.Cache value n = IsPlainDecimal 3 1 cache_max value n
+IsSpelled option.Cache value n = IsDecimal 3 1 cache_max value n
+IsSpelled option.SharedCache value n = IsDecimal 5 1 shared_cache_max value n
 IsSpelled option.JobLifetime value n = IsPlainDecimal 7 0 job_lifetime_max value n
 IsSpelled _ value n = ⊥
+
+-- an option of this name is among these
+abbrev pub given_in : List (List ℕ) → List ℕ → Bool
+given_in [] name = false
+given_in (word ∷ []) name = false
+given_in (word ∷ value ∷ more) name = bytes_eq word name || given_in more name
+
+-- a number, without that other option before it
+pub record IsSole (name : OptionName) (other : List ℕ) (before : List (List ℕ)) (value : List ℕ) : Type 0 where
+  pub number : ℕ
+  pub spelled : IsSpelled name value number
+  pub sole : given_in before other ≡ false
 
 -- a word may be the value of this option, behind these words
 abbrev pub ValueFits : Option OptionName → List (List ℕ) → List ℕ → Type 0
@@ -118,6 +135,8 @@ ValueFits (Some option.Compiler) before value = AddsCompiler before value
 ValueFits (Some option.Allow) before value = AddsRule true before value
 ValueFits (Some option.Deny) before value = AddsRule false before value
 ValueFits (Some option.Tools) before value = AddsTools before value
+ValueFits (Some option.Cache) before value = IsSole option.Cache (codes "--shared-cache") before value
+ValueFits (Some option.SharedCache) before value = IsSole option.SharedCache (codes "--cache") before value
 ValueFits (Some name) before value = (n : ℕ) × IsSpelled name value n
 
 -- the options of `farmd`
@@ -141,6 +160,7 @@ pub record Says (words : List (List ℕ)) (items : List Item) (given : Options) 
   pub jobs : GivenBy option.Jobs (value_in (codes "--jobs") items) given.jobs
   pub serve : GivenBy option.Serve (value_in (codes "--serve") items) given.serve
   pub cache : GivenBy option.Cache (value_in (codes "--cache") items) given.cache
+  pub shared : GivenBy option.SharedCache (value_in (codes "--shared-cache") items) given.shared
   pub job_lifetime : GivenBy option.JobLifetime (value_in (codes "--job-lifetime") items) given.job_lifetime
   pub compilers : given.compilers ≡ count_in kind.Compiler words
   pub rules : given.rules ≡ count_in kind.Rule words
@@ -162,6 +182,7 @@ pub record AreWithin (options : Options) : Type 0 where
   pub jobs : IsWithin 1 workers_max options.jobs
   pub serve : IsWithin 1 connections_max options.serve
   pub cache : IsWithin 1 cache_max options.cache
+  pub shared : IsWithin 1 shared_cache_max options.shared
   pub job_lifetime : IsWithin 0 job_lifetime_max options.job_lifetime
 
 -- the bytes of a number of MiB
@@ -169,9 +190,13 @@ abbrev pub mebibytes : Option ℕ → Option ℕ
 mebibytes None = None
 mebibytes (Some n) = Some (n * 1048576)
 
--- how many bytes the book of each door's station may have, where there are books
+-- how many bytes the book of each door's station may have, if there are books
 abbrev pub book_bound : Options → Option ℕ
 book_bound options = mebibytes options.cache
+
+-- how many bytes the book that all doors share may have, if there is one
+abbrev pub shared_bound : Options → Option ℕ
+shared_bound options = mebibytes options.shared
 
 -- a number of seconds; 0 says that there is none
 abbrev pub seconds : ℕ → Option ℕ

@@ -23,6 +23,8 @@ Options, in any order:
   --deny ADDRESS[/BITS]    leave peers of this network
   --cache N                answer repeated compiles from memory: at most N MiB at
                            each of these doors, 1 to 128
+  --shared-cache N         the same from one memory for all doors, in place of
+                           theirs: at most N MiB, 1 to 65536
   --tools FOLDER           let requests name FOLDER, or one below, as one of a
                            compiler's own parts: -B, --sysroot= and the like; up
                            to 16 times

@@ -27,6 +27,8 @@ pub enum OptionName {
     Tools,
     /// `--job-lifetime`
     JobLifetime,
+    /// `--shared-cache`
+    SharedCache,
 }
 
 // What may be given more than once.
@@ -78,6 +80,7 @@ pub(crate) fn parse_option(word: &str) -> Option<OptionName>
         "--cache" => Some(OptionName::Cache),
         "--tools" => Some(OptionName::Tools),
         "--job-lifetime" => Some(OptionName::JobLifetime),
+        "--shared-cache" => Some(OptionName::SharedCache),
         _ => None,
     }
 }

@@ -2,7 +2,7 @@
 
 ghost use Rattle.std.specs.Prelude.{◌≡◌, unwrap_or};
 ghost use Rattle.farm_types.specs.Limits.{connections_max, port_default, workers_default};
-ghost use Rattle.daemon_words.specs.Options.{book_bound, job_lifetime};
+ghost use Rattle.daemon_words.specs.Options.{book_bound, job_lifetime, shared_bound};
 
 use farm_types::limits::{CONNECTIONS_MAX, PORT_DEFAULT, WORKERS_DEFAULT};
 
@@ -24,6 +24,8 @@ pub struct Options {
     pub serve: Option<u32>,
     /// 1 to 128, in MiB.
     pub cache: Option<u8>,
+    /// 1 to 65,536, in MiB. It isn't given beside `cache`.
+    pub shared: Option<u32>,
     /// 0 to 1,000,000, in seconds.
     pub job_lifetime: Option<u32>,
     pub compilers: u32,
@@ -65,6 +67,17 @@ impl Options {
         ensures { result ≡ book_bound self.now }
     {
         match self.cache {
+            Some(mebibytes) => Some(u64::from(mebibytes) * MEBIBYTE),
+            None => None,
+        }
+    }
+
+    /// How many bytes the book that all doors share may have; None if there is none. If there is one, no door has a book of its
+    /// own.
+    pub fn shared_bound(&self) -> Option<u64>
+        ensures { result ≡ shared_bound self.now }
+    {
+        match self.shared {
             Some(mebibytes) => Some(u64::from(mebibytes) * MEBIBYTE),
             None => None,
         }

@@ -12,7 +12,7 @@ use crate::name::{Kind, OptionName, parse_option};
 use crate::options::Options;
 use crate::setting::{
     count_in, is_value, read_cache, read_job_lifetime, read_jobs, read_listen, read_port,
-    read_serve,
+    read_serve, read_shared,
 };
 use option_words::{OptionTable, Row, check_options, value_of};
 
@@ -91,6 +91,15 @@ fn cache_in(value: Option<&str>) -> Option<u8>
     }
 }
 
+fn shared_in(value: Option<&str>) -> Option<u32>
+    ensures { GivenBy names.SharedCache (option_copied value.entry) result }
+{
+    match value {
+        Some(word) => read_shared(word.as_bytes()),
+        None => None,
+    }
+}
+
 fn job_lifetime_in(value: Option<&str>) -> Option<u32>
     ensures { GivenBy names.JobLifetime (option_copied value.entry) result }
 {
@@ -111,6 +120,7 @@ fn options_in(words: &[String]) -> Options
         jobs: jobs_in(value_of(&DaemonOptions, words, "--jobs")),
         serve: serve_in(value_of(&DaemonOptions, words, "--serve")),
         cache: cache_in(value_of(&DaemonOptions, words, "--cache")),
+        shared: shared_in(value_of(&DaemonOptions, words, "--shared-cache")),
         job_lifetime: job_lifetime_in(value_of(&DaemonOptions, words, "--job-lifetime")),
         compilers: count_in(Kind::Compiler, words) as u32,
         rules: count_in(Kind::Rule, words) as u32,

@@ -4,18 +4,20 @@ ghost use Rattle.std.specs.Prelude.{◌≡◌, ◌≤◌, ◌&&◌, ℕ, true, f
 ghost use Rattle.daemon_words.specs.declared.name.OptionName.TheVariants as names;
 ghost use Rattle.daemon_words.specs.Names.{option_named};
 ghost use Rattle.daemon_words.specs.Options as says;
-ghost use Rattle.daemon_words.specs.Options.{AddsCompiler, AddsRule, AddsTools, IsCompiler, IsSpelled, ValueFits, named_in};
+ghost use Rattle.daemon_words.specs.Options.{AddsCompiler, AddsRule, AddsTools, IsCompiler, IsSole, IsSpelled, ValueFits, given_in, named_in};
 
 use crate::name::{Kind, OptionName, parse_option};
 use access_list::{parse_rule, place_of, read_address};
 use farm_types::limits::{
     CACHE_MAX, COMPILERS_MAX, CONNECTIONS_MAX, PORT_MAX, RULES_MAX, WORKERS_MAX,
 };
-use farm_types::read_plain_decimal;
+use farm_types::{read_decimal, read_plain_decimal};
 use served_words::is_tool_folder;
 
 /// The most folders of tools.
 const TOOLS_MAX: usize = 16;
+/// The most MiB of the book that all doors share.
+const SHARED_CACHE_MAX: u32 = 65_536;
 /// The most seconds of a compile that may be given.
 const JOB_LIFETIME_MAX: u32 = 1_000_000;
 
@@ -148,15 +150,53 @@ pub(crate) fn read_serve(value: &[u8]) -> Option<u32>
     read_plain_decimal(value, 6, 1, CONNECTIONS_MAX)
 }
 
-/// The number of MiB that a value spells.
+/// The number of MiB of each door's book that a value spells, with zeros in front or without.
 pub(crate) fn read_cache(value: &[u8]) -> Option<u8>
     ensures found { IfSome result (IsSpelled names.Cache value.now) }
     ensures none { IfNone result ((n : ℕ) → IsSpelled names.Cache value.now n → ⊥) }
 {
-    match read_plain_decimal(value, 3, 1, CACHE_MAX) {
+    match read_decimal(value, 3, 1, CACHE_MAX) {
         Some(mebibytes) => Some(mebibytes as u8),
         None => None,
     }
+}
+
+/// The number of MiB of the book of all doors that a value spells, with zeros in front or without.
+pub(crate) fn read_shared(value: &[u8]) -> Option<u32>
+    ensures found { IfSome result (IsSpelled names.SharedCache value.now) }
+    ensures none { IfNone result ((n : ℕ) → IsSpelled names.SharedCache value.now n → ⊥) }
+{
+    read_decimal(value, 5, 1, SHARED_CACHE_MAX)
+}
+
+// Whether an option of this name stands among the options.
+fn is_given(before: &[String], name: &str) -> bool
+    ensures { result ≡ given_in (map string_bytes before.now) name.now }
+{
+    let mut rest = before;
+    'seeking: while let [word, _, more @ ..] = rest {
+        if word.as_str() == name {
+            return true;
+        }
+        rest = more;
+    }
+    false
+}
+
+// Whether a value is the number of MiB of each door's book. There is no book that all share.
+fn is_cache(before: &[String], value: &[u8]) -> bool
+    ensures yes { result ≡ true → IsSole names.Cache (codes "--shared-cache") (map string_bytes before.now) value.now }
+    ensures no { result ≡ false → IsSole names.Cache (codes "--shared-cache") (map string_bytes before.now) value.now → ⊥ }
+{
+    !is_given(before, "--shared-cache") && read_cache(value).is_some()
+}
+
+// Whether a value is the number of MiB of the book that all doors share. No door has one of its own.
+fn is_shared(before: &[String], value: &[u8]) -> bool
+    ensures yes { result ≡ true → IsSole names.SharedCache (codes "--cache") (map string_bytes before.now) value.now }
+    ensures no { result ≡ false → IsSole names.SharedCache (codes "--cache") (map string_bytes before.now) value.now → ⊥ }
+{
+    !is_given(before, "--cache") && read_shared(value).is_some()
 }
 
 /// The number of seconds that a value spells.
@@ -178,7 +218,8 @@ pub(crate) fn is_value(option: Option<OptionName>, before: &[String], value: &[u
         Some(OptionName::Listen) => is_listen(value),
         Some(OptionName::Jobs) => read_jobs(value).is_some(),
         Some(OptionName::Serve) => read_serve(value).is_some(),
-        Some(OptionName::Cache) => read_cache(value).is_some(),
+        Some(OptionName::Cache) => is_cache(before, value),
+        Some(OptionName::SharedCache) => is_shared(before, value),
         Some(OptionName::JobLifetime) => read_job_lifetime(value).is_some(),
         Some(OptionName::Tools) => adds_tools(before, value),
         Some(OptionName::Allow) => adds_rule(before, true, value),

@@ -8,7 +8,7 @@ use Rattle.farm_types.specs.declared.ran.Ran.{Ran}
 use Rattle.edge_traits.specs.declared.faults.StationFault.{StationFault}
 use Rattle.edge_traits.specs.declared.faults.StationFault.TheVariants.{Memory}
 use Rattle.edge_traits.specs.Stations.{has_output}
-use Rattle.object_kind.specs.Asked.{is_asked_kind}
+use Rattle.object_kind.specs.Asked.{is_asked_kind, is_filled}
 use Rattle.served_words.specs.Served.{first_unserved}
 use Rattle.edge_real.specs.declared.child.WordPolicy.{WordPolicy}
 use Rattle.edge_real.specs.declared.child.WordPolicy.TheVariants.{ServedWords, AllWords}
@@ -52,9 +52,14 @@ unserved_reply bound words place = record {
   object = [];
 }
 
--- What a program of status 0 left is an object of the kind that the words ask for.
-abbrev pub IsOfKind : List Word → Ran → Type 0
-IsOfKind words ran = ran.status ≡ 0 → has_output words ≡ true → is_asked_kind words ran.object ≡ true
+-- what a run for others gives is an object of the kind that the words ask for; what one of this process's own gives is more than nothing
+abbrev pub is_fit : Option WordPolicy → List Word → List ℕ → Bool
+is_fit None words object = is_filled words object
+is_fit (Some policy) words object = is_asked_kind words object
+
+-- so is what a program of status 0 left, if it was to leave an object
+abbrev pub IsOfKind : Option WordPolicy → List Word → Ran → Type 0
+IsOfKind policy words ran = ran.status ≡ 0 → has_output words ≡ true → is_fit policy words ran.object ≡ true
 
 -- the reply that says which word isn't let through, or memory was wanting for it
 abbrev pub IsRefusal : ℕ → List Word → Result Ran StationFault → ℕ → Type 0

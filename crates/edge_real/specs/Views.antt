@@ -21,8 +21,10 @@ use Rattle.edge_real.specs.declared.tcp.TcpDialer.{TcpDialer}
 use Rattle.edge_real.specs.declared.door.TcpDoor.{TcpDoor}
 use Rattle.edge_real.specs.declared.door_link.DoorLink.{DoorLink}
 use Rattle.edge_real.specs.OwnNames.{NamesView, names_view}
+use Rattle.edge_real.specs.Staging.{may_be_put}
 use Rattle.edge_real.specs.declared.child.ChildStation.{ChildStation}
 use Rattle.edge_real.specs.declared.child.Service.{Service}
+use Rattle.edge_real.specs.declared.child.ServingRules.{ServingRules}
 use Rattle.edge_real.specs.declared.child.WordPolicy.{WordPolicy}
 use Rattle.edge_real.specs.declared.clock.WallClock.{WallClock}
 use Rattle.edge_real.specs.declared.disk.DiskFiles.{DiskFiles}
@@ -83,6 +85,10 @@ policy_in service = option_map (λ one. one.rules.policy) service
 abbrev pub policy_of : {R W : Type 0} → ChildStation R W → Option WordPolicy
 policy_of station = policy_in station.service
 
+-- the rules of a station that serves others: the policy and the lifetime
+abbrev pub rules_of : {R W : Type 0} → ChildStation R W → Option ServingRules
+rules_of station = option_map (λ one. one.rules) station.service
+
 -- how long a program may run that it runs for others, if that is bounded
 abbrev pub lifetime_in : {W : Type 0} → Option (Service W) → Option Duration
 lifetime_in None = None
@@ -100,6 +106,14 @@ files_view files = counted_files files.faults files.overruns
 -- the names of the files that are being written
 abbrev pub files_names : {R : Type 0} → DiskFiles R → NamesView
 files_names files = names_view files.names
+
+-- the file that is being written may be put
+abbrev pub can_put : {R : Type 0} → DiskFiles R → Bool
+can_put files = may_be_put files.puts_empty files.staged
+
+-- a file without a byte may be put
+abbrev pub takes_empty : {R : Type 0} → DiskFiles R → Bool
+takes_empty files = files.puts_empty
 
 -- a clock doesn't tell what moments it gave
 abbrev pub clock_view : {R : Type 0} → WallClock R → ClockView

@@ -4,23 +4,23 @@ ghost use Rattle.edge_real.specs.Counts.{run_faults, run_overruns};
 ghost use Rattle.edge_real.specs.Children.{IsRunFault, NamesNoStream, CanBeGiven, input_path, output_path, needs_folder};
 ghost use Rattle.edge_real.specs.RunFolders.{place_of, bytes_if};
 ghost use Rattle.edge_real.specs.Serving.{are_let_through, unserved_place, IsOfKind, IsRefusal};
-ghost use Rattle.edge_real.specs.Views.{station_view, counted_station, folder_of, policy_of, policy_in, lifetime_of};
+ghost use Rattle.edge_real.specs.Views.{station_view, counted_station, folder_of, policy_of, policy_in, lifetime_of, rules_of};
 
 use crate::command::{
     OBJECT_NAME, command_in, command_of, input_ext, needs_folder, path_of, source_name,
 };
 use crate::counting::raise;
-use crate::notices::{tell_overrun, tell_unserved};
+use crate::notices::{tell_overrun, tell_signal, tell_unserved};
 use crate::refusing::refusal_of;
 use crate::run_folder::{RunFolder, SharedRemoval};
 use crate::run_watch::{RunWatch, Unwatched, have_descriptors};
-use crate::running::{Watched, object_left, of_asked_kind, run_command, run_watched};
+use crate::running::{Watched, object_left, of_any_kind, of_asked_kind, run_command, run_watched};
 use edge_traits::{Bounds, Station, StationFault, has_output};
 use farm_types::{Bytes, Ran, Word};
 use served_words::first_unserved;
 use std::alloc::Global;
 use std::fs::File;
-use std::io::{Eprint, Write};
+use std::io::Eprint;
 use std::process::Processes;
 use std::random::RandomSource;
 use std::rt::{self, Clock};
@@ -142,22 +142,22 @@ impl<R: Processes + rt::Files<File = File> + RandomSource + Eprint + Clock, W: R
         ensures fault { IfErr result (IsRunFault bounds.now) }
         ensures given { are_let_through (policy_of self.old) words.now ≡ true → OnOk result (All CanBeGiven words.now) }
         ensures no_object { IfOk result (λ ran. has_output words.now ≡ false → ran.object ≡ []) }
-        ensures kind { IfOk result (IsOfKind words.now) }
+        ensures kind { IfOk result (IsOfKind (policy_of self.old) words.now) }
         ensures refused { IfSome (unserved_place (policy_of self.old) words.now) (IsRefusal bounds.now.err words.now result) }
-        ensures policy { policy_of self.new ≡ policy_of self.old }
+        ensures rules { rules_of self.new ≡ rules_of self.old }
         ensures folder { folder_of self.new ≡ folder_of self.old }
         ensures faults { (station_view self.new).faults ≡ run_faults result (station_view self.old).faults }
         ensures overruns { (station_view self.new).overruns ≡ run_overruns result (station_view self.old).overruns }
     {
-        let ran = run_served(
-            &self.rt,
-            self.folder.as_str(),
-            &self.service,
-            alloc,
+        let task = Task {
             words,
             input,
             bounds,
-        );
+        };
+        let ran = run_served(&self.rt, self.folder.as_str(), &self.service, alloc, &task);
+        if let Ok(ran) = &ran {
+            tell_signal(&self.rt, words, ran.status);
+        }
         match ran {
             Ok(_) => {}
             Err(StationFault::TooMuch { stream, bytes }) => {
@@ -190,26 +190,32 @@ fn unserved_place<R: Eprint, W>(
     }
 }
 
+/// What a run is to do.
+#[derive(Clone, Copy)]
+struct Task<'a> {
+    words: &'a [Word],
+    input: &'a [u8],
+    bounds: &'a Bounds,
+}
+
 /// Runs the words where they are let through. Where one isn't, nothing is run, and the reply says which.
 fn run_served<R: Processes + rt::Files<File = File> + RandomSource + Eprint + Clock, W: RunWatch>(
     rt: &R,
     folder: &str,
     service: &Option<Service<W>>,
     alloc: Global,
-    words: &[Word],
-    input: &[u8],
-    bounds: &Bounds,
+    task: &Task<'_>,
 ) -> Result<Ran, StationFault>
-    ensures within { IfOk result (IsWithin bounds.now) }
-    ensures fault { IfErr result (IsRunFault bounds.now) }
-    ensures given { are_let_through (policy_in service.now) words.now ≡ true → OnOk result (All CanBeGiven words.now) }
-    ensures no_object { IfOk result (λ ran. has_output words.now ≡ false → ran.object ≡ []) }
-    ensures kind { IfOk result (IsOfKind words.now) }
-    ensures refused { IfSome (unserved_place (policy_in service.now) words.now) (IsRefusal bounds.now.err words.now result) }
+    ensures within { IfOk result (IsWithin task.now.bounds.now) }
+    ensures fault { IfErr result (IsRunFault task.now.bounds.now) }
+    ensures given { are_let_through (policy_in service.now) task.now.words.now ≡ true → OnOk result (All CanBeGiven task.now.words.now) }
+    ensures no_object { IfOk result (λ ran. has_output task.now.words.now ≡ false → ran.object ≡ []) }
+    ensures kind { IfOk result (IsOfKind (policy_in service.now) task.now.words.now) }
+    ensures refused { IfSome (unserved_place (policy_in service.now) task.now.words.now) (IsRefusal task.now.bounds.now.err task.now.words.now result) }
 {
-    match unserved_place(rt, service, words) {
-        Some(place) => refusal_of(alloc, words, place, bounds),
-        None => run_child(rt, folder, service, alloc, words, input, bounds),
+    match unserved_place(rt, service, task.words) {
+        Some(place) => refusal_of(alloc, task.words, place, task.bounds),
+        None => run_child(rt, folder, service, alloc, task),
     }
 }
 
@@ -219,25 +225,19 @@ fn run_child<R: Processes + rt::Files<File = File> + RandomSource + Eprint + Clo
     folder: &str,
     service: &Option<Service<W>>,
     alloc: Global,
-    words: &[Word],
-    input: &[u8],
-    bounds: &Bounds,
+    task: &Task<'_>,
 ) -> Result<Ran, StationFault>
-    requires served { are_let_through (policy_in service.now) words.now ≡ true }
-    ensures within { IfOk result (IsWithin bounds.now) }
-    ensures fault { IfErr result (IsRunFault bounds.now) }
-    ensures given { OnOk result (All CanBeGiven words.now) }
-    ensures no_object { IfOk result (λ ran. has_output words.now ≡ false → ran.object ≡ []) }
-    ensures kind { IfOk result (IsOfKind words.now) }
+    requires served { are_let_through (policy_in service.now) task.now.words.now ≡ true }
+    ensures within { IfOk result (IsWithin task.now.bounds.now) }
+    ensures fault { IfErr result (IsRunFault task.now.bounds.now) }
+    ensures given { OnOk result (All CanBeGiven task.now.words.now) }
+    ensures no_object { IfOk result (λ ran. has_output task.now.words.now ≡ false → ran.object ≡ []) }
+    ensures kind { IfOk result (IsOfKind (policy_in service.now) task.now.words.now) }
 {
     match service {
-        Some(service) => { run_for_others(rt, folder, service, alloc, words, input, bounds) }
-        None => {
-            if needs_folder(words) {
-                return run_with_files(rt, folder, alloc, words, input, bounds);
-            }
-            run_alone(rt, folder, alloc, words, bounds)
-        }
+        Some(service) => run_for_others(rt, folder, service, alloc, task),
+        None if needs_folder(task.words) => run_with_files(rt, folder, alloc, task),
+        None => run_alone(rt, folder, alloc, task.words, task.bounds),
     }
 }
 
@@ -251,16 +251,19 @@ fn run_for_others<
     folder: &str,
     service: &Service<W>,
     alloc: Global,
-    words: &[Word],
-    input: &[u8],
-    bounds: &Bounds,
+    task: &Task<'_>,
 ) -> Result<Ran, StationFault>
-    ensures within { IfOk result (IsWithin bounds.now) }
-    ensures fault { IfErr result (IsRunFault bounds.now) }
-    ensures given { OnOk result (All CanBeGiven words.now) }
-    ensures no_object { IfOk result (λ ran. has_output words.now ≡ false → ran.object ≡ []) }
-    ensures kind { IfOk result (IsOfKind words.now) }
+    ensures within { IfOk result (IsWithin task.now.bounds.now) }
+    ensures fault { IfErr result (IsRunFault task.now.bounds.now) }
+    ensures given { OnOk result (All CanBeGiven task.now.words.now) }
+    ensures no_object { IfOk result (λ ran. has_output task.now.words.now ≡ false → ran.object ≡ []) }
+    ensures kind { IfOk result (IsOfKind (Some service.now.rules.policy) task.now.words.now) }
 {
+    let Task {
+        words,
+        input,
+        bounds,
+    } = *task;
     have_descriptors(rt, &service.watch);
     let folder = RunFolder::create(rt, alloc, folder, &service.removal)?;
     let _source = input_file(&folder, words, input)?;
@@ -288,16 +291,19 @@ fn run_with_files<R: Processes + rt::Files<File = File> + RandomSource + Eprint>
     rt: &R,
     folder: &str,
     alloc: Global,
-    words: &[Word],
-    input: &[u8],
-    bounds: &Bounds,
+    task: &Task<'_>,
 ) -> Result<Ran, StationFault>
-    ensures within { IfOk result (IsWithin bounds.now) }
-    ensures fault { IfErr result (IsRunFault bounds.now) }
-    ensures given { OnOk result (All CanBeGiven words.now) }
-    ensures no_object { IfOk result (λ ran. has_output words.now ≡ false → ran.object ≡ []) }
-    ensures kind { IfOk result (IsOfKind words.now) }
+    ensures within { IfOk result (IsWithin task.now.bounds.now) }
+    ensures fault { IfErr result (IsRunFault task.now.bounds.now) }
+    ensures given { OnOk result (All CanBeGiven task.now.words.now) }
+    ensures no_object { IfOk result (λ ran. has_output task.now.words.now ≡ false → ran.object ≡ []) }
+    ensures kind { IfOk result (IsOfKind None task.now.words.now) }
 {
+    let Task {
+        words,
+        input,
+        bounds,
+    } = *task;
     let removal = None;
     let folder = RunFolder::create(rt, alloc, folder, &removal)?;
     let source = input_file(&folder, words, input)?;
@@ -305,7 +311,7 @@ fn run_with_files<R: Processes + rt::Files<File = File> + RandomSource + Eprint>
     let command = command_of(alloc, words, path_of(&source), path_of(&path))?;
     let ended = run_command(rt, alloc, folder.path(), command, bounds)?;
     let object = object_left(rt, alloc, words, &path, ended.status, bounds.object)?;
-    let object = of_asked_kind(rt, words, ended.status, object)?;
+    let object = of_any_kind(rt, words, ended.status, object)?;
     Ok(Ran {
         status: ended.status,
         out: ended.out,
@@ -352,20 +358,8 @@ fn input_file<R: rt::Files + Eprint>(
         return Ok(None);
     };
     let path = folder.name_of(source_name(ext))?;
-    let mut file = folder.create_file(path.as_str())?;
-    fill(&mut file, input)?;
+    folder.write_file(path.as_str(), input)?;
     Ok(Some(path))
-}
-
-/// Writes the whole input. It takes no memory.
-fn fill<F: Write>(file: &mut F, input: &[u8]) -> Result<(), StationFault>
-    ensures fault { IfErr result NamesNoStream }
-    ensures memory { result ≢ Err StationFault.Memory }
-{
-    match file.write_all(input) {
-        Ok(()) => Ok(()),
-        Err(_) => Err(StationFault::Failed),
-    }
 }
 
 /// The path in the folder that stands for `Output`, where it stands in the words. The program makes the file.

@@ -1,13 +1,14 @@
-ghost use Rattle.std.specs.Prelude.{◌≡◌, ◌≢◌, ℕ, ◌≤◌, length, IsOk, IfOk, IfErr, OnOk, OnErr, MatchResult, None, Err, string_bytes};
+ghost use Rattle.std.specs.Prelude.{◌≡◌, ◌≢◌, ℕ, ◌≤◌, length, IsOk, IfOk, IfErr, OnOk, OnErr, MatchResult, None, Err, true, string_bytes};
 ghost use Rattle.std.specs.IoError.{error_kind};
 ghost use Rattle.std.specs.Str.{IsUtf8};
 ghost use Rattle.edge_real.specs.Counts.{call_faults, append_faults, load_faults, load_overruns};
 ghost use Rattle.edge_real.specs.OwnNames.{first_names, SameOwner};
 ghost use Rattle.edge_real.specs.Reading.{IsReadWithin, IsLoadFault, load_of};
-ghost use Rattle.edge_real.specs.Views.{files_view, counted_files, files_names};
+ghost use Rattle.edge_real.specs.Staging.{may_be_put};
+ghost use Rattle.edge_real.specs.Views.{files_view, counted_files, files_names, can_put, takes_empty};
 
 use crate::counting::raise;
-use crate::notices::{tell_unput, tell_unread};
+use crate::notices::{tell_empty_file, tell_unput, tell_unread};
 use crate::own_files::OwnNames;
 use crate::reading::{Reading, first_room, read_to_end};
 use crate::staging::{StagedFile, move_to, stage};
@@ -24,11 +25,13 @@ use std::{fs, io, rt, str};
 /// The name under which a file is written, its own with `.farm~` added, stands for a new file of a short name of its own
 /// in the same folder, `farm-PROCESS-SERIAL.farm~`. It is opened new, so no two processes write one file, and nothing that is
 /// there is written over. A character device keeps its place: what is for it is written in the folder that this value was
-/// given, and copied into it in the end. Anything else that is no regular file is never replaced.
+/// given, and copied into it in the end. Anything else that is no regular file is never replaced. A file without a byte may be refused, as no
+/// compiler leaves an empty object.
 #[derive(Drop)]
 pub struct DiskFiles<R> {
     rt: R,
     names: OwnNames,
+    puts_empty: bool,
     staged: Option<StagedFile>,
     faults: u64,
     overruns: u64,
@@ -36,14 +39,16 @@ pub struct DiskFiles<R> {
 
 impl<R: rt::Files<File = File>> DiskFiles<R> {
     /// The files, without faults and overruns so far. What is for a device is written in `folder`, and `process` is the number of
-    /// this process.
-    pub fn new(rt: R, folder: String, process: u32) -> DiskFiles<R>
+    /// this process. A put of a file without a byte is a fault unless they put empty files.
+    pub fn new(rt: R, folder: String, process: u32, puts_empty: bool) -> DiskFiles<R>
         ensures view { files_view result ≡ counted_files 0 0 }
         ensures names { files_names result ≡ first_names (string_bytes folder) process }
+        ensures empty { takes_empty result ≡ puts_empty }
     {
         DiskFiles {
             rt,
             names: OwnNames::new(folder, process),
+            puts_empty,
             staged: None,
             faults: 0,
             overruns: 0,
@@ -97,11 +102,17 @@ impl<R: rt::Files<File = File> + Eprint> Files for DiskFiles<R> {
 
     fn rename(&mut self, _alloc: Global, from: &Bytes, to: &Bytes) -> Result<(), EdgeFault>
         ensures name { OnOk result (IsUtf8 to.now) }
+        ensures filled { OnOk result (can_put self.old ≡ true) }
         ensures names { files_names self.new ≡ files_names self.old }
         ensures overruns { (files_view self.new).overruns ≡ (files_view self.old).overruns }
         ensures memory { result ≢ Err EdgeFault.Memory }
         ensures faults { (files_view self.new).faults ≡ call_faults result (files_view self.old).faults }
     {
+        if !may_be_put(self.puts_empty, &self.staged) {
+            tell_empty_put(&self.rt, to);
+            raise(&mut self.faults);
+            return Err(EdgeFault::Failed);
+        }
         match rename_file(&self.rt, &mut self.staged, from, to) {
             Ok(()) => Ok(()),
             Err(error) => {
@@ -143,6 +154,24 @@ impl<R: rt::Files<File = File> + Eprint> Files for DiskFiles<R> {
             Err(FetchFault::Failed) => raise(&mut self.faults),
         }
         loaded
+    }
+}
+
+/// Whether the file that is being written may be put.
+fn may_be_put(puts_empty: bool, staged: &Option<StagedFile>) -> bool
+    ensures { result ≡ may_be_put puts_empty staged.now }
+{
+    puts_empty
+        || match staged {
+            None => false,
+            Some(file) => file.has_bytes(),
+        }
+}
+
+/// An empty file isn't put under this name. One that isn't UTF-8 has no line.
+fn tell_empty_put<R: Eprint>(rt: &R, name: &Bytes) {
+    if let Ok(text) = text_of(name) {
+        tell_empty_file(rt, text);
     }
 }
 

@@ -58,14 +58,24 @@ impl ErrorLines {
             if !is_writable(&mut *stream) {
                 break;
             }
-            let dropped = self.dropped.swap(0, Ordering::SeqCst);
-            if dropped > 0 {
-                rt.eprintln(format_args!("{dropped} lines dropped"))?;
+            let written = self.write(rt, line);
+            if written.is_err() {
+                break;
             }
-            return rt.eprintln(line);
+            return written;
         }
         self.dropped.fetch_add(1, Ordering::SeqCst);
         Ok(())
+    }
+
+    /// Writes a line behind one that says how many were dropped before. Those are counted until that line is written.
+    fn write<R: Eprint, D: Display + Drop>(&self, rt: &R, line: D) -> io::Result<()> {
+        let dropped = self.dropped.load(Ordering::SeqCst);
+        if dropped > 0 {
+            rt.eprintln(format_args!("{dropped} lines dropped"))?;
+            self.dropped.fetch_sub(dropped, Ordering::SeqCst);
+        }
+        rt.eprintln(line)
     }
 }
 

@@ -13,6 +13,10 @@ pub struct Tokens {
     compiler: [u8; NAME],
     named: usize,
     is_first: bool,
+    has_first: bool,
+    /// How many tokens were seen, and whether one isn't that of a right reply at its place.
+    seen: usize,
+    is_odd: bool,
     status: Option<u32>,
     source: u64,
     object: Option<u64>,
@@ -36,6 +40,9 @@ impl Tokens {
             compiler: [0; NAME],
             named: 0,
             is_first: false,
+            has_first: false,
+            seen: 0,
+            is_odd: false,
             status: None,
             source: 0,
             object: None,
@@ -54,6 +61,12 @@ impl Tokens {
     /// Whether the last token that a reply has was seen, with all of its body.
     pub fn is_whole_reply(&self) -> bool {
         self.object.is_some() && self.body == 0
+    }
+
+    /// Whether the tokens that were seen are those of a right reply, as far as their heads tell: in their order, of this version, and an object only with
+    /// status 0.
+    pub fn is_right_reply(&self) -> bool {
+        !self.is_odd && (self.status == Some(0) || self.object.unwrap_or(0) == 0)
     }
 
     /// The status that was seen.
@@ -117,13 +130,21 @@ impl Tokens {
     fn see_head(&mut self) {
         let head = self.head;
         let (name, digits) = head.split_at(4);
-        let Some(number) = number_of(digits) else {
+        let number = number_of(digits);
+        self.is_odd |= REPLY
+            .get(self.seen)
+            .is_none_or(|token| name != token.as_slice());
+        self.is_odd |= name == b"DONE".as_slice() && number != Some(VERSION);
+        self.seen = self.seen.saturating_add(1);
+        let Some(number) = number else {
+            self.is_odd = true;
             self.body = u64::MAX;
             return;
         };
         match name {
             b"ARGV" => {
-                self.is_first = self.named == 0;
+                self.is_first = !self.has_first && number > 0;
+                self.has_first = true;
                 self.body = u64::from(number);
             }
             b"DOTI" => {
@@ -142,7 +163,16 @@ impl Tokens {
     }
 }
 
+/// The tokens of a reply, in their order.
+const REPLY: [&[u8; 4]; 5] = [b"DONE", b"STAT", b"SERR", b"SOUT", b"DOTO"];
+
+/// The version of the protocol.
+const VERSION: u32 = 1;
+
 fn number_of(digits: &[u8]) -> Option<u32> {
+    if !digits.iter().all(u8::is_ascii_hexdigit) {
+        return None;
+    }
     u32::from_str_radix(str::from_utf8(digits).ok()?, 16).ok()
 }
 
@@ -158,6 +188,7 @@ impl Exchange<'_> {
     pub fn compiler(&self) -> Shown<'_> {
         match self.asked.compiler.get(..self.asked.named) {
             Some(name) if !name.is_empty() => Shown(name),
+            _ if self.asked.has_first => Shown(b"''"),
             _ => Shown(b"-"),
         }
     }

@@ -17,25 +17,34 @@ use std::rt;
 /// The devices of one worker of `farm`, over the system.
 pub type SystemKit<R> = Kit<TcpDialer<R>, ChildStation<R>, FileKeeper<DiskFiles<R>>, WallClock<R>>;
 
-/// A worker's devices. What is of its own is in `folder`, `process` is the number of this process, and a pause of the clock lasts so many
-/// milliseconds.
+/// What the kits of a process have in common.
+#[derive(Clone, Copy)]
+pub struct KitSettings<'a> {
+    /// The folder of what is of their own.
+    pub folder: &'a str,
+    /// The number of this process.
+    pub process: u32,
+    pub notices: Notices,
+    /// Whether a file without a byte is put, and no fault.
+    pub puts_empty: bool,
+}
+
+/// A worker's devices. A pause of the clock lasts so many milliseconds.
 pub fn system_kit<
     R: Net + Processes + RandomSource + rt::Files<File = File> + rt::Clock + Eprint + Copy,
 >(
     rt: R,
     alloc: Global,
-    notices: Notices,
-    folder: &str,
-    process: u32,
+    settings: &KitSettings<'_>,
     pause_millis: u64,
 ) -> Result<SystemKit<R>, AllocError>
-    ensures { IfOk result (IsSystemKit rt folder.now process) }
+    ensures { IfOk result (IsSystemKit rt settings.now.folder.now settings.now.process) }
 {
-    let staging = String::from_str(alloc, folder)?;
+    let staging = String::from_str(alloc, settings.folder)?;
     Ok(Kit {
-        dialer: TcpDialer::new(rt, notices),
-        station: ChildStation::new(rt, String::from_str(alloc, folder)?),
-        keeper: FileKeeper::new(DiskFiles::new(rt, staging, process)),
+        dialer: TcpDialer::new(rt, settings.notices),
+        station: ChildStation::new(rt, String::from_str(alloc, settings.folder)?),
+        keeper: FileKeeper::new(DiskFiles::new(rt, staging, settings.process, settings.puts_empty)),
         clock: WallClock::pausing(rt, pause_millis),
     })
 }
@@ -46,17 +55,15 @@ pub fn system_kits<
 >(
     rt: R,
     alloc: Global,
-    notices: Notices,
-    folder: &str,
-    process: u32,
+    settings: &KitSettings<'_>,
     count: usize,
 ) -> Result<Vec<SystemKit<R>>, AllocError>
     ensures count { IfOk result (λ kits. vec_len kits ≡ count) }
-    ensures kits { IfOk result (λ kits. All (IsSystemKit rt folder.now process) kits.items) }
+    ensures kits { IfOk result (λ kits. All (IsSystemKit rt settings.now.folder.now settings.now.process) kits.items) }
 {
     let mut kits = Vec::with_capacity(alloc, count)?;
     for _ in 0..count {
-        kits.push(system_kit(rt, alloc, notices, folder, process, PAUSE_MILLIS)?)?;
+        kits.push(system_kit(rt, alloc, settings, PAUSE_MILLIS)?)?;
     }
     Ok(kits)
 }
@@ -67,16 +74,14 @@ pub fn watch_kits<
 >(
     rt: R,
     alloc: Global,
-    notices: Notices,
-    folder: &str,
-    process: u32,
+    settings: &KitSettings<'_>,
     count: usize,
     pause_millis: u64,
 ) -> Result<Vec<SystemKit<R>>, AllocError>
     ensures count { IfOk result (λ kits. vec_len kits ≡ count + 1) }
-    ensures kits { IfOk result (λ kits. All (IsSystemKit rt folder.now process) kits.items) }
+    ensures kits { IfOk result (λ kits. All (IsSystemKit rt settings.now.folder.now settings.now.process) kits.items) }
 {
-    let mut kits = system_kits(rt, alloc, notices, folder, process, count)?;
-    kits.push(system_kit(rt, alloc, notices, folder, process, pause_millis)?)?;
+    let mut kits = system_kits(rt, alloc, settings, count)?;
+    kits.push(system_kit(rt, alloc, settings, pause_millis)?)?;
     Ok(kits)
 }

@@ -41,7 +41,7 @@ pub use door_link::DoorLink;
 pub use environment::{command_words, current_folder, own_folder, variable};
 pub use error_lines::{ErrorLines, Unhindered};
 pub use held_streams::HeldStreams;
-pub use kits::{SystemKit, system_kits, watch_kits};
+pub use kits::{KitSettings, SystemKit, system_kits, watch_kits};
 pub use notices::Notices;
 pub use run_folder::{PendingRemoval, SharedRemoval};
 pub use run_watch::{DoorWatch, RunWatch, SharedWatch, Unwatched};

@@ -35,6 +35,11 @@ pub fn tell_unput<R: Eprint>(rt: &R, path: &str, error: &Error) {
     let _ = eprintln!(rt; "{path}: cannot be written: {error}");
 }
 
+/// An empty object isn't put where it was to be.
+pub fn tell_empty_file<R: Eprint>(rt: &R, path: &str) {
+    let _ = eprintln!(rt; "{path}: an empty object isn't put");
+}
+
 /// A file couldn't be read, for the system's reason.
 pub fn tell_unread<R: Eprint>(rt: &R, path: &str, error: &Error) {
     let _ = eprintln!(rt; "{path}: cannot be read: {error}");
@@ -59,12 +64,39 @@ pub fn tell_killed<R: Eprint>(rt: &R, words: &[Word], end: EarlyEnd, lifetime: O
     };
 }
 
+/// The program was ended by a signal, if its wait status says so.
+pub fn tell_signal<R: Eprint>(rt: &R, words: &[Word], status: u32) {
+    let signal = status % 128;
+    if signal != 0 {
+        let _ = eprintln!(rt; "{}: killed by signal {signal}", program_of(words));
+    }
+}
+
 /// The program ended with status 0, and what it left isn't of the kind that was asked for.
 pub fn tell_unasked<R: Eprint>(rt: &R, words: &[Word], bytes: usize) {
     let _ = eprintln!(rt;
         "{}: what it left is no object of the asked kind: {bytes} bytes",
         program_of(words)
     );
+}
+
+/// The program ended with status 0, and what it left is empty.
+pub fn tell_empty<R: Eprint>(rt: &R, words: &[Word]) {
+    let _ = eprintln!(rt; "{}: what it left is empty", program_of(words));
+}
+
+/// The number of the fault of a wait for a child that isn't there: its end was taken already.
+const NO_CHILD: i32 = 10;
+
+/// The system doesn't say how a program ended, for this reason.
+pub fn tell_lost<R: Eprint>(rt: &R, error: &Error) {
+    let _ = if error.raw_os_error() == Some(NO_CHILD) {
+        eprintln!(rt;
+            "how a program ended isn't known: whoever started this one has it ignore SIGCHLD"
+        )
+    } else {
+        eprintln!(rt; "how a program ended isn't known: {error}")
+    };
 }
 
 /// The program ended with status 0, and no file stands where its object was to be.
@@ -233,6 +265,8 @@ fn tell_broken<R: Eprint>(rt: &R, parting: &Parting<'_>) {
         )
     } else if !answered.is_whole_reply() {
         eprintln!(rt; "farm: {host}:{port}: the reply wasn't taken to its end")
+    } else if !answered.is_right_reply() {
+        eprintln!(rt; "farm: {host}:{port}: the reply isn't one of this protocol's")
     } else if answered.status() == Some(UNKNOWN_COMPILER) {
         eprintln!(rt;
             "farm: {host}:{port}: the compiler {} isn't in the host's table",

@@ -4,11 +4,11 @@ ghost use Rattle.std.specs.Fs.{asks_read, asks_write, asks_create_new};
 ghost use Rattle.edge_real.specs.Children.{NamesNoStream};
 ghost use Rattle.edge_real.specs.RunFolders.{folder_name, IsNamedIn, place_of, file_in};
 
-use crate::notices::{tell_unmade, tell_unremoved};
+use crate::notices::{tell_unmade, tell_unput, tell_unremoved};
 use edge_traits::StationFault;
 use std::alloc::{AllocError, Global};
 use std::fs::OpenOptions;
-use std::io::{Eprint, ErrorKind};
+use std::io::{Eprint, ErrorKind, Write};
 use std::os::unix::fs::OpenOptionsExt;
 use std::random::RandomSource;
 use std::rt;
@@ -139,12 +139,19 @@ impl<R: rt::Files + Eprint> RunFolder<'_, R> {
         file_in(self.alloc, self.path.as_str(), name)
     }
 
-    /// A new empty file at this path that its owner alone may read, opened for reading and writing.
-    pub fn create_file(&self, path: &str) -> Result<R::File, StationFault>
+    /// Makes a file at this path that its owner alone may read, and writes these bytes.
+    pub fn write_file(&self, path: &str, bytes: &[u8]) -> Result<(), StationFault>
         ensures fault { IfErr result NamesNoStream }
         ensures memory { result ≢ Err StationFault.Memory }
     {
-        open_new(self.rt, path)
+        let mut file = open_new(self.rt, path)?;
+        match file.write_all(bytes) {
+            Ok(()) => Ok(()),
+            Err(error) => {
+                tell_unput(self.rt, path, &error);
+                Err(StationFault::Failed)
+            }
+        }
     }
 }
 

@@ -225,13 +225,18 @@ pub fn have_descriptors<R: Files<File = File> + Clock, W: RunWatch>(rt: &R, watc
     }
 }
 
-/// Whether the system gives as many at this moment.
+/// The numbers of the faults by which the system, or this process, has no descriptor left.
+const ENFILE: i32 = 23;
+
+const EMFILE: i32 = 24;
+
+/// Whether the system gives as many at this moment. What fails for another reason isn't a want of them.
 fn are_free<R: Files<File = File>>(rt: &R) -> bool {
     let mut held: [Option<File>; DESCRIPTORS] = [None, None, None, None, None, None];
     for place in held.iter_mut() {
         match File::open(rt, "/") {
             Ok(file) => *place = Some(file),
-            Err(_) => return false,
+            Err(error) => return !matches!(error.raw_os_error(), Some(ENFILE | EMFILE)),
         }
     }
     true

@@ -2,18 +2,18 @@
 ghost use Rattle.std.specs.Prelude.{true, ◌≡◌, ◌≢◌, ℕ, ◌≤◌, List, [], length, Option, None, Err, IfSome, IfOk, IfErr};
 ghost use Rattle.edge_real.specs.Children.{IsRunFault, IsStreamFault, NamesNoStream, taken_of, left_by};
 ghost use Rattle.edge_traits.specs.Stations.{has_output};
-ghost use Rattle.object_kind.specs.Asked.{is_asked_kind};
+ghost use Rattle.object_kind.specs.Asked.{is_asked_kind, is_filled};
 ghost use Rattle.edge_real.specs.Reading.{IsReadWithin, IsReadOf, IsLoadFault};
 
 use crate::disk::load;
-use crate::notices::{tell_missing, tell_unasked, tell_unstarted};
+use crate::notices::{tell_empty, tell_lost, tell_missing, tell_unasked, tell_unstarted};
 use crate::reading::{Reading, read_to_end};
 use crate::run_folder::nameless_file;
 use crate::run_watch::RunWatch;
 use crate::waiting::wait_watched;
 use edge_traits::{Bounds, FetchFault, StationFault, Stream, has_output};
 use farm_types::{Bytes, Word};
-use object_kind::is_asked_kind;
+use object_kind::{is_asked_kind, is_filled};
 use std::alloc::Global;
 use std::fs::File;
 use std::io::{Eprint, Read, Seek};
@@ -55,7 +55,7 @@ pub fn run_command<R: Processes + rt::Files<File = File> + RandomSource + Eprint
 {
     let mut messages = nameless_file(rt, alloc, folder)?;
     let child = start(rt, command, Stdio::piped(), &messages)?;
-    let (status, out) = run_to_end(child, alloc, bounds.out)?;
+    let (status, out) = run_to_end(rt, child, alloc, bounds.out)?;
     let err = read_again(&mut messages, alloc, bounds.err, Stream::Err)?;
     Ok(Ended { status, out, err })
 }
@@ -128,6 +128,25 @@ pub fn of_asked_kind<R: Eprint>(
     Ok(object)
 }
 
+/// The object, if it is more than nothing or no driver of gcc or clang was to leave it. An empty one, of a driver that ended with status 0, is a fault, which is
+/// told.
+pub fn of_any_kind<R: Eprint>(
+    rt: &R,
+    words: &[Word],
+    status: u32,
+    object: Bytes,
+) -> Result<Bytes, StationFault>
+    ensures same { IfOk result (λ bytes. bytes ≡ object) }
+    ensures filled { IfOk result (λ bytes. status ≡ 0 → has_output words.now ≡ true → is_filled words.now bytes ≡ true) }
+    ensures fault { IfErr result NamesNoStream }
+{
+    if status == 0 && has_output(words) && !is_filled(words, object.as_slice()) {
+        tell_empty(rt, words);
+        return Err(StationFault::Failed);
+    }
+    Ok(object)
+}
+
 /// A stream of a program that goes to this file.
 fn written_to(file: &File) -> Result<Stdio, StationFault>
     ensures fault { IfErr result NamesNoStream }
@@ -163,7 +182,8 @@ fn start<R: Processes + Eprint>(
 
 /// Runs a program to its end. Its standard output is read here, so it doesn't hold the program up.
 #[tactic(auto, using(crate::proofs::ChildLemmas::unnamed_in))]
-fn run_to_end<P: OpenProcess + Drop>(
+fn run_to_end<R: Eprint, P: OpenProcess + Drop>(
+    rt: &R,
     mut child: Child<P>,
     alloc: Global,
     bound: u32,
@@ -172,18 +192,24 @@ fn run_to_end<P: OpenProcess + Drop>(
     ensures fault { IfErr result (IsStreamFault Stream.Out bound) }
 {
     let out = read_pipe(child.stdout.take(), alloc, bound);
-    let status = wait_for(&mut child)?;
+    let status = wait_for(rt, &mut child)?;
     Ok((status, out?))
 }
 
-/// The wait status of a program, once it has ended.
-fn wait_for<P: OpenProcess + Drop>(child: &mut Child<P>) -> Result<u32, StationFault>
+/// The wait status of a program, once it has ended. Where the system doesn't say how it ended, that is told.
+fn wait_for<R: Eprint, P: OpenProcess + Drop>(
+    rt: &R,
+    child: &mut Child<P>,
+) -> Result<u32, StationFault>
     ensures fault { IfErr result NamesNoStream }
     ensures memory { result ≢ Err StationFault.Memory }
 {
     match child.wait() {
         Ok(status) => Ok(status.into_raw().cast_unsigned()),
-        Err(_) => Err(StationFault::Failed),
+        Err(error) => {
+            tell_lost(rt, &error);
+            Err(StationFault::Failed)
+        }
     }
 }
 

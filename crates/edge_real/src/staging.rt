@@ -4,7 +4,7 @@ ghost use Rattle.std.specs.Fs.{IsFile};
 ghost use Rattle.std.specs.IoError.{error_kind};
 ghost use Rattle.std.specs.Str.{IsUtf8, bytes_eq};
 ghost use Rattle.edge_real.specs.OwnNames.{names_view, SameOwner};
-ghost use Rattle.edge_real.specs.Staging.{staged_as, staged_at};
+ghost use Rattle.edge_real.specs.Staging.{has_bytes, staged_as, staged_at};
 
 use crate::disk::text_of;
 use crate::goals::{Goal, goal_of};
@@ -28,9 +28,18 @@ pub struct StagedFile {
     target: String,
     goal: String,
     file: File,
+    /// Whether a byte was written.
+    has_bytes: bool,
 }
 
 impl StagedFile {
+    /// Whether a byte was written.
+    pub fn has_bytes(&self) -> bool
+        ensures { result ≡ has_bytes self.now }
+    {
+        self.has_bytes
+    }
+
     /// Whether this name stands for it.
     pub fn stands_for(&self, name: &Bytes) -> bool
         ensures { result ≡ bytes_eq (staged_as self.now) name.now }
@@ -57,7 +66,9 @@ impl StagedFile {
     pub fn write(&mut self, piece: &[u8]) -> io::Result<usize>
         ensures { IfOk result (λ n. n ≤ length piece.now) }
     {
-        write_once(&mut self.file, piece)
+        let count = write_once(&mut self.file, piece)?;
+        self.has_bytes |= count > 0;
+        Ok(count)
     }
 }
 
@@ -137,6 +148,7 @@ pub fn stage<R: rt::Files<File = File> + Eprint>(
         target,
         goal: goal.path,
         file,
+        has_bytes: false,
     })
 }
 

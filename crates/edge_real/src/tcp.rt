@@ -225,11 +225,11 @@ impl<R: Clock, S: Read + Write + OpenStream> Link for TcpLink<R, S> {
 /// How long an address of a host may take to answer a dial: 5 seconds.
 const DIAL_SECS: u64 = 5;
 
-/// How long nothing may move on a link: 10 minutes.
+/// How long a receive may wait, and how long the sends of one piece may take in all: 10 minutes.
 pub const IDLE_SECS: u64 = 600;
 
 /// Dials over TCP. A name is resolved by the system, and each of its addresses is tried in turn, each for at most `DIAL_SECS`. On a link that it
-/// gives, a receive or a send that waits for `IDLE_SECS` is a fault. Why a host isn't reached, and why an exchange breaks off, stands as a line on the
+/// gives, a receive that waits for `IDLE_SECS` is a fault, and so is a piece that isn't sent whole by then. Why a host isn't reached, and why an exchange breaks off, stands as a line on the
 /// standard error of this process, where the notices have it.
 #[derive(Drop)]
 pub struct TcpDialer<R> {

@@ -5,7 +5,7 @@ ghost use Rattle.edge_real.specs.Children.{NamesNoStream};
 ghost use Rattle.edge_real.specs.Ends.{early_end, is_late, status_of, pause_nanos};
 
 use crate::door_link::moment;
-use crate::notices::tell_killed;
+use crate::notices::{tell_killed, tell_lost};
 use crate::run_watch::RunWatch;
 use edge_traits::StationFault;
 use farm_types::Word;
@@ -37,7 +37,7 @@ enum Waited {
 }
 
 /// The wait status of a program, once it has ended by itself. Where its peer has gone, or it has run for so long, it is killed, and its run has
-/// failed, which is told.
+/// failed, which is told. So it is where the system doesn't say whether it has ended.
 pub fn wait_watched<R: Clock + Eprint, P: OpenProcess, W: RunWatch>(
     rt: &R,
     child: &mut Child<P>,
@@ -49,15 +49,24 @@ pub fn wait_watched<R: Clock + Eprint, P: OpenProcess, W: RunWatch>(
     ensures memory { result ≢ Err StationFault.Memory }
 {
     let waited = wait_for(rt, child, watch, lifetime);
-    if let Waited::Early(end) = waited {
-        let _ = child.kill();
-        let _ = child.wait();
-        tell_killed(rt, words, end, lifetime);
+    match waited {
+        Waited::Ended(_) => {}
+        Waited::Early(end) => {
+            end_now(child);
+            tell_killed(rt, words, end, lifetime);
+        }
+        Waited::Unknown => end_now(child),
     }
     status_of(waited)
 }
 
-fn wait_for<R: Clock, P: OpenProcess, W: RunWatch>(
+/// Kills a program and waits for its end. One that is known to be gone isn't there to be killed.
+fn end_now<P: OpenProcess>(child: &mut Child<P>) {
+    let _ = child.kill();
+    let _ = child.wait();
+}
+
+fn wait_for<R: Clock + Eprint, P: OpenProcess, W: RunWatch>(
     rt: &R,
     child: &mut Child<P>,
     watch: &W,
@@ -69,7 +78,10 @@ fn wait_for<R: Clock, P: OpenProcess, W: RunWatch>(
             Ok(Some(status)) => return Waited::Ended(status.into_raw().cast_unsigned()),
             Ok(None) => {}
             Err(error) if error.kind() == ErrorKind::Interrupted => {}
-            Err(_) => return Waited::Unknown,
+            Err(error) => {
+                tell_lost(rt, &error);
+                return Waited::Unknown;
+            }
         }
         let passed = moment(rt).saturating_sub(begun);
         if let Some(end) = early_end(watch.has_gone(), is_late(passed, lifetime)) {

@@ -2,7 +2,7 @@
 
 use crate::keepers::{Fetch, Put, expect_fetches, expect_puts, same_fetched};
 use crate::same::{holds, same, same_bytes};
-use edge_real::{DiskFiles, Notices, system_kits};
+use edge_real::{DiskFiles, KitSettings, Notices, system_kits};
 use edge_traits::{EdgeFault, FetchFault, Keeper};
 use farm_types::Bytes;
 use object_delivery::Files as FileCalls;
@@ -14,7 +14,8 @@ use std::rt::Files;
 use std::test::Fail;
 
 fn files(rt: HostRuntime, process: u32) -> Result<DiskFiles<HostRuntime>, AllocError> {
-    Ok(DiskFiles::new(rt, String::from_str(rt.alloc(), ".")?, process))
+    let folder = String::from_str(rt.alloc(), ".")?;
+    Ok(DiskFiles::new(rt, folder, process, true))
 }
 
 const FETCHES: &[Fetch] = &[
@@ -43,7 +44,7 @@ fn expect_kept<R: Abort, K: Keeper>(rt: &R, alloc: Global, other: &mut K, keeper
 
 #[test]
 fn a_file_is_put_and_fetched(rt: HostRuntime) -> Result<(), Fail> {
-    let mut kits = system_kits(rt, rt.alloc(), Notices::Never, ".", 9, 2)?;
+    let mut kits = system_kits(rt, rt.alloc(), &settings_of(9), 2)?;
     same(&rt, &kits.len(), &2, &"kits");
     let [first, second] = kits.as_mut_slice() else {
         return Err("there are two kits".into());
@@ -253,7 +254,7 @@ fn expect_replaced<R: Abort + Files + AllocGlobal, K: Keeper>(
 
 #[test]
 fn only_a_regular_file_is_replaced(rt: HostRuntime) -> Result<(), Fail> {
-    let mut kits = system_kits(rt, rt.alloc(), Notices::Never, ".", 4, 1)?;
+    let mut kits = system_kits(rt, rt.alloc(), &settings_of(4), 1)?;
     same(&rt, &kits.len(), &1, &"kits");
     let [kit] = kits.as_mut_slice() else {
         return Err("there is one kit".into());
@@ -281,4 +282,13 @@ fn a_name_that_is_not_utf8_is_a_fault(rt: HostRuntime) -> Result<(), Fail> {
     let mut files = files(rt, 3)?;
     expect_faults(&rt, rt.alloc(), &mut files);
     Ok(())
+}
+
+fn settings_of(process: u32) -> KitSettings<'static> {
+    KitSettings {
+        folder: ".",
+        process,
+        notices: Notices::Never,
+        puts_empty: true,
+    }
 }

@@ -1,21 +1,29 @@
 // A compile command: it is sent as a job, or run here as it stands.
 ghost use Rattle.std.specs.Prelude.{◌≡◌, All, IfOk, None, vec_len};
 
-use crate::command::{add_words, bytes_of, compile_command, is_whole};
+use crate::command::{add_words, bytes_of, compile_command, driver_named, is_whole};
 use crate::run::tell_end;
 use crate::settings::{FALLBACK, HOSTS, notices_of, variables_of};
+use crate::sharing::{Lent, share_slot};
+use desk_real::{Below, VARIABLE, parse_variable, within_text};
 use edge_real::{
-    ChildStation, DiskFiles, StdSink, StdSource, TcpDialer, WaitingStream, WallClock, own_folder,
-    system_kits,
+    ChildStation, DiskFiles, KitSettings, StdSink, StdSource, TcpDialer, WaitingStream, WallClock,
+    own_folder, system_kits, variable,
 };
 use edge_traits::Kit;
+use farm_machine::{Event, Report};
 use farm_program::farm;
 use farm_types::exits::STOPPED;
-use farm_types::{Host, Words};
+use farm_types::{Bytes, Host, Words};
 use farm_words::{back_off_period, lookup};
 use host_list::{HostError, parse};
 use object_delivery::FileKeeper;
+use object_kind::is_driver;
 use std::alloc::AllocError;
+use std::env::Env;
+use std::io::Eprint;
+use std::process::Processes;
+use std::rt::Files;
 use std::sync::Wait;
 use std::thread::Threads;
 use std::{fs, process, str};
@@ -28,28 +36,104 @@ use whole_command::{
 /// Does a compile command, and returns the exit status. It may wait for a slot.
 ///
 /// It runs here as it stands, if it may not be sent, if it has no host or this machine is its first, or if no host compiled it with status 0. All
-/// but the first hold with fallback only.
+/// but the first hold with fallback only. Below `farm share` it waits for a slot first, of a host, or of this machine if it may not be sent.
 pub fn compile<W: Threads + Wait + Sync>(
     waits: &W,
     rt: &HostRuntime,
-    mut words: Vec<String>,
+    words: Vec<String>,
 ) -> Result<u8, AllocError> {
-    let alloc = rt.alloc();
     let variables = variables_of(rt, true)?;
-    let fallback = lookup(variables.as_slice(), FALLBACK) != Some("0");
     let asked = compile_command(words.as_slice()).unwrap_or(&[]);
-    let command = bytes_of(alloc, asked)?;
-    let place = place_of(rt, &command, variables.as_slice())?;
-    if place == Place::Here || place == Place::HereFirst && fallback {
-        return run_here(rt, Given::Words(asked));
+    let command = bytes_of(rt.alloc(), asked)?;
+    let driver = driver_named(rt, asked)?;
+    let place = place_of(rt, &command, driver.as_slice(), variables.as_slice())?;
+    let mut job = Job {
+        words,
+        command,
+        driver,
+        variables,
+    };
+    let Some(text) = variable(rt, VARIABLE)? else {
+        return Ok(do_job(waits, rt, None, job, place)?.status);
+    };
+    let Some(run) = parse_variable(text.as_str()) else {
+        return Ok(do_job(waits, rt, None, job, place)?.status);
+    };
+    let shared = share_slot(rt, &run, place.is_here(), &mut job.variables)?;
+    let place = match &shared {
+        Some(shared) if !place.is_here() => match shared.lent {
+            Lent::Here => Place::NoHost,
+            Lent::Local => Place::HereFirst,
+            Lent::Host => Place::Host,
+        },
+        _ => place,
+    };
+    let mark = match &shared {
+        Some(_) => Some(within_text(rt.alloc(), &run)?),
+        None => None,
+    };
+    let end = do_job(
+        waits,
+        rt,
+        mark.as_ref().map(|mark| mark.as_str()),
+        job,
+        place,
+    )?;
+    if let Some(shared) = shared {
+        shared.leave(end.has_broken);
+    }
+    Ok(end.status)
+}
+
+// A compile command: the words of the command line, those after `cc`, the name of the driver that they run, and the variables.
+#[derive(Drop)]
+struct Job {
+    words: Vec<String>,
+    command: Words,
+    driver: Bytes,
+    variables: Vec<(String, String)>,
+}
+
+// How a compile command ended: its exit status, and whether the exchange with its host broke.
+#[derive(Clone, Copy)]
+struct Done {
+    status: u8,
+    has_broken: bool,
+}
+
+// Does a compile command at its place. What it starts has another value of `FARM_SHARE`, if it has a slot.
+fn do_job<W: Threads + Wait + Sync>(
+    waits: &W,
+    rt: &HostRuntime,
+    mark: Option<&str>,
+    job: Job,
+    place: Place,
+) -> Result<Done, AllocError> {
+    let below = Below::new(*rt, mark);
+    let mut words = job.words;
+    let variables = job.variables.as_slice();
+    let fallback = lookup(variables, FALLBACK) != Some("0");
+    if place == Place::Here || place.is_first() && fallback {
+        let asked = compile_command(words.as_slice()).unwrap_or(&[]);
+        return Ok(Done {
+            status: run_here(&below, rt, Given::Words(asked))?,
+            has_broken: false,
+        });
     }
     let count = words.len();
-    add_words(rt, &mut words, &command)?;
-    let sent = send(waits, rt, words.as_slice(), variables.as_slice(), fallback)?;
-    match sent {
-        Some(status) => Ok(status),
-        None => run_here(rt, Given::Words(words.get(1..count).unwrap_or(&[]))),
-    }
+    add_words(rt, &mut words, &job.command, job.driver.as_slice())?;
+    // A driver of gcc or clang leaves no empty object.
+    let puts_empty = !is_driver(job.driver.as_slice());
+    let kits = kits_of(rt, below, puts_empty, fallback)?;
+    let sent = send(waits, rt, words.as_slice(), variables, fallback, kits)?;
+    let status = match sent.status {
+        Some(status) => status,
+        None => run_here(&below, rt, Given::Words(words.get(1..count).unwrap_or(&[])))?,
+    };
+    Ok(Done {
+        status,
+        has_broken: sent.has_broken,
+    })
 }
 
 // Where a command is done.
@@ -57,30 +141,52 @@ pub fn compile<W: Threads + Wait + Sync>(
 enum Place {
     /// Here, as it stands.
     Here,
-    /// Here first of all: no host is named, or the first is this machine.
+    /// Here, since no host is named.
+    NoHost,
+    /// Here first of all: the first host is this machine.
     HereFirst,
     /// On a host, or as the environment's fault says.
     Host,
 }
 
+impl Place {
+    // Whether no host is asked for it.
+    fn is_here(self) -> bool {
+        matches!(self, Place::Here | Place::NoHost)
+    }
+
+    // Whether it is done here if nothing forbids that.
+    fn is_first(self) -> bool {
+        matches!(self, Place::NoHost | Place::HereFirst)
+    }
+}
+
 fn place_of(
     rt: &HostRuntime,
     command: &Words,
+    driver: &[u8],
     variables: &[(String, String)],
 ) -> Result<Place, AllocError> {
-    let alloc = rt.alloc();
     let Some(_period) = back_off_period(variables) else {
         return Ok(Place::Host);
     };
-    match parse(alloc, lookup(variables, HOSTS).unwrap_or("").as_bytes()) {
+    match parse(
+        rt.alloc(),
+        lookup(variables, HOSTS).unwrap_or("").as_bytes(),
+    ) {
         Err(HostError::Fault { .. }) => Ok(Place::Host),
         Err(HostError::Memory) => Err(AllocError),
-        Ok(_) if is_whole(rt, command)? => Ok(Place::Here),
-        Ok(hosts) => Ok(match hosts.list.as_slice() {
-            // The one job is given the first entry: nobody else takes a slot of it, and this machine isn't left alone.
-            [] | [Host { local: true, .. }, ..] => Place::HereFirst,
-            _ => Place::Host,
-        }),
+        Ok(_) if is_whole(rt, command, driver)? => Ok(Place::Here),
+        Ok(hosts) => Ok(first_of(hosts.list.as_slice())),
+    }
+}
+
+// Where a command is done that may be sent. The one job is given the first entry: nobody else takes a slot of it, and this machine isn't left alone.
+fn first_of(hosts: &[Host]) -> Place {
+    match hosts {
+        [] => Place::NoHost,
+        [Host { local: true, .. }, ..] => Place::HereFirst,
+        _ => Place::Host,
     }
 }
 
@@ -98,77 +204,119 @@ pub fn compile_unread(rt: &HostRuntime) -> Result<Option<u8>, AllocError> {
         if !is_there(rt, program)? {
             // Its start fails, and says so.
             let program = String::from_str(rt.alloc(), program)?;
-            return Ok(Some(run_here(rt, Given::Words(&[program]))?));
+            return Ok(Some(run_here(rt, rt, Given::Words(&[program]))?));
         }
     }
-    Ok(Some(run_here(rt, Given::OwnLine)?))
+    Ok(Some(run_here(rt, rt, Given::OwnLine)?))
 }
 
 // Runs a command here as it stands.
-fn run_here(rt: &HostRuntime, given: Given<'_>) -> Result<u8, AllocError> {
+fn run_here<R: Processes + Env + Files + Eprint + AllocGlobal>(
+    below: &R,
+    rt: &HostRuntime,
+    given: Given<'_>,
+) -> Result<u8, AllocError> {
     let descriptors = handed_descriptors(rt)?;
     let whole = Whole {
         given,
         process: process::id(rt.process()),
         descriptors: descriptors.as_slice(),
     };
-    run_whole(rt, &whole)
+    run_whole(below, &whole)
 }
 
+// The runtime of what a command starts.
+type Programs<'a> = Below<'a, HostRuntime>;
+
 // The devices of one job.
-type JobKit = Kit<
+type JobKit<'a> = Kit<
     TcpDialer<HostRuntime>,
-    PreprocessorStation<ChildStation<HostRuntime>>,
+    PreprocessorStation<ChildStation<Programs<'a>>>,
     FileKeeper<DiskFiles<HostRuntime>>,
     WallClock<HostRuntime>,
 >;
 
 // The devices of the one job. Its station compiles if nothing else would.
-fn kits_of(rt: &HostRuntime, fallback: bool) -> Result<Vec<JobKit>, AllocError>
+fn kits_of<'a>(
+    rt: &HostRuntime,
+    below: Programs<'a>,
+    puts_empty: bool,
+    fallback: bool,
+) -> Result<Vec<JobKit<'a>>, AllocError>
     ensures one { IfOk result (λ kits. vec_len kits ≡ 1) }
     ensures idle { IfOk result (λ kits. All (λ kit. kit.keeper.pending ≡ None) kits.items) }
 {
     let alloc = rt.alloc();
     let folder = own_folder(rt)?;
-    let process = process::id(rt.process());
-    let mut system = system_kits(*rt, alloc, notices_of(rt)?, folder.as_str(), process, 1)?;
+    let settings = KitSettings {
+        folder: folder.as_str(),
+        process: process::id(rt.process()),
+        notices: notices_of(rt)?,
+        puts_empty,
+    };
+    let mut system = system_kits(*rt, alloc, &settings, 1)?;
     let Some(kit) = system.pop() else {
         unreachable!()
     };
     let mut kits = Vec::new(alloc);
     kits.push(Kit {
         dialer: kit.dialer,
-        station: PreprocessorStation::new(kit.station, !fallback),
+        station: PreprocessorStation::new(ChildStation::new(below, folder), !fallback),
         keeper: kit.keeper,
         clock: kit.clock,
     })?;
     Ok(kits)
 }
 
-// Sends a command as a job, and returns the exit status. None if it is run here as it stands: then nothing was put or printed for it.
+// What became of a job: the exit status, none if its command is run here as it stands; and whether the exchange with its host broke.
+#[derive(Clone, Copy)]
+struct Sent {
+    status: Option<u8>,
+    has_broken: bool,
+}
+
+// Sends a command as a job. If it is run here as it stands, nothing was put or printed for it.
 fn send<W: Threads + Wait + Sync>(
     waits: &W,
     rt: &HostRuntime,
     words: &[String],
     variables: &[(String, String)],
     fallback: bool,
-) -> Result<Option<u8>, AllocError> {
+    mut kits: Vec<JobKit<'_>>,
+) -> Result<Sent, AllocError>
+    requires one { vec_len kits ≡ 1 }
+    requires idle { All (λ kit. kit.keeper.pending ≡ None) kits.items }
+{
     let alloc = rt.alloc();
-    let mut kits = kits_of(rt, fallback)?;
     let mut input = StdSource::new(WaitingStream::new(*rt, rt.stdin()));
     let mut out = HeldSink::new(alloc);
     let mut err = HeldSink::new(alloc);
     let ended = farm(
         waits, alloc, words, variables, &mut input, &mut kits, &mut out, &mut err,
     );
+    let mut sent = Sent {
+        status: None,
+        has_broken: false,
+    };
     if let [one] = ended.built.as_slice() {
-        if runs_again(fallback, one.reports.as_slice()) {
-            return Ok(None);
+        let reports = one.reports.as_slice();
+        sent.has_broken = reports.iter().any(|report| has_broken(report));
+        if runs_again(fallback, reports) {
+            return Ok(sent);
         }
     }
-    let status = print_held(rt, &err, &out, ended.status);
+    sent.status = Some(print_held(rt, &err, &out, ended.status));
     tell_end(rt, words, variables, &ended);
-    Ok(Some(status))
+    Ok(sent)
+}
+
+// Whether a host was given back whose exchange broke.
+fn has_broken(report: &Report) -> bool {
+    report
+        .events
+        .as_slice()
+        .iter()
+        .any(|event| matches!(event, Event::GaveBad { .. }))
 }
 
 // Prints what was held back, and returns this status; or that of a sink that stopped.

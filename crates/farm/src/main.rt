@@ -6,12 +6,15 @@ mod compile;
 mod reasons;
 mod run;
 mod settings;
+mod share;
+mod sharing;
 
 use command::compile_command;
 use compile::{compile, compile_unread};
 use edge_real::{HeldStreams, command_words};
 use farm_types::exits::{FAULT, NO_MEMORY};
 use run::run;
+use share::share;
 use std::alloc::AllocError;
 use std::process::ExitCode;
 use std::sync::Wait;
@@ -29,6 +32,9 @@ fn serve<W: Threads + Wait + Sync>(waits: &W, rt: &HostRuntime) -> Result<u8, Al
     };
     if compile_command(words.as_slice()).is_some() {
         return compile(waits, rt, words);
+    }
+    if let Some(status) = share(rt, words.as_slice())? {
+        return Ok(status);
     }
     run(waits, rt, words.as_slice())
 }

@@ -11,6 +11,8 @@ use std::io::Eprint;
 pub struct Given<'a> {
     pub words: &'a [String],
     pub command: Option<Command<'a>>,
+    /// The text of an option `--hosts` that no command of `farm` itself has.
+    pub hosts: Option<&'a str>,
     pub variables: &'a [(String, String)],
 }
 
@@ -63,6 +65,19 @@ fn tell_words<R: Eprint>(rt: &R, words: &[String], place: usize) {
     };
 }
 
+/// Tells which word of `farm share` doesn't fit, or that one is missing.
+pub fn tell_bad_share<R: Eprint>(rt: &R, word: Option<&String>) {
+    let _ = match word {
+        Some(word) => {
+            let word = Shown(word.as_str().as_bytes());
+            eprintln!(rt; "farm: {word} doesn't fit there: farm share --help has what is taken")
+        }
+        None => {
+            eprintln!(rt; "farm: share: a word is missing: farm share --help has what is taken")
+        }
+    };
+}
+
 fn tell_period<R: Eprint>(rt: &R, variables: &[(String, String)]) {
     let value = lookup(variables, "DISTCC_BACKOFF_PERIOD").unwrap_or("");
     let value = Shown(value.as_bytes());
@@ -84,7 +99,7 @@ fn hosts_option<'a>(command: Option<Command<'a>>) -> Option<&'a str> {
 
 // Tells a fault of the host list, by the word that has it.
 fn tell_hosts<R: Eprint>(rt: &R, given: Given<'_>, at: u64, fault: HostFault) {
-    let option = hosts_option(given.command);
+    let option = given.hosts.or(hosts_option(given.command));
     let text = host_text(option, given.variables).as_bytes();
     let origin = if option.is_some() {
         "--hosts"
@@ -119,7 +134,7 @@ fn word_around(text: &[u8], at: usize) -> &[u8] {
     let mut from = 0;
     for (place, byte) in text.iter().enumerate() {
         if matches!(*byte, b' ' | b'\t' | b'\n' | 12) {
-            if place > at {
+            if place >= at {
                 return text.get(from..place).unwrap_or(text);
             }
             from = place.saturating_add(1);

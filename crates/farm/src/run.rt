@@ -2,7 +2,9 @@
 use crate::command::is_watched;
 use crate::reasons::{Given, tell_carriage_return, tell_refusal};
 use crate::settings::{notices_of, variables_of};
-use edge_real::{PAUSE_MILLIS, StdSink, StdSource, WaitingStream, own_folder, watch_kits};
+use edge_real::{
+    KitSettings, PAUSE_MILLIS, StdSink, StdSource, WaitingStream, own_folder, watch_kits,
+};
 use farm_program::{Ended, farm};
 use farm_types::limits::WORKERS_MAX;
 use farm_words::parse_command;
@@ -25,11 +27,17 @@ fn last_pause(words: &[String]) -> u64 {
 }
 
 /// Says in plain words why a run was refused, if it was.
-pub fn tell_end(rt: &HostRuntime, words: &[String], variables: &[(String, String)], ended: &Ended) {
+pub fn tell_end<'a>(
+    rt: &HostRuntime,
+    words: &'a [String],
+    variables: &'a [(String, String)],
+    ended: &Ended,
+) {
     if let Some(refusal) = &ended.refusal {
         let given = Given {
             words,
             command: parse_command(words).ok(),
+            hosts: None,
             variables,
         };
         tell_refusal(rt, given, refusal);
@@ -45,15 +53,13 @@ pub fn run<W: Threads + Wait + Sync>(
     let alloc = rt.alloc();
     let variables = variables_of(rt, false)?;
     let folder = own_folder(rt)?;
-    let mut kits = watch_kits(
-        *rt,
-        alloc,
-        notices_of(rt)?,
-        folder.as_str(),
-        process::id(rt.process()),
-        WORKERS_MAX - 1,
-        last_pause(words),
-    )?;
+    let settings = KitSettings {
+        folder: folder.as_str(),
+        process: process::id(rt.process()),
+        notices: notices_of(rt)?,
+        puts_empty: true,
+    };
+    let mut kits = watch_kits(*rt, alloc, &settings, WORKERS_MAX - 1, last_pause(words))?;
     let mut input = MarkedSource::new(StdSource::new(WaitingStream::new(*rt, rt.stdin())));
     let mut out = StdSink::new(WaitingStream::new(*rt, rt.stdout()));
     let mut err = StdSink::new(WaitingStream::new(*rt, rt.stderr()));

@@ -23,14 +23,14 @@ pub enum Refusal {
     },
     /// The back-off period of the environment is no number of seconds within its limit.
     Period,
-    /// This fault stands in the text of the hosts, at this byte.
+    /// This fault is in the text of the hosts, at this byte.
     Hosts {
         at: u64,
         fault: HostFault,
     },
     /// The input couldn't be read.
     Unread,
-    /// This text was read and is no job list: the fault is in it, at this line, or in all of it, which is line 0. It isn't kept where
+    /// This text was read and is no job list: the fault is in it, at this line, or in all of it, which is line 0. It isn't kept if
     /// it is too long.
     Jobs {
         line: u32,
@@ -47,7 +47,7 @@ pub enum Refusal {
     Cycle {
         jobs: Numbers,
     },
-    /// Memory was wanting.
+    /// Memory ran out.
     Memory,
 }
 

@@ -1,4 +1,4 @@
-//! How `farm` ends where it does nothing.
+//! How `farm` ends if it does nothing.
 
 ghost use Rattle.std.specs.Prelude.{◌≡◌, ℕ, List, [], ◌∷◌, IfOk, string_bytes};
 ghost use Rattle.farm_types.specs.Exits.{bad_words_status, bad_hosts_status, fault_status, bad_text_status};
@@ -13,10 +13,10 @@ use job_list::JobFault;
 use std::alloc::{AllocError, Global};
 use stream_print::{complain, no_memory};
 
-/// What is printed where memory is wanting outside a job.
+/// What is printed if memory runs out outside a job.
 pub const NO_MEMORY_TEXT: &[u8] = b"farm: no memory\n";
 
-/// Tells that memory is wanting.
+/// Tells that memory runs out.
 pub fn want_memory<O: Sink, E: Sink>(out: &mut O, err: &mut E) -> u8
     ensures { WantOf no_memory_text [] (sinks_view O.shows E.shows out.old err.old)
         (sinks_view O.shows E.shows out.new err.new) result }
@@ -24,7 +24,7 @@ pub fn want_memory<O: Sink, E: Sink>(out: &mut O, err: &mut E) -> u8
     no_memory(NO_MEMORY_TEXT, out, err)
 }
 
-// Refuses by this text; where there was no memory for it, it tells that.
+// Refuses by this text; if there was no memory for it, it says that.
 pub(crate) fn refuse_by<O: Sink, E: Sink>(
     text: Result<String, AllocError>,
     status: u8,

@@ -10,7 +10,7 @@ use std::env;
 use std::io::Eprint;
 use std::process::ExitCode;
 
-// The words of the command line. Where one isn't UTF-8, they are one empty word, which is refused.
+// The words of the command line. If one isn't UTF-8, they are one empty word, which is refused.
 fn words_of(rt: &HostRuntime) -> Result<Vec<String>, AllocError> {
     let mut words = Vec::new(rt.alloc());
     match env::args(rt) {

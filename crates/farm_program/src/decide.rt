@@ -159,7 +159,7 @@ fn decide_class(alloc: Global, words: &[String], env: &[(String, String)]) -> Re
     }
 }
 
-/// What a command comes to before a job is run; or why it comes to nothing.
+/// What a command comes to before a job is run; or why it fails.
 pub fn decide<R: Source>(
     alloc: Global,
     call: Invocation<'_>,

@@ -13,7 +13,7 @@ ghost use Rattle.farm_answers.specs.Texts.{bad_words_text};
 ghost use Rattle.farm_program.specs.Worlds.{AreReady, world, OnlyPrinted};
 ghost use Rattle.farm_program.specs.Smooth.{IsSmooth, Completed, WatchCompleted};
 ghost use Rattle.farm_words.specs.Within.{IsWithin};
-ghost use Rattle.farm_program.specs.Commands.{Does, IsBuildBy, IsGraphBy, IsWatchBy};
+ghost use Rattle.farm_program.specs.Commands.{Does, IsBuildBy, IsGraphBy, IsWatchBy, WasRefused};
 ghost use Rattle.farm_program.specs.GraphBuilds.{GraphCompleted};
 ghost use Rattle.job_graph.specs.Graphs.{GraphOf};
 ghost use Rattle.job_graph.specs.declared.graph.Graph.{Graph};
@@ -76,11 +76,13 @@ where
     requires input { (R.shows input.old).ended ≡ false }
     requires kits { AreReady 1 (λ kit. IsIdle (K.shows kit.keeper)) kits.old.items }
     requires within { IsWithin (meaning call.command) }
-    ensures { Does (devices D.shows S.shows K.shows C.shows D.may_give S.ran)
+    ensures does { Does (devices D.shows S.shows K.shows C.shows D.may_give S.ran)
         (map (λ v. (string_bytes v.0, string_bytes v.1)) call.entry.env.now)
         (world R.shows O.shows E.shows input.old kits.old.items out.old err.old [])
         (world R.shows O.shows E.shows input.new kits.new.items out.new err.new result.built)
         result.status (meaning call.entry.command) }
+    ensures refused { WasRefused result.refusal result.built (sinks_view O.shows E.shows out.old err.old)
+        (sinks_view O.shows E.shows out.new err.new) result.status }
 {
     let work = match decide(alloc, call, input) {
         Ok(work) => work,
@@ -140,8 +142,12 @@ where
         (world R.shows O.shows E.shows input.old kits.old.items out.old err.old [])
         (world R.shows O.shows E.shows input.new kits.new.items out.new err.new result.built) result.status meant }
 
+    // If a refusal is handed back, it is the one that was printed, its status is the answer, and nothing was built.
+    ensures refused { WasRefused result.refusal result.built (sinks_view O.shows E.shows out.old err.old)
+        (sinks_view O.shows E.shows out.new err.new) result.status }
+
     // The whole input is a list of these jobs, and neither the source nor a sink failed or stopped: nothing is left unread, the
-    // jobs were run, and the status is the number of their reports, or memory was wanting.
+    // jobs were run, and the status is the number of their reports, or memory ran out.
     ensures complete { (config : JobConfig) (most : ℕ) (jobs : List (List (List ℕ))) →
         IsBuildBy (map string_bytes words.now)
         (map (λ v. (string_bytes v.0, string_bytes v.1)) env.now) config most →
@@ -154,7 +160,7 @@ where
         ⊎ (result.status ≡ memory_status) }
 
     // The same of a job graph: nothing is left unread, all its levels were run, and the status is the number of what became of its
-    // jobs, or memory was wanting.
+    // jobs, or memory ran out.
     ensures complete_graph { (config : JobConfig) (most : ℕ) (graph : Graph) →
         IsGraphBy (map string_bytes words.now)
         (map (λ v. (string_bytes v.0, string_bytes v.1)) env.now) config most →
@@ -166,7 +172,7 @@ where
         (world R.shows O.shows E.shows input.new kits.new.items out.new err.new result.built) result.status
         ⊎ (result.status ≡ memory_status) }
 
-    // The same of a watched build: and all its lines were printed, and the reports behind them, or memory was wanting.
+    // The same of a watched build: and all its lines were printed, and the reports after them, or memory ran out.
     ensures complete_watch { (config : JobConfig) (most lines : ℕ) (jobs : List (List (List ℕ))) →
         IsWatchBy (map string_bytes words.now)
         (map (λ v. (string_bytes v.0, string_bytes v.1)) env.now) config most lines →

@@ -1,9 +1,10 @@
 //! A build of a job list that tells how far it has come.
-ghost use Rattle.std.specs.Prelude.{◌≡◌, ◌≤◌, Bool, IfOk, OnErr, length};
+ghost use Rattle.std.specs.Prelude.{◌≡◌, ◌≤◌, [], ◌∷◌, Bool, IfOk, OnErr, length};
 ghost use Rattle.farm_types.specs.Limits.{lines_max};
 ghost use Rattle.edge_traits.specs.Keepers.{IsIdle};
 ghost use Rattle.farm_machine.specs.Devices.{devices};
-ghost use Rattle.job_driver.specs.Watching.{WatchPrinted};
+ghost use Rattle.job_driver.specs.declared.driver.Built.{Built};
+ghost use Rattle.job_driver.specs.Watching.{WasWatched};
 ghost use Rattle.farm_program.specs.declared.work.Work.TheVariants as works;
 ghost use Rattle.farm_program.specs.Worlds.{AreReady};
 ghost use Rattle.farm_program.specs.WatchBuilds.{watched_workers};
@@ -18,7 +19,7 @@ use std::sync::Wait;
 use std::thread::Threads;
 
 // Runs jobs while lines tell how far they have come. What was built, and how the printing of the lines ended. An error says that
-// memory was wanting before the first of the jobs began.
+// memory ran out before the first of the jobs began.
 fn watch_jobs<
     T: Threads + Wait + Sync,
     D: Dialer + Send + Drop,
@@ -41,8 +42,8 @@ where
     requires kits { AreReady 2 (λ kit. IsIdle (K.shows kit.keeper)) kits.old.items }
     ensures done { IfOk result (λ made. WatchedListRan (devices D.shows S.shows K.shows C.shows D.may_give S.ran)
         kits.old.items kits.new.items list.now made.0) }
-    ensures printed { IfOk result (λ made. (told : Bool) × WatchPrinted (length list.now.jobs)
-        (watched_workers list.now.most kits.old.items list.now.jobs) lines told (E.shows err.old) (E.shows err.new) made.1) }
+    ensures printed { IfOk result (λ made. (told : Bool) × ((one : Built) → made.0 ≡ one ∷ [] → WasWatched (length list.now.jobs)
+        (watched_workers list.now.most kits.old.items list.now.jobs) lines one.reports told (E.shows err.old) (E.shows err.new) made.1)) }
     ensures undone { OnErr result ((kits.new.items ≡ kits.old.items) × (err.new ≡ err.old)) }
 {
     let workers = (list.most as usize)
@@ -67,7 +68,7 @@ where
 }
 
 /// Runs the jobs of a list while lines on the sink of errors tell how far they have come. With one kit nothing is told, since the last
-/// kit lends its clock. An error says that memory was wanting before the first of the jobs began.
+/// kit lends its clock. An error says that memory ran out before the first of the jobs began.
 pub fn run_watched<
     T: Threads + Wait + Sync,
     D: Dialer + Send + Drop,

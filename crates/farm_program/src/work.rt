@@ -45,11 +45,11 @@ pub enum Work {
     Command(ListWork),
     /// All jobs of a list.
     List(ListWork),
-    /// All jobs of a list, while so many lines tell of them.
+    /// All jobs of a list, while that many lines tell of them.
     Watched { list: ListWork, lines: u8 },
     /// All jobs of a graph, level by level.
     Graph(GraphWork),
-    /// So many jobs of the workload, over kits of its own.
+    /// That many jobs of the workload, over kits of its own.
     Rehearse { jobs: u32 },
 }
 
@@ -80,7 +80,7 @@ pub enum Done {
         built: BuiltList,
         states: Items<State>,
     },
-    /// Memory was wanting before a level of a graph.
+    /// Memory ran out before a level of a graph.
     Cut {
         built: BuiltList,
     },
@@ -109,7 +109,7 @@ impl Done {
     }
 }
 
-/// Does it. An error says that memory was wanting before the first job began.
+/// Does it. An error says that memory ran out before the first job began.
 pub fn carry_out<
     T: Threads + Wait + Sync,
     D: Dialer + Send + Drop,

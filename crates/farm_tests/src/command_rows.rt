@@ -4,7 +4,7 @@ pub(crate) const DONE: &str = "1 remote H:3632 stat 00000000\ntotal 1 ok 1\n";
 
 const HOSTS: &str = "red:4000/2\nblue:4001/3\n--localslots=4\n--localslots_cpp=8\n";
 
-// The words behind the program's name, the variables, and what is seen: the status, the output, the error sink.
+// The words after the program's name, the variables, and what is seen: the status, the output, the error sink.
 pub(crate) struct Row {
     pub(crate) words: &'static [&'static str],
     pub(crate) env: &'static [(&'static str, &'static str)],

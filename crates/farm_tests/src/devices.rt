@@ -44,7 +44,7 @@ impl Sink for Page {
     }
 }
 
-// What `farm` is given, and what its devices do: which calls fail, by their numbers, where 0 names none, and what the
+// What `farm` is given, and what its devices do: which calls fail, by their numbers, of which 0 names none, and what the
 // programs and the host give.
 #[derive(Clone, Copy)]
 pub(crate) struct Script {
@@ -135,7 +135,7 @@ fn ran_of(alloc: Global, status: u32, out: &[u8], err: &[u8]) -> Result<Ran, All
     })
 }
 
-// Where it isn't quiet, the first run gives its status, a source and a message, and the second one its status and nothing.
+// If it isn't quiet, the first run gives its status, a source and a message, and the second one its status and nothing.
 fn rans_of(alloc: Global, script: &Script) -> Result<RanList, AllocError> {
     let mut rans = RanList::new(alloc);
     if script.quiet {
@@ -191,7 +191,7 @@ pub(crate) fn kit(alloc: Global, script: &Script) -> Result<MemKit, AllocError>
     })
 }
 
-/// So many kits of a script, but 1 at least and 16 at most.
+/// That many kits of a script, but 1 at least and 16 at most.
 pub(crate) fn kits(alloc: Global, script: &Script) -> Result<Vec<MemKit>, AllocError>
     ensures some { IfOk result (λ kits. 1 ≤ length kits.items) }
     ensures most { IfOk result (λ kits. length kits.items ≤ workers_max) }
@@ -230,7 +230,7 @@ fn variables_of(
     Ok(variables)
 }
 
-/// The content of a file of a keeper, where it is there.
+/// The content of a file of a keeper, if it is there.
 pub(crate) fn content_of<K: Keeper>(
     alloc: Global,
     keeper: &mut K,
@@ -369,7 +369,7 @@ where
     }
 }
 
-// The file `x.o` of the last kit, where it is there.
+// The file `x.o` of the last kit, if it is there.
 fn last_object(alloc: Global, kits: &mut Vec<MemKit>) -> Result<Option<Bytes>, AllocError> {
     match kits.last_mut() {
         Some(kit) => content_of(alloc, &mut kit.keeper, b"x.o"),

@@ -1,4 +1,4 @@
-//! What a build prints where one call of one device fails, for each call in turn.
+//! What a build prints if one call of one device fails, for each call in turn.
 
 ghost use Rattle.std.specs.Prelude.{◌≡◌, false, IfOk};
 ghost use Rattle.edge_memory.specs.Sinks.{sink_state, sink_shows};
@@ -26,7 +26,7 @@ const JOB: Script = Script {
     ..FIRST
 };
 
-// What is seen of the run of a script, where a call is made to fail or the reply is cut: the status, the output, and whether
+// What is seen of the run of a script, if a call is made to fail or the reply is cut: the status, the output, and whether
 // there is an object.
 fn expect<R: Abort + Threads + Wait + Sync>(
     rt: &R,
@@ -128,7 +128,7 @@ fn a_reply_cut_anywhere_is_never_put(rt: HostRuntime) -> Result<(), Fail> {
     expect_cut_replies(&rt, rt.alloc(), &QUIET)
 }
 
-// The calls of the two sinks that take nothing, where 0 names none; the status and what was written.
+// The calls of the two sinks that take nothing, of which 0 names none; the status and what was written.
 struct Row {
     out_stops: u64,
     err_stops: u64,

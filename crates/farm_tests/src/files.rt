@@ -1,4 +1,4 @@
-//! What a build leaves in the files where one call on them fails, or two in a row.
+//! What a build leaves in the files if one call on them fails, or two in a row.
 
 ghost use Rattle.std.specs.Prelude.{◌≡◌, length, All, IfOk};
 ghost use Rattle.edge_traits.specs.Keepers.{IsIdle};
@@ -28,7 +28,7 @@ const JOB: Script = Script {
 };
 
 // Which calls on the files fail, and what is left under the name of a file that is being written. Its creation is the first call,
-// three pieces are added, and the fifth call renames it; behind a call that failed the file is removed.
+// three pieces are added, and the fifth call renames it; after a call that failed the file is removed.
 type Failed = (&'static [u64], Option<&'static [u8]>);
 
 const FAILED: &[Failed] = &[
@@ -141,7 +141,7 @@ fn is_content(file: &Option<Bytes>, wanted: Option<&[u8]>) -> bool {
     }
 }
 
-// A file has this content, or isn't there where there is none.
+// A file has this content, or isn't there if there is none.
 fn expect_file<R: Abort, F: Files>(
     rt: &R,
     alloc: Global,

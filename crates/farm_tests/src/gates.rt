@@ -1,4 +1,4 @@
-//! Two workers, whose devices show that they run side by side where they may, and never where they may not.
+//! Two workers, whose devices show that they run side by side if they may, and never if they may not.
 
 ghost use Rattle.std.specs.Prelude.{◌≡◌, length, All, IfOk};
 ghost use Rattle.edge_traits.specs.Keepers.{IsIdle};

@@ -1,4 +1,4 @@
-//! A watched build whose worker is held until a line has told of its first job: it shows that a watcher reads while workers work.
+//! Watched builds by one worker, which is held in one of its runs until a line has told how far it is then.
 
 ghost use Rattle.std.specs.Prelude.{◌≡◌, ◌≤◌, [], false, length, All, IfOk, IfErr, OnOk};
 ghost use Rattle.edge_traits.specs.Keepers.{IsIdle};
@@ -22,12 +22,12 @@ use std::test::Fail;
 use std::thread::Threads;
 use std::{str, thread};
 
-// A station whose second run tells that it has begun, and waits until the other end of its gate is asked.
+// A station of which one run, counted from 0, says that it has begun, and waits until the other end of its gate is asked.
 #[derive(Drop)]
 struct HeldStation<'a, R> {
     begun: GateStation<'a, R>,
     gate: GateStation<'a, R>,
-    runs: u32,
+    before: u32,
 }
 
 impl<'a, R: Wait> Station for HeldStation<'a, R> {
@@ -43,8 +43,8 @@ impl<'a, R: Wait> Station for HeldStation<'a, R> {
         input: &[u8],
         bounds: &Bounds,
     ) -> Result<Ran, StationFault> {
-        if self.runs == 0 {
-            self.runs = 1;
+        if self.before > 0 {
+            self.before -= 1;
             return Ok(Ran::nothing(alloc));
         }
         let _ = self.begun.run(alloc, words, input, bounds);
@@ -52,11 +52,12 @@ impl<'a, R: Wait> Station for HeldStation<'a, R> {
     }
 }
 
-// A sink that asks at its end of a gate once a line tells that one job has ended.
+// A sink that asks at its end of a gate once a line has this text.
 #[derive(Drop)]
 struct AskingSink<'a, R> {
     page: Page,
     gate: GateStation<'a, R>,
+    tells: &'static str,
     alloc: Global,
 }
 
@@ -71,14 +72,14 @@ impl<'a, R: Wait> Sink for AskingSink<'a, R> {
 
     fn write(&mut self, piece: &[u8]) -> Result<usize, EdgeFault> {
         let done = self.page.write(piece);
-        if str::from_utf8(piece).unwrap_or("").contains("ended 1 of") {
+        if str::from_utf8(piece).unwrap_or("").contains(self.tells) {
             let _ = self.gate.run(self.alloc, &[], &[], &NOTHING);
         }
         done
     }
 }
 
-// A clock whose pauses wait until a worker's second run has begun, so many times at most.
+// A clock whose pauses wait until the held run has begun, that many times at most.
 #[derive(Drop)]
 struct WaitingClock<'a, R> {
     begun: GateStation<'a, R>,
@@ -122,9 +123,6 @@ fn kit<'a, R>(
     }
 }
 
-/// How many pauses may wait.
-const WAITS: u32 = 100;
-
 fn clock<'a, R>(alloc: Global, begun: GateStation<'a, R>, waits: u32) -> WaitingClock<'a, R> {
     WaitingClock {
         begun,
@@ -153,11 +151,12 @@ fn two_kits<'a, R>(
     Ok(kits)
 }
 
-// The kit of a worker whose second run waits for `gate`, and a kit whose clock waits for that run.
+// The kit of a worker of which one run waits for `gate`, and a kit whose clock waits for that run.
 fn held_kits<'a, R: Wait>(
     rt: &'a R,
     alloc: Global,
     gate: GateStation<'a, R>,
+    row: &Row,
 ) -> Result<Vec<HeldKit<'a, R>>, AllocError>
     ensures two { IfOk result (λ kits. length kits.items ≡ 2) }
     ensures idle { IfOk result (λ kits. All (λ kit. IsIdle (keeper_shows (keeper_state kit.keeper))) kits.items) }
@@ -166,22 +165,77 @@ fn held_kits<'a, R: Wait>(
     let held = HeldStation {
         begun,
         gate,
-        runs: 0,
+        before: row.before,
     };
     let idle = HeldStation {
         begun: alone(rt, alloc)?,
         gate: alone(rt, alloc)?,
-        runs: 0,
+        before: 0,
     };
     let unused = clock(alloc, alone(rt, alloc)?, 0);
-    two_kits(alloc, (held, unused), (idle, clock(alloc, awaits, WAITS)))
+    two_kits(
+        alloc,
+        (held, unused),
+        (idle, clock(alloc, awaits, row.waits)),
+    )
 }
 
-const TWO_JOBS: &[u8] = b"scc -E a.c\nscc -E b.c\n";
+// A build of that many jobs whose worker is held before one of its runs, until a line has told how far it is then.
+struct Row {
+    jobs: u32,
+    /// How many runs come before the held one.
+    before: u32,
+    /// How many pauses of the watcher may wait for the held run.
+    waits: u32,
+    /// What a line says while the run is held.
+    tells: &'static str,
+    /// The last lines of both sinks.
+    total: &'static str,
+    last: &'static str,
+}
+
+const ROWS: &[Row] = &[
+    // A row is shown before its job's first run.
+    Row {
+        jobs: 2,
+        before: 0,
+        waits: 100,
+        tells: "ended 0 of 2 busy 1",
+        total: "total 2 ok 2\n",
+        last: "watch last ended 2 of 2 busy 0\n",
+    },
+    // And the next one once its report is there.
+    Row {
+        jobs: 2,
+        before: 1,
+        waits: 100,
+        tells: "ended 1 of 2 busy 1",
+        total: "total 2 ok 2\n",
+        last: "watch last ended 2 of 2 busy 0\n",
+    },
+    // Two rows for each of many jobs are shown and told of.
+    Row {
+        jobs: 200,
+        before: 199,
+        waits: 100,
+        tells: "ended 199 of 200 busy 1",
+        total: "total 200 ok 200\n",
+        last: "watch last ended 200 of 200 busy 0\n",
+    },
+];
+
+// A list of that many jobs.
+fn jobs_text(alloc: Global, jobs: u32) -> Result<Bytes, AllocError> {
+    let mut text = Bytes::new(alloc);
+    for _ in 0..jobs {
+        text.try_extend(b"scc -E a.c\n")?;
+    }
+    Ok(text)
+}
 
 const WORDS: &[&str] = &["watch", "--workers", "1", "--lines", "100"];
 
-// The status of a watched build of two jobs.
+// The status of a watched build of these jobs.
 fn watch<
     W: Threads + Wait + Sync,
     D: Dialer + Send + Drop,
@@ -193,6 +247,7 @@ fn watch<
 >(
     rt: &W,
     alloc: Global,
+    jobs: u32,
     kits: &mut Vec<Kit<D, S, K, C>>,
     out: &mut O,
     err: &mut E,
@@ -204,41 +259,42 @@ where
     requires out { (O.shows out.old).stopped ≡ false }
     requires err { (E.shows err.old).stopped ≡ false }
 {
-    let text = Bytes::from_slice(alloc, TWO_JOBS)?;
+    let text = jobs_text(alloc, jobs)?;
     let asked = asked_for(alloc, WORDS, text)?;
     Ok(call(rt, alloc, asked, kits, out, err))
 }
 
-fn expect_lines<R: Abort>(rt: &R, lines: &str) {
-    holds(rt, lines.contains("ended 1 of 2 busy "), &lines);
-    holds(
-        rt,
-        lines.ends_with("watch last ended 2 of 2 busy 0\n"),
-        &lines,
-    );
+fn expect_told<R: Abort>(rt: &R, row: &Row, status: u8, out: &Bytes, err: &Bytes) {
+    same(rt, &status, &0, &row.tells);
+    holds(rt, out.as_slice().ends_with(row.total.as_bytes()), out);
+    let lines = str::from_utf8(err.as_slice()).unwrap_or("");
+    holds(rt, lines.contains(row.tells), &lines);
+    holds(rt, lines.ends_with(row.last), &lines);
 }
 
-fn expect_told<R: Abort>(rt: &R, status: u8, out: &Bytes, err: &Bytes) {
-    same(rt, &status, &0, &"the status");
-    holds(rt, out.as_slice().ends_with(b"total 2 ok 2\n"), out);
-    expect_lines(rt, str::from_utf8(err.as_slice()).unwrap_or(""));
-}
-
-fn expect_held<R: Abort + Threads + Wait + Sync>(rt: &R, alloc: Global) -> Result<(), Fail> {
+fn expect_held<R: Abort + Threads + Wait + Sync>(
+    rt: &R,
+    alloc: Global,
+    row: &Row,
+) -> Result<(), AllocError> {
     let (held, asked) = GateStation::pair(rt, alloc)?;
-    let mut kits = held_kits(rt, alloc, held)?;
+    let mut kits = held_kits(rt, alloc, held, row)?;
     let mut out = Page::new(alloc);
     let mut err = AskingSink {
         page: Page::new(alloc),
         gate: asked,
+        tells: row.tells,
         alloc,
     };
-    let status = watch(rt, alloc, &mut kits, &mut out, &mut err)?;
-    expect_told(rt, status, &out.text, &err.page.text);
+    let status = watch(rt, alloc, row.jobs, &mut kits, &mut out, &mut err)?;
+    expect_told(rt, row, status, &out.text, &err.page.text);
     Ok(())
 }
 
 #[test]
-fn a_line_tells_of_a_job_while_the_next_one_is_done(rt: HostRuntime) -> Result<(), Fail> {
-    expect_held(&rt, rt.alloc())
+fn a_line_tells_how_far_a_worker_is_while_it_works(rt: HostRuntime) -> Result<(), Fail> {
+    for row in ROWS {
+        expect_held(&rt, rt.alloc(), row)?;
+    }
+    Ok(())
 }

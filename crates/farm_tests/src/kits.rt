@@ -21,12 +21,12 @@ pub fn empty_keeper(alloc: Global) -> MemKeeper
     MemKeeper::new(FileList::new(alloc), CallNumbers::new(alloc))
 }
 
-/// A clock that stands.
+/// A clock that stays at 0.
 pub fn standing_clock(alloc: Global) -> MemClock {
     MemClock::new(Moments::new(alloc))
 }
 
-/// So many, but 1 at least and 16 at most.
+/// That many, but 1 at least and 16 at most.
 pub fn kit_count(asked: usize) -> usize
     ensures some { 1 ≤ result }
     ensures most { result ≤ workers_max }

@@ -23,6 +23,8 @@ pub mod kits;
 #[cfg(test)]
 mod loops;
 #[cfg(test)]
+mod pauses;
+#[cfg(test)]
 mod rehearsals;
 #[cfg(test)]
 mod same;

@@ -116,14 +116,14 @@ fn is_object<K: Keeper>(
     }
 }
 
-// Whether the object of this number stands in a keeper's files, with its own item.
+// Whether the object of this number is in a keeper's files, with its own item.
 fn has_object<K: Keeper>(alloc: Global, keeper: &mut K, number: u32) -> Result<bool, AllocError> {
     let name = format!(in alloc; "f{number}.o")?;
     let object = format!(in alloc; "SCO1\ndef f{number} 3\n")?;
     is_object(alloc, keeper, name.as_str(), object.as_str())
 }
 
-// How many of the twelve objects stand in a keeper's files, each with its own item.
+// How many of the twelve objects are in a keeper's files, each with its own item.
 fn objects_in<K: Keeper>(alloc: Global, keeper: &mut K) -> Result<u32, AllocError> {
     let mut found: u32 = 0;
     for number in 1..13 {

@@ -95,7 +95,7 @@ fn rehearsals_tell_what_the_compiler_leaves(rt: HostRuntime) -> Result<(), Fail>
 /// How many jobs there are, and how many bytes their objects have.
 const FEW: &[(u32, u64)] = &[(1, 24), (2, 48)];
 
-// A rehearsal of so many jobs.
+// A rehearsal of that many jobs.
 fn rehearsed<R: Threads + Wait + Sync>(rt: &R, alloc: Global, n: u32) -> Result<Rehearsed, Fail> {
     if n < 1 || n > JOBS_MAX as u32 {
         return Err("a number of jobs is 1 to 512".into());

@@ -28,7 +28,7 @@ const SERVED: &[Answered] = &[
     ),
 ];
 
-// A link that gives this, and moves at most so many bytes by one call.
+// A link that gives this, and moves at most that many bytes by one call.
 fn script(alloc: Global, gives: &[u8], most: u32) -> Result<LinkScript, AllocError> {
     let gives = Bytes::from_slice(alloc, gives)?;
     Ok(LinkScript {

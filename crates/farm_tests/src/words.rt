@@ -9,7 +9,7 @@ use std::sync::Wait;
 use std::test::Fail;
 use std::thread::Threads;
 
-// Words, and a text that tells of them.
+// Words, and a text about them.
 type Line = (&'static [&'static str], &'static str);
 
 // Builds that compile here: the compile gives an empty object.
@@ -62,7 +62,7 @@ const HELP: &[Line] = &[
 
 const UNREAD: &str = "farm: cannot read the job list\n";
 
-// Inputs that are no job list, or can't be read: which read fails, where 0 is none; the status, and what is said.
+// Inputs that are no job list, or can't be read: which read fails, 0 for none; the status, and what is said.
 type Input = (&'static [u8], u64, u8, &'static str);
 
 const INPUTS: &[Input] = &[

@@ -47,13 +47,13 @@ fn twelve_lines(alloc: Global) -> Result<Bytes, AllocError> {
     Ok(text)
 }
 
-// Whether the object of this number stands in a keeper's files.
+// Whether the object of this number is in a keeper's files.
 fn has_object<K: Keeper>(alloc: Global, keeper: &mut K, number: u32) -> Result<bool, AllocError> {
     let name = format!(in alloc; "f{number}.o")?;
     Ok(content_of(alloc, keeper, name.as_bytes())?.is_some())
 }
 
-// How many of the twelve objects stand in a keeper's files.
+// How many of the twelve objects are in a keeper's files.
 fn objects_of<K: Keeper>(alloc: Global, keeper: &mut K) -> Result<u32, AllocError> {
     let mut found: u32 = 0;
     for number in 1..13 {
@@ -96,7 +96,7 @@ fn status_of<W: Threads + Wait + Sync, O: Sink>(
     Ok(call(rt, alloc, asked, kits, out, &mut err))
 }
 
-// The status of twelve jobs over so many kits, and how many objects stand.
+// The status of twelve jobs over that many kits, and how many objects there are.
 fn twelve<W: Threads + Wait + Sync, O: Sink>(
     rt: &W,
     alloc: Global,
@@ -150,7 +150,7 @@ fn stopped_sink(alloc: Global) -> Result<MemSink, AllocError>
     Ok(MemSink::new(alloc, moves))
 }
 
-// All objects stand.
+// All objects are there.
 fn expect_stopped<R: Abort + Threads + Wait + Sync>(
     rt: &R,
     alloc: Global,
@@ -168,7 +168,7 @@ fn what_was_put_stays_where_a_sink_stops(rt: HostRuntime) -> Result<(), Fail> {
     expect_stopped(&rt, rt.alloc(), 4)
 }
 
-// A compile of so many words, all of which are sent.
+// A compile of that many words, all of which are sent.
 fn long_command(alloc: Global, count: u32) -> Result<Bytes, AllocError> {
     let mut text = Bytes::from_slice(alloc, b"scc -c x.c -o x.o")?;
     for _ in 5..count {
@@ -178,7 +178,7 @@ fn long_command(alloc: Global, count: u32) -> Result<Bytes, AllocError> {
     Ok(text)
 }
 
-// What is seen of a compile of so many words.
+// What is seen of a compile of that many words.
 fn long_build<W: Threads + Wait + Sync>(
     rt: &W,
     alloc: Global,
@@ -190,7 +190,7 @@ fn long_build<W: Threads + Wait + Sync>(
     Ok(told(rt, alloc, asked, &mut kits))
 }
 
-// A compile of so many words is done at this place.
+// A compile of that many words is done at this place.
 fn expect_place<R: Abort + Threads + Wait + Sync>(
     rt: &R,
     alloc: Global,

@@ -20,6 +20,7 @@ program_help =
     ++ codes "  graph     as build, for jobs that may need one another\n"
     ++ codes "  cc        do one compile command, on the hosts of DISTCC_HOSTS: as the compiler's\n"
     ++ codes "            launcher, make CC='farm cc gcc'\n"
+    ++ codes "  share     run make or another command, whose farm cc share the hosts' slots\n"
     ++ codes "  hosts     print the host list\n"
     ++ codes "  scan      say whether a compile command may be sent\n"
     ++ codes "  rehearse  do made-up jobs in memory, without a host or a compiler\n"
@@ -123,7 +124,24 @@ cc_help =
     ++ codes "\n"
     ++ codes "Each command asks the hosts in the order of the list, from the first on. With\n"
     ++ codes "--randomize in the list each process begins at another one, so that make -j\n"
-    ++ codes "uses them all.\n"
+    ++ codes "uses them all. Below farm share each is given a slot of a host.\n"
+
+abbrev pub share_help : List ℕ
+share_help =
+    codes "Usage: farm share [--hosts LIST] COMMAND [WORD]...\n"
+    ++ codes "Runs COMMAND, and gives slots of the hosts to all farm cc below it, so that each\n"
+    ++ codes "host has as many jobs at once as its limit says. It ends as COMMAND does:\n"
+    ++ codes "\n"
+    ++ codes "  farm share make -j16 CC='farm cc gcc'\n"
+    ++ codes "\n"
+    ++ codes "Who asks first is served first. A host that failed is asked by nobody until its\n"
+    ++ codes "back-off ends. Commands that may not be sent wait for a local slot. A farm share\n"
+    ++ codes "below another one uses the slots of that one, unless it has its own --hosts.\n"
+    ++ codes "\n"
+    ++ codes "  --hosts LIST   the host list, in place of DISTCC_HOSTS\n"
+    ++ codes "\n"
+    ++ codes "The status is that of COMMAND, 128 + N if signal N ended it, and 107 if it can't\n"
+    ++ codes "be started.\n"
 
 abbrev pub hosts_help : List ℕ
 hosts_help =

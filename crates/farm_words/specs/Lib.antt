@@ -6,3 +6,4 @@ pub mod Commands
 pub mod Environment
 pub mod Help
 pub mod Within
+pub mod Share

@@ -19,6 +19,7 @@ Usage: farm COMMAND [WORD]...
   graph     as build, for jobs that may need one another
   cc        do one compile command, on the hosts of DISTCC_HOSTS: as the compiler's
             launcher, make CC='farm cc gcc'
+  share     run make or another command, whose farm cc share the hosts' slots
   hosts     print the host list
   scan      say whether a compile command may be sent
   rehearse  do made-up jobs in memory, without a host or a compiler
@@ -121,7 +122,24 @@ as it stands.
 
 Each command asks the hosts in the order of the list, from the first on. With
 --randomize in the list each process begins at another one, so that make -j
-uses them all.
+uses them all. Below farm share each is given a slot of a host.
+";
+
+/// What `farm share --help` prints.
+pub const SHARE_HELP: &[u8] = b"Usage: farm share [--hosts LIST] COMMAND [WORD]...
+Runs COMMAND, and gives slots of the hosts to all farm cc below it, so that each
+host has as many jobs at once as its limit says. It ends as COMMAND does:
+
+  farm share make -j16 CC='farm cc gcc'
+
+Who asks first is served first. A host that failed is asked by nobody until its
+back-off ends. Commands that may not be sent wait for a local slot. A farm share
+below another one uses the slots of that one, unless it has its own --hosts.
+
+  --hosts LIST   the host list, in place of DISTCC_HOSTS
+
+The status is that of COMMAND, 128 + N if signal N ended it, and 107 if it can't
+be started.
 ";
 
 /// What `farm hosts --help` prints.
@@ -177,6 +195,13 @@ fn scan_help() -> &'static [u8]
     ensures { result.now ≡ help.scan_help }
 {
     SCAN_HELP
+}
+
+/// The help of `farm share`.
+pub fn share_help() -> &'static [u8]
+    ensures { result.now ≡ help.share_help }
+{
+    SHARE_HELP
 }
 
 /// The help of a command, or of the program where no command is named.

@@ -22,12 +22,12 @@ use Rattle.job_driver.specs.declared.workers.Worker.{Worker}
 use Rattle.job_driver.specs.declared.run.Run.{Run}
 use Rattle.job_driver.specs.Workers.{kit_of, pass_of, reserve_of, reports_on, HasRoom, IsReady, HasWorked}
 use Rattle.farm_machine.specs.Devices.{Devices}
-use Rattle.job_driver.specs.Driven.{JobsRan}
+use Rattle.job_driver.specs.Driven.{reports_by, JobsRan}
 use Rattle.farm_machine.specs.Usable.{job_at}
 use Rattle.job_driver.specs.Runs.{AreDone, AreFresh, IsOpen}
 use Rattle.job_driver.specs.Works.{WorkedOff}
 use Rattle.job_driver.proofs.Joining.{Joins, joins-of}
-use Rattle.job_driver.proofs.Driving.{Stays, total, ran-all}
+use Rattle.job_driver.proofs.Driving.{Stays, total, own, ran-all}
 
 -- what holds of each in its place holds of what is made of it
 at-map : {X Y : Type 0} (f : X → Y) (Q : Y → Type 0) (xs : List X) (k : ℕ) (y : Y) → k < length xs → ((x : X) → Q (f (get_or xs k x)))
@@ -196,6 +196,18 @@ module _ {D S K C : Type 0} {d : Devices (Kit D S K C)} {words : List (List (Lis
           (λ place other above below.
           ap (λ (zs : List (Kit D S K C)). get_or zs place other) new_is
           ∙ get-right (map kit_of ws) (map kit_of vs) rest place other lists (omega (arith, above, many, lists)))
+
+      own-by : (all sorted : List Report) → all ≡ flat_map reports_on (reverse (map reserve_of ws)) → IsPermutation all sorted
+          → IsNonDecreasingBy (λ (r : Report). r.number) sorted → (i : ℕ) → i < length vs → reports_by i sorted ≡ R i
+      own-by all sorted gathered moved order i below =
+          own d (limits_of run.cell) words config (length vs) R H V N done.some run.cell.valid done.slots.hosts legal others worked stays all
+          sorted (subst (Joins (length vs) R) (sym gathered) joins) moved order i below
+
+    -- sorted, the reports of a worker are those that it left
+    pub own-of : (all sorted : List Report) → all ≡ flat_map reports_on (reverse (map reserve_of ws)) → IsPermutation all sorted
+        → IsNonDecreasingBy (λ (r : Report). r.number) sorted → (i : ℕ) (w : Worker D S K C) → i < length vs
+        → reports_by i sorted ≡ reports_on (get_or ws i w).reserve
+    own-of all sorted gathered moved order i w below = own-by w all sorted gathered moved order i below
 
     -- there is a report for each job
     pub all-reported : length (flat_map reports_on (reverse (map reserve_of ws))) ≡ (limits_of run.cell).jobs

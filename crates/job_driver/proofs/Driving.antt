@@ -223,7 +223,8 @@ module _ {K : Type 0} (d : Devices K) (l : Limits 16) (words : List (List (List 
           (all-get (λ r. IsReadAs entries r r.number run.reports) sorted j r read-all is);
     }
 
-    own : (i : ℕ) → i < n → reports_by i sorted ≡ R i
+    -- a worker's reports, in the order of the jobs
+    pub own : (i : ℕ) → i < n → reports_by i sorted ≡ R i
     own i below =
         let f = worked i below in
         let rise : Rise 0 (numbers_of (R i)) = subst (Rise 0) (sym (drawn i below))

@@ -1,9 +1,10 @@
 -- What is known of a build that is watched.
 use Rattle.std.proofs.Common.{◌≡◌, ℕ, zero, suc, ◌-◌, ◌<◌}
-use Rattle.std.proofs.Common.{Bool, List, [], ◌∷◌, ◌++◌, length, get_or, map, take, drop}
+use Rattle.std.proofs.Common.{Bool, true, List, [], ◌∷◌, ◌++◌, length, get_or, map, take, drop, replicate}
 use Rattle.std.proofs.Common.{refl, sym, ap, ◌∙◌, subst, arith, inl, inr}
 use Rattle.std.specs.Prelude.{All}
 use Rattle.std.proofs.lemmas.List.{length-map, length-append}
+use Rattle.std.proofs.lemmas.List.Elements.{All-append}
 use Rattle.slot_table.specs.declared.limits.Limits.{Limits}
 use Rattle.slot_table.specs.declared.state.SlotState.{SlotState}
 use Rattle.slot_table.specs.declared.calls.CallEntry.{CallEntry}
@@ -12,10 +13,19 @@ use Rattle.farm_machine.specs.declared.reports.Report.{Report}
 use Rattle.farm_machine.specs.Jobs.{Job}
 use Rattle.watch_lines.specs.declared.line_end.LineEnd.{LineEnd}
 use Rattle.watch_lines.specs.declared.line_end.LineEnd.TheVariants.{Whole, SinkFault, Memory}
-use Rattle.watch_lines.specs.Printed.{WatchLines}
+use Rattle.farm_monitor.specs.declared.progress.Progress.{Progress}
+use Rattle.farm_monitor.specs.declared.ends.Watcher.{Watcher}
+use Rattle.farm_monitor.specs.Boards.{known_rows, shown_rows}
+use Rattle.watch_lines.specs.declared.count.Count.{Count}
+use Rattle.watch_lines.specs.Counts.{known, ReadOn, AreLooks}
+use Rattle.watch_lines.specs.Printed.{WatchLines, counts_told}
+use Rattle.watch_lines.proofs.Going.{read-on, tells-from}
 use Rattle.farm_machine.specs.Devices.{Devices}
 use Rattle.job_driver.specs.Driven.{JobsRan}
-use Rattle.job_driver.specs.Watching.{front, Lent, WatchedRan, WatchPrinted, AfterLines}
+use Rattle.job_driver.specs.declared.marker.Marker.{Marker}
+use Rattle.job_driver.specs.Marks.{ended_in, rows_of}
+use Rattle.job_driver.specs.Watching.{front, AfterLines, AreMarked, AreRowsOf, AreTold, HasMarkedOff, IsFreshMarker, Lent, LinesTell}
+use Rattle.job_driver.specs.Watching.{LinesTellOf, WatchedRan, WatchPrinted}
 
 -- what is written over a whole list is the list then
 pub all-written : {X : Type 0} (old new : List X) → length new ≡ length old → take (length old) (new ++ drop (length new) old) ≡ new
@@ -66,6 +76,28 @@ pub map-twice : {X Y Z : Type 0} (f : Y → Z) (g : X → Y) (xs : List X) → m
 map-twice f g [] = refl
 map-twice f g (x ∷ xs) = ap (λ zs. f (g x) ∷ zs) (map-twice f g xs)
 
+-- what is made of a list's element at a place
+pub get-of-map : {X Y : Type 0} (f : X → Y) (xs : List X) (k : ℕ) (x : X) → get_or (map f xs) k (f x) ≡ f (get_or xs k x)
+get-of-map f [] k x = refl
+get-of-map f (z ∷ xs) zero x = refl
+get-of-map f (z ∷ xs) (suc k) x = get-of-map f xs k x
+
+one-fresh : (marker : Marker) → IsFreshMarker marker → All IsFreshMarker (marker ∷ [])
+one-fresh marker fresh zero other below = fresh
+one-fresh marker fresh (suc k) other below = absurd (omega (arith, below))
+
+-- one fresh board more
+pub fresh_more : (markers : List Marker) (marker : Marker) → All IsFreshMarker markers → IsFreshMarker marker
+    → All IsFreshMarker (markers ++ marker ∷ [])
+fresh_more markers marker all one = All-append IsFreshMarker markers (marker ∷ []) all (one-fresh marker one)
+
+-- one watcher more that has read nothing
+pub unread_more : (watchers : List Watcher) (watcher : Watcher) → known watchers ≡ replicate (length watchers) [] → known_rows watcher ≡ []
+    → known (watchers ++ watcher ∷ []) ≡ replicate (length (watchers ++ watcher ∷ [])) []
+unread_more [] watcher so_far none = rw none refl
+unread_more (w ∷ watchers) watcher so_far none =
+    let rest = unread_more watchers watcher (cc so_far) none in cc (so_far, rest)
+
 take-front : {X : Type 0} (xs ys : List X) → take (length xs) (xs ++ ys) ≡ xs
 take-front [] ys = refl
 take-front (x ∷ xs) ys = ap (λ zs. x ∷ zs) (take-front xs ys)
@@ -110,18 +142,63 @@ watched-ran d l jobs period workers reports history last before after lender bac
           (subst (λ k. Lent d lender k) (sym there) lent);
     }))
 
+-- lines from some least on
+pub lines-tell : (jobs workers lines least : ℕ) (first last : List (List Progress)) (old new : SinkView) (end : LineEnd)
+    → (w : WatchLines jobs workers 1 lines least old new end)
+    → AreLooks jobs first (counts_told jobs workers 1 lines least old new end w) last
+    → LinesTell jobs workers lines first last old new end
+lines-tell jobs workers lines least first last old new end w looks =
+    let tells = tells-from jobs workers 1 lines least 0 first last old new end (omega arith) (record { printed = w; looks = looks }) in
+    record { printed = tells.printed; looks = tells.looks }
+
+-- what was marked on a fresh board is just the rows of the jobs
+pub marked-from : (old new : Marker) (reports : List Report) → IsFreshMarker old → HasMarkedOff old new reports → new.all ≡ true
+    → shown_rows new.shower ≡ rows_of 0 (map (λ report. report.number) reports)
+marked-from old new reports fresh marked all =
+    subst (λ (rows : List Progress). shown_rows new.shower ≡ rows ++ rows_of (ended_in rows) (map (λ report. report.number) reports)) fresh.1
+    (marked.added all).1
+
+told-at : (markers : List Marker) (watchers : List Watcher) → AreTold markers watchers → (k : ℕ) (other : Marker) → k < length markers
+    → ((get_or markers k other).all ≡ true) × (get_or (known watchers) k [] ≡ shown_rows (get_or markers k other).shower)
+told-at [] watchers told k other below = absurd (omega (arith, below))
+told-at (m ∷ markers) [] told k other below = absurd told
+told-at (m ∷ markers) (w ∷ watchers) told zero other below = told.0
+told-at (m ∷ markers) (w ∷ watchers) told (suc k) other below = told-at markers watchers told.1 k other (omega (arith, below))
+
+-- each watcher that was told of its board knows just the rows of its worker's reports
+pub rows-told : (workers : ℕ) (reports : List Report) (markers : List Marker) (watchers : List Watcher) → length markers ≡ workers
+    → AreMarked reports markers → AreTold markers watchers → AreRowsOf workers reports (known watchers)
+rows-told workers reports [] watchers same marked told worker below = absurd (omega (arith, same, below))
+rows-told workers reports (m ∷ markers) watchers same marked told worker below =
+    let inside : worker < length (m ∷ markers) = omega (arith, same, below) in
+    let t = told-at (m ∷ markers) watchers told worker m inside in
+    t.1 ∙ marked worker m inside t.0
+
+looks-to : (jobs : ℕ) (first mid last : List (List Progress)) (counts : List Count) → AreLooks jobs first counts mid → ReadOn mid last
+    → AreLooks jobs first counts last
+looks-to jobs first mid last [] looks more = read-on first mid last looks more
+looks-to jobs first mid last (c ∷ counts) looks more = (looks.0, looks.1, looks.2, looks-to jobs looks.0 mid last counts looks.3 more)
+
+-- more of the boards may be read in the end
+pub tell-to : (jobs workers lines : ℕ) (first mid last : List (List Progress)) (old new : SinkView) (end : LineEnd)
+    → LinesTell jobs workers lines first mid old new end → ReadOn mid last → LinesTell jobs workers lines first last old new end
+tell-to jobs workers lines first mid last old new end tells more = record {
+  printed = tells.printed;
+  looks = looks-to jobs first mid last (counts_told jobs workers 1 lines 0 old new end tells.printed) tells.looks more;
+}
+
 -- the last line was printed where all others were
-pub last-printed : (jobs workers lines : ℕ) (told : Bool) (old mid new : SinkView) (lines_end end : LineEnd)
-    → WatchLines jobs workers 1 lines 0 old mid lines_end → AfterLines jobs lines_end told mid new end
-    → WatchPrinted jobs workers lines told old new end
-last-printed jobs workers lines told old mid new Whole end so_far after = inr (mid, so_far, after)
-last-printed jobs workers lines told old mid new SinkFault end so_far after = inl (
+pub last-printed : (jobs workers lines : ℕ) (rows : List (List Progress)) (told : Bool) (old mid new : SinkView) (lines_end end : LineEnd)
+    → LinesTellOf jobs workers lines rows old mid lines_end → AfterLines jobs lines_end told mid new end
+    → WatchPrinted jobs workers lines rows told old new end
+last-printed jobs workers lines rows told old mid new Whole end so_far after = inr (mid, so_far, after)
+last-printed jobs workers lines rows told old mid new SinkFault end so_far after = inl (
   (λ whole. absurd (let clash = sym after.0 ∙ whole in cc)),
-  subst (λ (e : LineEnd). WatchLines jobs workers 1 lines 0 old new e) (sym after.0)
-      (subst (λ (s : SinkView). WatchLines jobs workers 1 lines 0 old s SinkFault) (sym after.1) so_far),
+  subst (λ (e : LineEnd). LinesTellOf jobs workers lines rows old new e) (sym after.0)
+      (subst (λ (s : SinkView). LinesTellOf jobs workers lines rows old s SinkFault) (sym after.1) so_far),
 )
-last-printed jobs workers lines told old mid new Memory end so_far after = inl (
+last-printed jobs workers lines rows told old mid new Memory end so_far after = inl (
   (λ whole. absurd (let clash = sym after.0 ∙ whole in cc)),
-  subst (λ (e : LineEnd). WatchLines jobs workers 1 lines 0 old new e) (sym after.0)
-      (subst (λ (s : SinkView). WatchLines jobs workers 1 lines 0 old s Memory) (sym after.1) so_far),
+  subst (λ (e : LineEnd). LinesTellOf jobs workers lines rows old new e) (sym after.0)
+      (subst (λ (s : SinkView). LinesTellOf jobs workers lines rows old s Memory) (sym after.1) so_far),
 )

@@ -57,7 +57,7 @@ abbrev pub puts_by : Reports → List Report → List Put
 puts_by read reports = puts_in (deeds_of (acts_by read reports))
 
 -- The jobs of these reports, one after another, each from where the job before it left the kit. Of what the kit shows between two jobs this
--- binds the counts alone; its lists and files may be any there.
+-- binds the counts only; its lists and files may be any there.
 abbrev pub CountsOf : (ℕ → Job) → Reports → List Report → KitView → KitView → Type 0
 CountsOf jobs read [] old new = new ≡ old
 CountsOf jobs read (report ∷ reports) old new =
@@ -92,7 +92,7 @@ pub record KitDid {K : Type 0} (d : Devices K) (period worker : ℕ) (read : Rep
   -- peers gave what peers may give, and programs left what programs may leave
   pub may : IsTrue (d.shows new).dialer.exchanges.known → MayAll (d.peers old) (exchanges_in (deeds_of acts))
   pub ran : AllRan (d.programs old) acts
-  -- The station's counts rose by just the number of the jobs that failed by it, and no more jobs failed by another device than its counts
+  -- The station's counts rose by exactly the number of the jobs that failed by it, and no more jobs failed by another device than its counts
   -- rose. No put is pending.
   pub caused : AreCaused (reports_by worker reports) (d.shows old) (d.shows new)
   pub later : KitLater (d.shows old) (d.shows new)
@@ -106,7 +106,7 @@ pub record JobsRan {K : Type 0} (d : Devices K) (l : Limits 16) (jobs : ℕ → 
     (history : List CallEntry) (last : SlotState 16) (old new : List K) : Type 0 where
   pub valid : AreValid l
   -- There is one report for each job, in the order of the jobs, by one of the workers. Read by its worker's new entries it is a course of
-  -- its job, each run and fetch within its bounds and no fault of an exchange told as want of memory.
+  -- its job, each run and fetch within its bounds and no fault of an exchange told as out of memory.
   pub entries : ℕ → Entries
   pub read : Reports
   pub are_read : AreRead l entries reports read
@@ -126,7 +126,7 @@ pub record JobsRan {K : Type 0} (d : Devices K) (l : Limits 16) (jobs : ℕ → 
   pub never_above : (front rest : List CallEntry) → history ≡ front ++ rest → AreWithinLimits l (outstanding front)
   pub back : outstanding history ≡ []
   pub others : (caller : ℕ) → workers ≤ caller → calls_by caller history ≡ []
-  -- Each new put of a worker's keeper is a put of just one job that this worker did.
+  -- Each new put of a worker's keeper is a put of exactly one job that this worker did.
   pub puts_are : (worker : ℕ) (other : K) → worker < workers → Grew (d.shows (slice_index_or old worker other)).keeper.puts
       (d.shows (slice_index_or new worker other)).keeper.puts (puts_by read (reports_by worker reports))
   -- Each worker did with its kit what its reports tell, and nothing else, and the kit's counts went on job by job. All other kits are as

@@ -5,7 +5,7 @@ use Rattle.farm_machine.specs.declared.reports.Report.{Report}
 use Rattle.farm_monitor.specs.declared.progress.Progress.{Progress}
 use Rattle.farm_monitor.specs.Rows.{last_row}
 
--- the worker is at this job, and has ended so many
+-- the worker is at this job, and has ended that many
 abbrev pub at_job : ℕ → ℕ → Progress
 at_job job ended = record { job = Some job; ended = ended }
 
@@ -21,7 +21,7 @@ ended_in rows = (last_row rows).ended
 abbrev pub HasAdded : Bool → Bool → Progress → List Progress → List Progress → Type 0
 HasAdded before after row old new = after ≡ true → (before ≡ true) × (new ≡ old ++ row ∷ [])
 
--- jobs one after another, where so many had ended before: a row when each is drawn, and one when its report is there
+-- jobs one after another, if that many had ended before: a row when each is drawn, and one when its report is there
 abbrev pub rows_of : ℕ → List ℕ → List Progress
 rows_of ended [] = []
 rows_of ended (job ∷ jobs) = at_job job ended ∷ between_jobs (ended + 1) ∷ rows_of (ended + 1) jobs

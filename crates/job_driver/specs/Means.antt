@@ -21,7 +21,7 @@ use Rattle.farm_machine.specs.Devices.{Devices}
 use Rattle.job_driver.specs.Driven.{reports_by, JobsRan}
 use Rattle.job_driver.specs.Works.{ends_so, is_station_failure, is_fetch_failure}
 
--- Where the exchanges are told and the peers are honest, each object that the job put is one that a compiler may answer to the request of
+-- If the exchanges are told and the peers are honest, each object that the job put is one that a compiler may answer to the request of
 -- the job's own source.
 abbrev pub HasAnswers : Peers → Programs → KitView → Job → List Act → Type 0
 HasAnswers peers programs kit job acts = (before rest : List Act) (x : Put) → IsTrue kit.dialer.exchanges.known → IsHonest peers programs
@@ -47,8 +47,8 @@ pub record RunMeans {K : Type 0} (d : Devices K) (l : Limits 16) (jobs : ℕ →
   pub honest_ends : (j : ℕ) (other : K) → j < l.jobs
       → AnswersBy (d.peers (slice_index_or old (read.worker j) other)) (d.programs (slice_index_or old (read.worker j) other))
       (d.shows (slice_index_or new (read.worker j) other)) (jobs j) (read.acts j) (read.ends j)
-  -- With fallback on a job whose worker's station and keeper did nothing wrong is done, or memory was wanting, whatever dialers, links
-  -- and hosts do. So it is with fallback off where there is a host and no exchange of the run broke: then no host is ever left alone.
+  -- With fallback on a job whose worker's station and keeper did nothing wrong is done, or memory ran out, whatever dialers, links
+  -- and hosts do. So it is with fallback off if there is a host and no exchange of the run broke: then no host is ever left alone.
   pub returns : (j : ℕ) (other : K) → j < l.jobs → (jobs j).config.fallback ≡ true
       → IsCalm (d.shows (slice_index_or old (read.worker j) other)) (d.shows (slice_index_or new (read.worker j) other))
       → is_done_or_wanted (read.ends j) ≡ true

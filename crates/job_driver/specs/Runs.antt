@@ -15,7 +15,7 @@ use Rattle.job_driver.specs.declared.run.Run.{Run}
 use Rattle.job_driver.specs.Driven.{JobsRan}
 use Rattle.job_driver.specs.Workers.{kit_of, pass_of, reserve_of, AreSlotsFor, HasRoom, IsReady, HasWorked}
 
--- Kits for so many workers, at least one: no more than `workers_max` of them, and in none a put is pending.
+-- Kits for that many workers, at least one: no more than `workers_max` of them, and in none a put is pending.
 pub record HasKits {K : Type 0} (d : Devices K) (workers : ℕ) (kits : List K) : Type 0 where
   pub some : 1 ≤ workers
   pub enough : workers ≤ length kits
@@ -30,7 +30,7 @@ pub record AreFresh {D S K C : Type 0} (d : Devices (Kit D S K C)) (c : Cell 16 
   pub reserves : All (λ reserve. HasRoom jobs reserve) (map reserve_of workers)
   pub idle : All (λ kit. IsIdle (d.shows kit).keeper) (map kit_of workers)
 
--- room to take the workers of a run apart, and for the reports of so many jobs
+-- room to take the workers of a run apart, and for the reports of that many jobs
 pub record HasRoomToClose {D S K C : Type 0} (jobs : ℕ) (run : Run D S K C) : Type 0 where
   pub passes : run.passes.items ≡ []
   pub reserves : run.reserves.items ≡ []
@@ -39,7 +39,7 @@ pub record HasRoomToClose {D S K C : Type 0} (jobs : ℕ) (run : Run D S K C) : 
   pub for_reserves : length run.workers.items ≤ vec_capacity run.reserves
   pub for_reports : jobs ≤ vec_capacity run.reports
 
--- so many workers, ready to do these jobs
+-- that many workers, ready to do these jobs
 pub record IsOpen {D S K C : Type 0} (d : Devices (Kit D S K C)) (jobs : List (List (List ℕ))) (config : JobConfig) (workers : ℕ)
     (run : Run D S K C) : Type 0 where
   pub many : length run.workers.items ≡ workers
@@ -48,7 +48,7 @@ pub record IsOpen {D S K C : Type 0} (d : Devices (Kit D S K C)) (jobs : List (L
   pub slots : AreSlotsFor jobs config (limits_of run.cell)
   pub room : HasRoomToClose (length jobs) run
 
--- the workers, each from where it stood before, did these jobs until there were none
+-- the workers, each from where it was before, did these jobs until there were none
 pub record AreDone {D S K C : Type 0} (d : Devices (Kit D S K C)) (jobs : List (List (List ℕ))) (config : JobConfig)
     (before : List (Worker D S K C)) (run : Run D S K C) : Type 0 where
   pub some : 0 < length before
@@ -66,7 +66,7 @@ pub record HasWorkedOff {D S K C : Type 0} (d : Devices (Kit D S K C)) (run : Ru
   pub before : List (Worker D S K C)
   pub done : AreDone d jobs config before run
 
--- All jobs were done by so many workers, over slots of the configuration's hosts for so many jobs.
+-- All jobs were done by that many workers, over slots of the configuration's hosts for that many jobs.
 pub record HasBuilt {K : Type 0} (d : Devices K) (jobs : List (List (List ℕ))) (config : JobConfig) (workers : ℕ) (built : Built)
     (old new : List K) : Type 0 where
   pub ran : JobsRan d built.last.limits (job_at jobs config) config.period workers built.reports (seen_of built.pass) built.last.state old

@@ -30,7 +30,7 @@ reserve_of worker = worker.reserve
 abbrev pub reports_on : Reserve → List Report
 reports_on reserve = reserve.reports.items
 
--- room for the events and reports of so many jobs, with no report yet
+-- room for the events and reports of that many jobs, with no report yet
 pub record HasRoom (jobs : ℕ) (reserve : Reserve) : Type 0 where
   pub rooms : jobs ≤ length reserve.rooms.items
   pub none : reserve.reports.items ≡ []
@@ -41,7 +41,7 @@ pub record AreSlotsFor {h : ℕ} (jobs : List (List (List ℕ))) (config : JobCo
   pub hosts : AreLimitsOf l config.hosts
   pub number : l.jobs ≡ length jobs
 
--- A worker may begin: the slots are ready and it made no call on them, a caller that is alone has room for the calls of so many jobs, its
+-- A worker may begin: the slots are ready and it made no call on them, a caller that is alone has room for the calls of that many jobs, its
 -- reserve has room for them too, and no put is pending.
 pub record CanWork {G : Type 0} (is_ready : G → Type 0) (alone : Bool) (spare_of : G → ℕ) (mine_of : G → List CallEntry) (jobs : ℕ)
     (grants : G) (reserve : Reserve) (keeper : KeeperView) : Type 0 where

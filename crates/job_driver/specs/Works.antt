@@ -35,7 +35,7 @@ abbrev pub all_acts : List DoneJob → List Act
 all_acts [] = []
 all_acts (job ∷ jobs) = job.acts ++ all_acts jobs
 
--- the report tells of the job, its deeds numbered on from these places
+-- the report says of the job, its deeds numbered on from these places
 pub record IsReportOf (by_worker : ℕ) (at : Places) (job : DoneJob) (report : Report) : Type 0 where
   pub number : report.number ≡ job.number
   pub worker : report.worker ≡ by_worker
@@ -83,7 +83,7 @@ pub record RoseTogether (number a a' b b' : ℕ) : Type 0 where
   pub rose : RoseBy first a a'
   pub rose_too : RoseBy second b b'
 
--- Two counts together rose by just this number. One that stands at the greatest u64 counts as risen, by any.
+-- Two counts together rose by exactly this number. One that is at the greatest u64 counts as risen, by any.
 pub record RoseInAll (number a a' b b' : ℕ) : Type 0 where
   pub first : ℕ
   pub second : ℕ
@@ -97,7 +97,7 @@ pub record RoseUpTo (number before now : ℕ) : Type 0 where
   pub most : by ≤ number
   pub rose : RoseJust by before now
 
--- As many runs failed or gave too much as jobs failed by the station: its counts rose by just that number. Which jobs' runs these were
+-- As many runs failed or gave too much as jobs failed by the station: its counts rose by exactly that number. Which jobs' runs these were
 -- isn't said. The keeper's overruns rose by no more than the jobs that failed by a fetch. No more jobs failed by the keeper or the
 -- dialer than their counts rose together. Puts have a bound of their own, since no overrun fails one.
 pub record AreCaused (reports : List Report) (old new : KitView) : Type 0 where
@@ -109,7 +109,7 @@ pub record AreCaused (reports : List Report) (old new : KitView) : Type 0 where
   pub dialer : RoseBy (ends_so is_dial_failure reports) old.dialer.faults new.dialer.faults
 
 -- What a job did to the counts of its kit, by its end. A failure of a device goes with a rise of that device's count; by one of the
--- station just one count rose, by one. Where the job ends otherwise, for want of memory too, the counts of its station stand still, and
+-- station exactly one count rose, by one. If the job ends otherwise, also if memory ran out, the counts of its station stay, and
 -- those of its keeper as `run_job` says.
 pub record CountsTell (j : Job) (acts : List Act) (end : End) (old new : KitView) : Type 0 where
   pub cause : HasEndCause end old new
@@ -125,7 +125,7 @@ CountsGoOn jobs (job ∷ done) old new = (mid : KitView) × CountsTell (jobs job
     × CountsGoOn jobs done mid new
 
 -- A worker did jobs, one after another: each is a course of its command, with each run and fetch within its bounds and no fault of an
--- exchange told as want of memory. All that it did is one list of acts. Its deeds are the new entries of the kit's lists, and the
+-- exchange told as out of memory. All that it did is one list of acts. Its deeds are the new entries of the kit's lists, and the
 -- reports' events name them, counted from 0 on. The calls are those of its jobs, and their moments are those that the clock gave. With a
 -- period a host is left alone after each exchange with which something went wrong. Peers gave what peers may give, programs left what
 -- programs may leave, and counts rose with the jobs that failed, job by job.

@@ -4,7 +4,7 @@ ghost use Rattle.farm_cell.specs.Passes.{limits_of};
 ghost use Rattle.job_driver.specs.Workers.{AreSlotsFor, IsReady, HasWorked};
 ghost use Rattle.farm_machine.specs.Devices.{devices};
 ghost use Rattle.farm_machine.specs.Usable.{job_at};
-ghost use Rattle.job_driver.specs.Watching.{worker_of, marker_of, board_marked};
+ghost use Rattle.job_driver.specs.Watching.{worker_of, marker_of, HasMarkedOff};
 
 use crate::marker::Marker;
 use crate::run::JobPlan;
@@ -33,7 +33,7 @@ pub fn work_marked<R: Wait, D: Dialer, S: Station, K: Keeper, C: Clock>(
     requires ready { IsReady (devices D.shows S.shows K.shows C.shows D.may_give S.ran) cell.now (length plan.jobs.now) marked.old.worker }
     ensures worked { HasWorked (devices D.shows S.shows K.shows C.shows D.may_give S.ran) cell.now
         (job_at plan.entry.jobs.now plan.entry.config.now) plan.entry.config.now.period marked.old.worker marked.new.worker }
-    ensures board { board_marked marked.new.marker ≡ board_marked marked.old.marker }
+    ensures marked { HasMarkedOff marked.old.marker marked.new.marker marked.new.worker.reserve.reports.items }
 {
     let mut held = Held::new(rt, cell, &mut marked.worker.pass);
     work(

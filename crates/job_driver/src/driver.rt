@@ -24,10 +24,10 @@ pub struct Built {
     pub pass: Pass,
 }
 
-/// Does all jobs, by so many workers side by side, one for each of the first kits. Each draws jobs until there are none, and
+/// Does all jobs, by that many workers side by side, one for each of the first kits. Each draws jobs until there are none, and
 /// runs each over its kit and over the slots that all of them share. The kits are back in their places then.
 ///
-/// All memory for reports and events is taken before the first job is drawn. An error says that it was wanting; then no job
+/// All memory for reports and events is taken before the first job is drawn. An error says that it ran out; then no job
 /// began. It waits for slots.
 pub fn build<
     R: Threads + Wait + Sync,

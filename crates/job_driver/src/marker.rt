@@ -34,7 +34,7 @@ impl Marker {
         }
     }
 
-    // Shows a row with this job, where so many jobs have ended.
+    // Shows a row with this job, if that many jobs have ended.
     fn mark<R: Wait>(&mut self, rt: &R, job: Option<u32>, ended: u32)
         requires rises { self.old.all ≡ true → ended_in (shown_rows self.old.shower) ≤ ended }
         ensures board { board_of self.new.shower ≡ board_of self.old.shower }

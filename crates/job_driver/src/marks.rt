@@ -1,4 +1,4 @@
-//! Where a worker marks how far it has come. Nothing that it does rests on it.
+//! What a worker marks of how far it has come. Nothing that it does rests on it.
 ghost use Rattle.std.specs.Prelude.{◌≡◌, ◌+◌};
 ghost use Rattle.job_driver.specs.Marks.{at_job, between_jobs, ended_in, HasAdded};
 
@@ -10,7 +10,7 @@ pub trait Marks {
     ghost use Rattle.logbook.specs.Pages.{Book};
     ghost use Rattle.farm_monitor.specs.declared.progress.Progress.{Progress};
 
-    /// The board on which they stand.
+    /// The board on which they are.
     ghost board: { Self → Book };
 
     /// The rows that were shown there.
@@ -30,7 +30,7 @@ pub trait Marks {
         ensures added { HasAdded (all self.old) (all self.new) (between_jobs (ended_in (rows self.old) + 1)) (rows self.old) (rows self.new) };
 }
 
-/// No marks, where nobody watches.
+/// No marks, if nobody watches.
 #[derive(Drop)]
 pub struct Unwatched;
 

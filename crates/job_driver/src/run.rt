@@ -1,10 +1,10 @@
 //! What a run of jobs has beside the jobs.
-ghost use Rattle.std.specs.Prelude.{◌≡◌, ◌+◌, ◌≤◌, ◌++◌, [], All, IfOk, OnErr, length, map, vec_capacity};
+ghost use Rattle.std.specs.Prelude.{◌≡◌, ℕ, ◌+◌, ◌<◌, ◌≤◌, ◌++◌, [], All, IfOk, OnErr, length, map, slice_index_or, vec_capacity};
 ghost use Rattle.farm_cell.specs.Passes.{limits_of as limits_in, seen_of};
 ghost use Rattle.farm_machine.specs.Devices.{devices};
 ghost use Rattle.farm_machine.specs.Usable.{job_at, AreDoable, IsUsable};
-ghost use Rattle.job_driver.specs.Workers.{HasRoom, kit_of};
-ghost use Rattle.job_driver.specs.Driven.{JobsRan};
+ghost use Rattle.job_driver.specs.Workers.{HasRoom, kit_of, reserve_of, reports_on};
+ghost use Rattle.job_driver.specs.Driven.{reports_by, JobsRan};
 ghost use Rattle.job_driver.specs.Runs.{AreDone, HasKits, HasWorkedOff, IsOpen};
 
 use crate::driver::Built;
@@ -48,8 +48,8 @@ fn reserves_for(alloc: Global, workers: usize, jobs: usize) -> Result<Vec<Reserv
     Ok(reserves)
 }
 
-/// Takes all memory for the reports and events of these jobs, and makes so many workers, one for each of the first kits. An error says
-/// that memory was wanting.
+/// Takes all memory for the reports and events of these jobs, and makes that many workers, one for each of the first kits. An error says
+/// that memory ran out.
 pub fn open_run<R: Wait, D: Dialer + Drop, S: Station + Drop, K: Keeper + Drop, C: Clock + Drop>(
     rt: &R,
     alloc: Global,
@@ -96,6 +96,10 @@ pub fn close_run<R: Wait, D: Dialer + Drop, S: Station + Drop, K: Keeper + Drop,
         → AreDone (devices D.shows S.shows K.shows C.shows D.may_give S.ran) jobs config before run
         → JobsRan (devices D.shows S.shows K.shows C.shows D.may_give S.ran) result.last.limits (job_at jobs config) config.period
         (length before) result.reports (seen_of result.pass) result.last.state (map kit_of before ++ run.unused.items) kits.new.items }
+    ensures reports { (jobs : _) (config : _) (before : _)
+        → AreDone (devices D.shows S.shows K.shows C.shows D.may_give S.ran) jobs config before run
+        → (worker : ℕ) (other : _) → worker < length before
+        → reports_by worker result.reports ≡ reports_on (reserve_of (slice_index_or run.workers.items worker other)) }
     ensures limits { result.last.limits ≡ limits_in run.cell }
     ensures kept { vec_capacity kits.old ≤ vec_capacity kits.new }
 {

@@ -5,11 +5,11 @@ ghost use Rattle.farm_types.specs.Limits.{workers_max};
 ghost use Rattle.edge_traits.specs.Told.{Grew};
 ghost use Rattle.farm_cell.specs.Passes.{limits_of};
 ghost use Rattle.farm_monitor.specs.Boards.{board_watched};
-ghost use Rattle.watch_lines.specs.Printed.{WatchLines};
-ghost use Rattle.job_driver.specs.Workers.{AreReady, AreSlotsFor, IsReady, HasWorked};
+ghost use Rattle.watch_lines.specs.Counts.{known};
+ghost use Rattle.job_driver.specs.Workers.{reserve_of, reports_on, AreReady, AreSlotsFor, IsReady, HasWorked};
 ghost use Rattle.farm_machine.specs.Devices.{devices};
 ghost use Rattle.farm_machine.specs.Usable.{job_at};
-ghost use Rattle.job_driver.specs.Watching.{worker_of, marker_of, board_marked, AreBack, CalledEach, CanPrint, HasPrinted, HasWatched, IsFor};
+ghost use Rattle.job_driver.specs.Watching.{worker_of, marker_of, AreBack, CalledEach, CanPrint, HasMarkedOff, HasPrinted, HasWatched, IsFor, LinesTell};
 
 use crate::beside::{Marked, pair, unpair, work_marked};
 use crate::marker::Marker;
@@ -23,7 +23,7 @@ use std::sync::Wait;
 use std::thread::{Threads, for_each_mut, join_mut};
 use watch_lines::{LineEnd, watch};
 
-/// Who reads the boards of all workers, pauses between two reads, and prints so many lines.
+/// Who reads the boards of all workers, pauses between two reads, and prints that many lines.
 pub struct Watch<C> {
     pub watchers: Vec<Watcher>,
     pub clock: C,
@@ -61,12 +61,13 @@ impl<D, S, K, C> Beside<D, S, K, C> {
 }
 
 impl<C: Clock> Watch<C> {
-    /// Prints the lines of so many jobs.
+    /// Prints the lines of that many jobs.
     fn print<E: Sink>(&mut self, jobs: u32, err: &mut E) -> LineEnd
         requires can { CanPrint self.old }
         ensures watchers { map board_watched self.new.watchers.items ≡ map board_watched self.old.watchers.items }
         ensures paused { Grew (C.shows self.old.clock).moments (C.shows self.new.clock).moments [] }
-        ensures printed { WatchLines jobs (length self.old.watchers.items) 1 self.old.lines 0 (E.shows err.old) (E.shows err.new) result }
+        ensures printed { LinesTell jobs (length self.old.watchers.items) self.old.lines (known self.old.watchers.items) (known self.new.watchers.items)
+            (E.shows err.old) (E.shows err.new) result }
     {
         watch(
             &mut self.clock,
@@ -78,7 +79,7 @@ impl<C: Clock> Watch<C> {
     }
 }
 
-/// Calls `f` once for each of the pairs, each in a thread of its own where one can be made.
+/// Calls `f` once for each of the pairs, each in a thread of its own if one can be made.
 fn call_each<R: Threads + Sync, T: Send, F: Fn(usize, &mut T) + Sync>(
     rt: &R,
     pairs: &mut Vec<T>,
@@ -93,7 +94,7 @@ fn call_each<R: Threads + Sync, T: Send, F: Fn(usize, &mut T) + Sync>(
     for_each_mut(rt, pairs.as_mut_slice(), threads, f);
 }
 
-/// Calls `f` once for each of the pairs, and prints the lines beside that, where a thread can be made for it.
+/// Calls `f` once for each of the pairs, and prints the lines beside that, if a thread can be made for it.
 fn call_beside<R: Threads + Sync, T: Send, F: Fn(usize, &mut T) + Sync, C: Clock, E: Sink>(
     rt: &R,
     pairs: &mut Vec<T>,
@@ -109,7 +110,8 @@ fn call_beside<R: Threads + Sync, T: Send, F: Fn(usize, &mut T) + Sync, C: Clock
     ensures each { ChangesEach F.Fn f.now pairs.old.items pairs.new.items }
     ensures watchers { map board_watched watch.new.watchers.items ≡ map board_watched watch.old.watchers.items }
     ensures paused { Grew (C.shows watch.old.clock).moments (C.shows watch.new.clock).moments [] }
-    ensures printed { WatchLines jobs (length watch.old.watchers.items) 1 watch.old.lines 0 (E.shows err.old) (E.shows err.new) result }
+    ensures printed { LinesTell jobs (length watch.old.watchers.items) watch.old.lines (known watch.old.watchers.items) (known watch.new.watchers.items)
+        (E.shows err.old) (E.shows err.new) result }
 {
     let (_, end) = join_mut(
         rt,
@@ -123,7 +125,7 @@ fn call_beside<R: Threads + Sync, T: Send, F: Fn(usize, &mut T) + Sync, C: Clock
     end
 }
 
-/// The workers do jobs until there are none, and the watcher prints its lines beside them, where a thread can be made for that.
+/// The workers do jobs until there are none, and the watcher prints its lines beside them, if a thread can be made for that.
 pub fn work_and_watch<
     R: Threads + Wait + Sync,
     D: Dialer + Send,
@@ -151,8 +153,9 @@ where
     ensures each { (number : ℕ) (d : _) → number < length pairs.old.items →
         HasWorked (devices D.shows S.shows K.shows C.shows D.may_give S.ran) cell.now (job_at plan.entry.jobs.now plan.entry.config.now) plan.entry.config.now.period
         (worker_of (slice_index_or pairs.old.items number d)) (worker_of (slice_index_or pairs.new.items number d)) }
-    ensures boards { (number : ℕ) (d : _) → number < length pairs.old.items →
-        board_marked (marker_of (slice_index_or pairs.new.items number d)) ≡ board_marked (marker_of (slice_index_or pairs.old.items number d)) }
+    ensures marked { (number : ℕ) (d : _) → number < length pairs.old.items →
+        HasMarkedOff (marker_of (slice_index_or pairs.old.items number d)) (marker_of (slice_index_or pairs.new.items number d))
+        (reports_on (reserve_of (worker_of (slice_index_or pairs.new.items number d)))) }
     ensures printed { HasPrinted L.shows E.shows (length plan.entry.jobs.now) watch.old watch.new err.old err.new result }
 {
     call_beside(
@@ -193,6 +196,9 @@ where
         HasWorked (devices D.shows S.shows K.shows C.shows D.may_give S.ran) cell.now (job_at plan.entry.jobs.now plan.entry.config.now) plan.entry.config.now.period
         (slice_index_or workers.old.items number d) (slice_index_or workers.new.items number d) }
     ensures back { AreBack beside.new }
+    ensures marked { (number : ℕ) (d : _) (w : _) → number < length workers.old.items →
+        HasMarkedOff (slice_index_or beside.old.markers.items number d) (slice_index_or beside.new.markers.items number d)
+        (reports_on (reserve_of (slice_index_or workers.new.items number w))) }
     ensures watched { HasWatched C.shows E.shows (length plan.entry.jobs.now) (length workers.old.items) beside.old beside.new err.old err.new result }
 {
     pair(workers, &mut beside.markers, &mut beside.pairs);

@@ -1,11 +1,12 @@
 //! All jobs of a list, while somebody watches.
-ghost use Rattle.std.specs.Prelude.{◌≡◌, ◌+◌, ◌^◌, ◌<◌, ◌≤◌, [], IfOk, OnErr, true, length, map, vec_capacity};
+ghost use Rattle.std.specs.Prelude.{◌≡◌, ◌+◌, ◌^◌, ◌<◌, ◌≤◌, [], All, IfOk, OnErr, true, length, map, replicate, vec_capacity};
 ghost use Rattle.farm_types.specs.Limits.{lines_max};
 ghost use Rattle.farm_monitor.specs.Boards.{board_watched};
+ghost use Rattle.watch_lines.specs.Counts.{known};
 ghost use Rattle.farm_machine.specs.Devices.{devices};
 ghost use Rattle.job_driver.specs.Runs.{HasBuilt, HasKits};
 ghost use Rattle.farm_machine.specs.Usable.{AreDoable, IsUsable};
-ghost use Rattle.job_driver.specs.Watching.{board_marked, AreBack, IsFor, HasBuiltWatched, HasWatched, AfterLines, WatchPrinted};
+ghost use Rattle.job_driver.specs.Watching.{board_marked, AreBack, AreMarked, IsFor, IsFreshMarker, HasBuiltWatched, HasWatched, AfterLines, WasWatched};
 
 use crate::beside::Marked;
 use crate::boards::{end_boards, make_boards, tell_all};
@@ -57,6 +58,8 @@ where
     ensures len { length kits.new.items ≡ length kits.old.items }
     ensures kept { vec_capacity kits.old ≤ vec_capacity kits.new }
     ensures back { AreBack beside.new }
+    ensures marked { IfOk result (λ made. AreMarked made.0.reports beside.new.markers.items) }
+    ensures markers { length beside.new.markers.items ≡ workers }
     ensures watched { IfOk result (λ made. HasWatched C.shows E.shows (length plan.entry.jobs.now) workers beside.old beside.new err.old err.new made.1) }
 {
     let mut run = open_run(rt, alloc, plan, kits, workers)?;
@@ -64,7 +67,7 @@ where
     Ok((close_run(rt, run, kits), end))
 }
 
-// The last line, where all others were printed. How the printing ended, and whether that line says that all jobs have ended.
+// The last line, if all others were printed. How the printing ended, and whether that line says that all jobs have ended.
 fn print_after<E: Sink>(
     end: LineEnd,
     watchers: &mut [Watcher],
@@ -83,7 +86,7 @@ fn print_after<E: Sink>(
     }
 }
 
-// Boards for so many workers, none of which has a row, and room for the workers beside them.
+// Boards for that many workers, none of which has a row, and room for the workers beside them.
 fn boards_for<R: Wait, D, S, K, C>(
     rt: &R,
     alloc: Global,
@@ -91,6 +94,8 @@ fn boards_for<R: Wait, D, S, K, C>(
 ) -> Result<(Vec<Marker>, Vec<Watcher>, Vec<Marked<D, S, K, C>>), AllocError>
     ensures markers { IfOk result (λ made. length made.0.items ≡ count) }
     ensures boards { IfOk result (λ made. map board_marked made.0.items ≡ map board_watched made.1.items) }
+    ensures fresh { IfOk result (λ made. All IsFreshMarker made.0.items) }
+    ensures unread { IfOk result (λ made. known made.1.items ≡ replicate count []) }
     ensures pairs { IfOk result (λ made. (made.2.items ≡ []) × (count ≤ vec_capacity made.2)) }
 {
     let mut watchers = Vec::with_capacity(alloc, count)?;
@@ -111,9 +116,9 @@ fn boards_for<R: Wait, D, S, K, C>(
 }
 
 /// Does all jobs as `build` does, with all kits but the last, while somebody watches how far the workers have come: at most 100 lines
-/// are printed, and one more behind the last job. The last kit lends its clock, on which the watcher pauses between two lines.
+/// are printed, and one more after the last job. The last kit lends its clock, on which the watcher pauses between two lines.
 ///
-/// Where the sink stops or wants memory, no further line is printed; the jobs go on. An error says that memory was wanting; then no
+/// If the sink stops or is out of memory, no further line is printed; the jobs go on. An error says that memory ran out; then no
 /// job began, and no line was printed.
 pub fn build_watched<
     R: Threads + Wait + Sync,
@@ -142,7 +147,7 @@ where
     ensures built { IfOk result (λ watched. HasBuiltWatched (devices D.shows S.shows K.shows C.shows D.may_give S.ran)
         jobs.now config.now workers watched.built kits.old.items kits.new.items) }
     ensures undone { OnErr result ((kits.new.items ≡ kits.old.items) × (err.new ≡ err.old)) }
-    ensures printed { IfOk result (λ watched. WatchPrinted (length jobs.now) workers lines watched.told
+    ensures printed { IfOk result (λ watched. WasWatched (length jobs.now) workers lines watched.built.reports watched.told
         (E.shows err.old) (E.shows err.new) watched.printed) }
 {
     let (markers, watchers, pairs) = boards_for(rt, alloc, workers as usize)?;

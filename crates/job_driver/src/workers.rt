@@ -26,7 +26,7 @@ pub struct Reserve {
 }
 
 impl Reserve {
-    /// Takes the room for so many jobs.
+    /// Takes the room for that many jobs.
     pub fn new(alloc: Global, jobs: usize) -> Result<Reserve, AllocError>
         ensures { IfOk result (λ reserve. HasRoom jobs reserve) }
     {
@@ -72,7 +72,7 @@ fn work_over<R: Wait, D: Dialer, S: Station, K: Keeper, C: Clock>(
     );
 }
 
-/// Each worker does jobs until there are none, in a thread of its own where one can be made.
+/// Each worker does jobs until there are none, in a thread of its own if one can be made.
 pub fn work_all<
     R: Threads + Wait + Sync,
     D: Dialer + Send,

@@ -61,12 +61,12 @@ abbrev pub fault_or : ℕ → Option GraphFault → Option FaultAt → Option Fa
 fault_or number (Some fault) later = Some (record { line = number; fault = fault })
 fault_or number None later = later
 
--- the first of these lines that is wrong, where the first line has this number
+-- the first of these lines that is wrong, if the first line has this number
 abbrev pub fault_from : ℕ → ℕ → List (List ℕ) → Option FaultAt
 fault_from count number [] = None
 fault_from count number (l ∷ ls) = fault_or number (line_fault count l ls) (fault_from count (number + 1) ls)
 
--- of a text with so many jobs the first wrong line of needs; lines count from 1
+-- of a text with that many jobs the first wrong line of needs; lines count from 1
 abbrev pub needs_fault : ℕ → List ℕ → Option FaultAt
 needs_fault count text = fault_from count 1 (lines_of text)
 
@@ -79,6 +79,6 @@ needs_from count ahead (l ∷ ls) =
     if is_needs l then needs_from count (ahead ++ jobs_named count (needed_words l)) ls else
     (if is_job l then ahead ∷ needs_from count [] ls else needs_from count ahead ls)
 
--- the needs of each job of a text with so many jobs: what all lines of needs name that stand between it and the job before it
+-- the needs of each job of a text with that many jobs: what all lines of needs name that are between it and the job before it
 abbrev pub needs_of : ℕ → List ℕ → List (List ℕ)
 needs_of count text = needs_from count [] (lines_of text)

@@ -33,7 +33,7 @@ least_not_good fates (n ∷ ns) = if is_good (fate_at fates n) then least_not_go
 abbrev pub blocker : List (List ℕ) → List Fate → ℕ → Option ℕ
 blocker needs fates job = least_not_good fates (needs_at needs job)
 
--- a job of this depth runs where all its needs are good, and is skipped where one isn't
+-- a job of this depth runs if all its needs are good, and is skipped if one isn't
 abbrev pub runs : Graph → ℕ → List Fate → ℕ → Bool
 runs graph level fates job = (slice_index graph.depths job == level) && not (is_some (blocker graph.needs fates job))
 

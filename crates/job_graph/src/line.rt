@@ -20,7 +20,7 @@ fn word_end(line: &[u8]) -> usize
     }
 }
 
-/// The first word of a line, between spaces and tabs, and what stands behind it.
+/// The first word of a line, between spaces and tabs, and what is after it.
 pub fn next_word(line: &[u8]) -> Option<(&[u8], &[u8])>
     ensures none { IfNone result (plain_words line.now ≡ []) }
     ensures word { IfSome result (λ cut. plain_words line.now ≡ cut.0.now ∷ plain_words cut.1.now) }
@@ -37,7 +37,7 @@ pub fn next_word(line: &[u8]) -> Option<(&[u8], &[u8])>
     None
 }
 
-/// What stands behind the first word of a line of needs. None is given of any other line.
+/// What is after the first word of a line of needs. None is given of any other line.
 pub fn needs_behind(line: &[u8]) -> Option<&[u8]>
     ensures none { IfNone result (is_needs line.now ≡ false) }
     ensures is { IfSome result (λ rest. is_needs line.now ≡ true) }

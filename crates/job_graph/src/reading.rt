@@ -14,7 +14,7 @@ use crate::{NeedLists, Numbers};
 use job_list::{is_job, line_end};
 use std::alloc::{AllocError, Global};
 
-// Adds the jobs that the words of a line name, and tells whether each word names one.
+// Adds the jobs that the words of a line name, and says whether each word names one.
 fn add_needs(ahead: &mut Numbers, words: &[u8], count: usize) -> Result<bool, AllocError>
     ensures all { IfOk result (λ right. right ≡ all_named count (plain_words words.now)) }
     ensures added { IfOk result (λ right. right ≡ true → ahead.new ≡ ahead.old ++ jobs_named count (plain_words words.now)) }
@@ -30,7 +30,7 @@ fn add_needs(ahead: &mut Numbers, words: &[u8], count: usize) -> Result<bool, Al
     Ok(true)
 }
 
-/// Reads the needs of each job of a text with so many jobs.
+/// Reads the needs of each job of a text with that many jobs.
 pub fn read_needs(alloc: Global, text: &[u8], count: usize) -> Result<NeedLists, GraphError>
     requires short { length text.now ≤ job_list_max }
     requires jobs { job_count (lines_of text.now) ≡ count }

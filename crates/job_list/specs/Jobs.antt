@@ -24,7 +24,7 @@ pub record JobOf (line : List ℕ) (words : List (List ℕ)) : Type 0 where
   pub legible : IsText line
   pub split : LineOf line words
 
--- what is wrong with a line that is a job, behind this many jobs: it is no text, or its words break off, or it is the 513th job
+-- what is wrong with a line that is a job, after this many jobs: it is no text, or its words break off, or it is the 513th job
 abbrev pub IsWrongLine : ℕ → List ℕ → JobFault → Type 0
 IsWrongLine count line fault =
     ((fault ≡ NotText) × (IsText line → ⊥))

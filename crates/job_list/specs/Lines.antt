@@ -35,7 +35,7 @@ pub record LineOf (line : List ℕ) (words : List (List ℕ)) : Type 0 where
 
 -- ---- the fault
 
--- `'`, and no other one behind it
+-- `'`, and no other one after it
 pub record OpenSingle (tail : List ℕ) : Type 0 where
   pub bytes : List ℕ
   pub plain : Each IsInSingle bytes
@@ -45,7 +45,7 @@ pub record OpenSingle (tail : List ℕ) : Type 0 where
 abbrev pub IsCutMark : List ℕ → Type 0
 IsCutMark end = (end ≡ []) ⊎ (end ≡ backslash ∷ [])
 
--- `"`, and no other one behind it that isn't escaped; a backslash may be the last byte
+-- `"`, and no other one after it that isn't escaped; a backslash may be the last byte
 pub record OpenDouble (tail : List ℕ) : Type 0 where
   pub quoted : List Quoted
   pub right : Each IsQuoted quoted
@@ -60,7 +60,7 @@ BreaksOff tail fault =
     ⊎ ((fault ≡ OpenQuote) × OpenDouble tail)
     ⊎ ((fault ≡ BadEscape) × (tail ≡ backslash ∷ []))
 
--- behind some parts the line breaks off
+-- after some parts the line breaks off
 pub record LineFault (line : List ℕ) (fault : JobFault) : Type 0 where
   pub parts : List Part
   pub right : Each IsPart parts

@@ -16,14 +16,14 @@ use Rattle.job_list.specs.Jobs.{JobOf, AreJobs}
 
 -- ---- a line
 
--- what stands from one place of a line up to another is spelled between double quotes, and adds its bytes
+-- what is from one place of a line up to another is spelled between double quotes, and adds its bytes
 pub record MoreQuoted (line : List ℕ) (from to : ℕ) (old new : List ℕ) : Type 0 where
   pub quoted : List Quoted
   pub right : Each IsQuoted quoted
   pub spelled : drop from line ≡ flat_map quoted_text quoted ++ drop to line
   pub meant : new ≡ old ++ flat_map quoted_bytes quoted
 
--- behind a double quote these bytes are spelled, up to the next one, which ends at this place
+-- after a double quote these bytes are spelled, up to the next one, which ends at this place
 pub record IsClosed (line : List ℕ) (from : ℕ) (closed : Closed) : Type 0 where
   pub quoted : List Quoted
   pub right : Each IsQuoted quoted
@@ -52,7 +52,7 @@ abbrev pub Takes : Reader → List Part → Reader → Type 0
 Takes old parts new = (more : List Part)
     → old.words ++ with_open old.word (parts ++ more) ≡ new.words ++ with_open new.word more
 
--- some parts spell what stands from one place of a line up to another, and take the reader there
+-- some parts spell what is from one place of a line up to another, and take the reader there
 pub record Reads (line : List ℕ) (from to : ℕ) (old new : Reader) : Type 0 where
   pub parts : List Part
   pub right : Each IsPart parts
@@ -76,8 +76,8 @@ pub record TakesLine (line : List ℕ) (number : ℕ) (old new : Listed) : Type 
   pub by : AddsLine line number old new
   pub few : length new.jobs ≤ jobs_max
 
--- the jobs of a text are these lines and those from a place on, where a line with this number begins; none begins
--- behind the text's end
+-- the jobs of a text are these lines and those from a place on, if a line with this number begins; none begins
+-- after the text's end
 abbrev pub Left : List ℕ → ℕ → ℕ → List NumberedLine → Type 0
 Left text from number before =
     ((from ≤ length text) × (job_lines text ≡ before ++ jobs_from number (lines_of (drop from text))))

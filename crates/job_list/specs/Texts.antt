@@ -7,7 +7,7 @@ use Rattle.farm_types.specs.Bytes.{line_feed, hash, is_blank}
 abbrev pub lines_of : List ℕ → List (List ℕ)
 lines_of text = slice_split (λ c. c == line_feed) text
 
--- a line is a job, unless it has blanks alone or its first other byte is `#`
+-- a line is a job, unless it has blanks only or its first other byte is `#`
 abbrev pub is_job : List ℕ → Bool
 is_job [] = false
 is_job (c ∷ cs) = if is_blank c then is_job cs else not (c == hash)
@@ -17,7 +17,7 @@ pub record NumberedLine : Type 0 where
   pub number : ℕ
   pub bytes : List ℕ
 
--- those of some lines that are jobs, where the first line has this number
+-- those of some lines that are jobs, if the first line has this number
 abbrev pub jobs_from : ℕ → List (List ℕ) → List NumberedLine
 jobs_from number [] = []
 jobs_from number (l ∷ ls) =

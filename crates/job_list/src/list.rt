@@ -149,7 +149,7 @@ fn read_list(alloc: Global, text: &[u8]) -> Result<Jobs, JobError>
 }
 
 /// Reads the text of a job list: a command on each line, with quotes as a shell has them, and comments
-/// behind `#`, by the rules of docs/job-list.md. The place of a fault is a line of the text, from 1, or 0
+/// after `#`, by the rules of docs/job-list.md. The place of a fault is a line of the text, from 1, or 0
 /// for the whole text. Memory may run out in place of any answer.
 pub fn parse(alloc: Global, text: &[u8]) -> Result<Jobs, JobError>
     ensures list { IfOk result (λ jobs. JobsOf text.now jobs) }

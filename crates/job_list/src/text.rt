@@ -25,7 +25,7 @@ pub fn line_end(text: &[u8], from: usize) -> usize
     }
 }
 
-/// Whether a line is a job: it hasn't blanks alone, and its first other byte isn't `#`.
+/// Whether a line is a job: it hasn't blanks only, and its first other byte isn't `#`.
 pub fn is_job(line: &[u8]) -> bool
     ensures { result ≡ texts.is_job line.now }
 {

@@ -34,7 +34,7 @@ IsDialAnswer dialer (Ok link) = dialer.there ≡ true
 IsDialAnswer dialer (Err Failed) = dialer.there ≡ false
 IsDialAnswer dialer (Err Memory) = Unit {0}
 
--- the count of faults after a dial: it rises where the dial failed
+-- the count of faults after a dial: it rises if the dial failed
 abbrev pub faults_after : {L : Type 0} → ℕ → Result L EdgeFault → ℕ
 faults_after faults (Ok link) = faults
 faults_after faults (Err Failed) = min (faults + 1) (2 ^ 64 - 1)
@@ -56,7 +56,7 @@ after_dial dialer host port result = record {
 abbrev pub after_hang_up : DialerState → LinkView → DialerState
 after_hang_up dialer link = record dialer { there = true; exchanges = dialer.exchanges ++ hung link ∷ [] }
 
--- the station and the table where they are there, and else as they stood when they went into a link
+-- the station and the table if they are there, and else as they were when they went into a link
 abbrev pub there_or : {A : Type 0} → Option A → A → A
 there_or (Some held) last = held
 there_or None last = last

@@ -74,7 +74,7 @@ pub record IsServed (table : List Compiler) (ran : List Word → List ℕ → Ra
   pub same_seen : old.served ≡ true → new.seen ≡ old.seen
   pub still : old.served ≡ true → after ≡ before
 
--- What a link holds after its dial, at which the station stood at the first of these: the station's counts haven't fallen, and
+-- What a link holds after its dial, at which the station was at the first of these: the station's counts haven't fallen, and
 -- where the service ran, the reply is what it gave for the bytes that it saw.
 pub record Holds (table : List Compiler) (ran : List Word → List ℕ → Ran → Type 0) (dialed now : StationView)
     (link : LoopState) : Type 0 where
@@ -88,7 +88,7 @@ LinkHolds shows ran link = Holds link.held.table.rows (ran link.held.station) (s
     (loop_state link)
 
 -- The first became the second, by calls of it: it is to the same host, over the same table and a station with the same
--- programs, dialed where the station stood the same, and it holds a reply where the first did.
+-- programs, dialed when the station was the same, and it holds a reply if the first did.
 pub record LoopFollows {S : Type 0} (shows : S → StationView) (ran : S → List Word → List ℕ → Ran → Type 0)
     (a b : LoopLink S) : Type 0 where
   pub host : b.host ≡ a.host

@@ -7,7 +7,7 @@ use Rattle.edge_traits.specs.Stations.{StationView}
 use Rattle.loop_link.specs.declared.link.LoopLink.{LoopLink}
 use Rattle.loop_link.specs.Links.{LinkHolds, LoopFollows}
 
--- after the one dial, a link that closes at its first receive, dialed where the station's counts had not fallen
+-- after the one dial, a link that closes at its first receive, dialed when the station's counts had not fallen
 pub record ComesOnce {S : Type 0} (shows : S → StationView) (ran : S → List Word → List ℕ → Ran → Type 0) (before : StationView)
     (dialed : Bool) (link : LoopLink S) : Type 0 where
   pub holds : LinkHolds shows ran link

@@ -15,7 +15,7 @@ use std::snapshot::Snapshot;
 #[derive(Drop)]
 pub struct LoopDialer<S> {
     pub(crate) held: Option<Held<S>>,
-    // what was held when it last went into a link, or was first held, for clauses alone
+    // what was held when it last went into a link, or was first held, for clauses only
     pub(crate) last: Snapshot<Held<S>>,
     pub(crate) faults: u64,
     pub(crate) exchanges: Trail<Exchange>,

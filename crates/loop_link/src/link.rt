@@ -25,10 +25,10 @@ pub struct LoopLink<S> {
     pub(crate) host: HostName,
     pub(crate) port: u16,
     pub(crate) room: Room<Exchange>,
-    // the station as it was dialed, for clauses alone
+    // the station as it was dialed, for clauses only
     pub(crate) dialed: Snapshot<S>,
     pub(crate) held: Held<S>,
-    // after the first receive a send wants memory
+    // after the first receive a send is out of memory
     pub(crate) closes: bool,
     pub(crate) sent: Bytes,
     // the service ran, and memory lasted
@@ -154,11 +154,11 @@ impl<S: Station> Link for LoopLink<S> {
         requires { 0 < length room.old }
         ensures failed { IsErrOf result Failed → ⊥ }
 
-        // After want of memory there is no other answer, and nothing is run again.
+        // After out of memory there is no other answer, and nothing is run again.
         ensures wants { OnErr result ((loop_state self.new).wanted ≡ true) }
         ensures spent { (loop_state self.old).wanted ≡ true → IsErrOf result Memory × (self.new ≡ self.old) }
 
-        // Want of memory hides no fault of the station.
+        // Out of memory hides no fault of the station.
         ensures memory { OnErr result (StationStill (S.shows self.old.held.station) (S.shows self.new.held.station)) }
         ensures served { OnOk result (IsServed self.old.held.table.rows (S.ran self.new.held.station) (S.shows self.old.held.station) (S.shows self.new.held.station) (loop_state self.old) (loop_state self.new)) }
         ensures answer { IfOk result (λ n. n ≡ min (length room.old) (length (loop_state self.new).reply - (loop_state self.old).at)) }

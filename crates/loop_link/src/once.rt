@@ -12,7 +12,7 @@ use farm_types::HostName;
 use std::alloc::Global;
 use std::marker::{Brand, PhantomData};
 
-/// How a loop's dialer stood before an exchange, for clauses alone.
+/// How a loop's dialer was before an exchange, for clauses only.
 pub(crate) trait Before {
     ghost use Rattle.std.specs.Prelude.{Bool, List};
 
@@ -34,7 +34,7 @@ impl Before for Brand {
     ghost exchanges = { [] };
 }
 
-/// A loop's dialer that stood so before, and makes one exchange.
+/// A loop's dialer that was so before, and makes one exchange.
 pub(crate) struct Once<S: Station, B: Before> {
     pub(crate) dialer: LoopDialer<S>,
     pub(crate) dialed: bool,

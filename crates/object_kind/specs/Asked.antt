@@ -1,5 +1,5 @@
 -- The kind of object that a command asks for.
-use Rattle.std.specs.Prelude.{ℕ, Bool, true, false, not, ◌&&◌, ◌||◌, nat_eq, List, ◌∷◌, codes, bytes_eq, if◌then◌else◌}
+use Rattle.std.specs.Prelude.{ℕ, Bool, true, false, not, ◌&&◌, ◌||◌, nat_eq, List, [], ◌∷◌, codes, bytes_eq, if◌then◌else◌}
 use Rattle.std.specs.List.{list_any, starts_with}
 use Rattle.farm_types.specs.declared.placed.Word.{Word}
 use Rattle.farm_types.specs.declared.placed.Word.TheVariants.{Text}
@@ -36,3 +36,11 @@ runs_driver _ = false
 abbrev pub is_asked_kind : List Word → List ℕ → Bool
 is_asked_kind words object =
     if not (runs_driver words) then true else (if asks_text words then is_text object else is_object words object)
+
+abbrev pub is_nothing : List ℕ → Bool
+is_nothing [] = true
+is_nothing (byte ∷ bytes) = false
+
+-- Of another program nothing is asked. What a driver gives isn't empty.
+abbrev pub is_filled : List Word → List ℕ → Bool
+is_filled words object = not (runs_driver words) || not (is_nothing object)

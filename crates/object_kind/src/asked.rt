@@ -1,7 +1,7 @@
 //! What a command asks for.
 
 ghost use Rattle.std.specs.Prelude.{◌≡◌};
-ghost use Rattle.object_kind.specs.Asked.{is_text_word, is_bitcode_word, asks_text, asks_bitcode, is_object, runs_driver, is_asked_kind};
+ghost use Rattle.object_kind.specs.Asked.{is_text_word, is_bitcode_word, asks_text, asks_bitcode, is_object, runs_driver, is_asked_kind, is_filled};
 
 use crate::driver::is_driver;
 use crate::formats::{is_bitcode, is_coff, is_elf, is_mach, is_text, is_wasm};
@@ -77,4 +77,12 @@ pub fn is_asked_kind(words: &[Word], object: &[u8]) -> bool
     } else {
         is_object(words, object)
     }
+}
+
+/// Whether the bytes are more than nothing, where the first word names a driver of gcc or clang: what it leaves is never empty. Of any other program
+/// nothing is asked.
+pub fn is_filled(words: &[Word], object: &[u8]) -> bool
+    ensures { result ≡ is_filled words.now object.now }
+{
+    !runs_driver(words) || !object.is_empty()
 }

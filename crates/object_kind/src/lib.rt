@@ -5,4 +5,5 @@ mod asked;
 mod driver;
 mod formats;
 
-pub use asked::is_asked_kind;
+pub use asked::{is_asked_kind, is_filled};
+pub use driver::is_driver;

@@ -76,7 +76,7 @@ gcc_rows =
     -- words with two dashes
     row (codes "--") form.Joined (effect.Local reason.side_file) ∷
     row (codes "--param=") form.Joined effect.Keep ∷
-    row (codes "--sysroot=") form.Joined effect.Keep ∷
+    row (codes "--sysroot=") form.Joined effect.Strip ∷
     row (codes "--target=") form.Joined effect.Keep ∷
     row (codes "--gcc-toolchain=") form.Joined effect.Keep ∷
     row (codes "--gcc-install-dir=") form.Joined effect.Keep ∷
@@ -125,18 +125,26 @@ gcc_rows =
     row (codes "-fstats") form.None (effect.Local reason.side_file) ∷
     row (codes "-fpre-ipa-mem-report") form.None (effect.Local reason.side_file) ∷
     row (codes "-fpost-ipa-mem-report") form.None (effect.Local reason.side_file) ∷
+    row (codes "-fdbg-cnt") form.Joined (effect.Local reason.side_file) ∷
+    row (codes "-mdump-") form.Joined (effect.Local reason.side_file) ∷
     -- a compile of preprocessed text doesn't give the same
     row (codes "-P") form.None (effect.Local reason.side_file) ∷
+    row (codes "-C") form.None (effect.Local reason.side_file) ∷
+    row (codes "-CC") form.None (effect.Local reason.side_file) ∷
     row (codes "-finput-charset=") form.Joined (effect.Local reason.side_file) ∷
     row (codes "-fno-preprocessed") form.None (effect.Local reason.side_file) ∷
     row (codes "-fdirectives-only") form.None (effect.Local reason.side_file) ∷
     row (codes "-frewrite-") form.Joined (effect.Local reason.side_file) ∷
+    row (codes "-fdebug-cpp") form.None (effect.Local reason.side_file) ∷
+    row (codes "-fkeep-system-includes") form.None (effect.Local reason.side_file) ∷
+    row (codes "-fminimize-whitespace") form.None (effect.Local reason.side_file) ∷
     row (codes "-fdebug-macro") form.None (effect.Local reason.side_file) ∷
     row (codes "-gembed-source") form.None (effect.Local reason.side_file) ∷
     row (codes "-gmodules") form.None (effect.Local reason.side_file) ∷
     row (codes "-frecord-gcc-switches") form.None (effect.Local reason.side_file) ∷
     row (codes "-frecord-command-line") form.None (effect.Local reason.side_file) ∷
     row (codes "-fcanon-prefix-map") form.None (effect.Local reason.side_file) ∷
+    row (codes "-fno-working-directory") form.None (effect.Local reason.side_file) ∷
     row (codes "-fsearch-include-path") form.Joined (effect.Local reason.side_file) ∷
     row (codes "-working-directory") form.Joined (effect.Local reason.side_file) ∷
     row (codes "-ObjC") form.Joined (effect.Local reason.language) ∷
@@ -186,9 +194,13 @@ gcc_rows =
     row (codes "-fsanitize-blacklist") form.Joined (effect.Local reason.side_file) ∷
     row (codes "-fsanitize-system-") form.Joined (effect.Local reason.side_file) ∷
     row (codes "-fsanitize-coverage-") form.Joined (effect.Local reason.side_file) ∷
+    row (codes "-fexperimental-sanitize") form.Joined (effect.Local reason.side_file) ∷
+    row (codes "-fcodegen-data-") form.Joined (effect.Local reason.side_file) ∷
+    row (codes "-frandomize-layout-seed") form.Joined (effect.Local reason.side_file) ∷
     row (codes "-fxray-") form.Joined (effect.Local reason.side_file) ∷
     row (codes "-fbasic-block-sections=") form.Joined (effect.Local reason.side_file) ∷
     row (codes "-fembed-offload") form.Joined (effect.Local reason.side_file) ∷
+    row (codes "-fembed-bitcode") form.Joined (effect.Local reason.side_file) ∷
     row (codes "-fopenmp-targets") form.Joined (effect.Local reason.side_file) ∷
     row (codes "-resource-dir") form.Joined (effect.Local reason.side_file) ∷
     row (codes "-cxx-isystem") form.Either (effect.Local reason.side_file) ∷
@@ -210,6 +222,11 @@ gcc_rows =
     row (codes "-rpath") form.Next (effect.Local reason.side_file) ∷
     row (codes "-framework") form.Next (effect.Local reason.side_file) ∷
     row (codes "-filelist") form.Next (effect.Local reason.side_file) ∷
+    row (codes "-gcc-toolchain") form.Next (effect.Local reason.side_file) ∷
+    row (codes "-R") form.Next (effect.Local reason.side_file) ∷
+    row (codes "-G") form.Next effect.Keep ∷
     -- used in preprocessing alone
     row (codes "-MV") form.None effect.Strip ∷
+    row (codes "-nostdlibinc") form.None effect.Strip ∷
+    row (codes "-nobuiltininc") form.None effect.Strip ∷
     row (codes "-F") form.Joined effect.Strip ∷ []

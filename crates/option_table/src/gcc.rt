@@ -10,7 +10,7 @@ use crate::row::{ConstantRow, Effect, Form, rows};
 use crate::table::OptionTable;
 
 /// The number of the rows of `gcc_table`.
-pub const GCC_ROWS: usize = 196;
+pub const GCC_ROWS: usize = 213;
 
 /// The table of gcc's and clang's options, as docs/command-words.md lists them. It is a constant.
 pub fn gcc_table() -> OptionTable<GCC_ROWS>
@@ -93,7 +93,7 @@ static ROWS: [ConstantRow; GCC_ROWS] = rows! {
     // Words with two dashes.
     "--" Joined Local(reasons::SIDE_FILE);
     "--param=" Joined Keep;
-    "--sysroot=" Joined Keep;
+    "--sysroot=" Joined Strip;
     "--target=" Joined Keep;
     "--gcc-toolchain=" Joined Keep;
     "--gcc-install-dir=" Joined Keep;
@@ -142,18 +142,26 @@ static ROWS: [ConstantRow; GCC_ROWS] = rows! {
     "-fstats" None Local(reasons::SIDE_FILE);
     "-fpre-ipa-mem-report" None Local(reasons::SIDE_FILE);
     "-fpost-ipa-mem-report" None Local(reasons::SIDE_FILE);
+    "-fdbg-cnt" Joined Local(reasons::SIDE_FILE);
+    "-mdump-" Joined Local(reasons::SIDE_FILE);
     // A compile of preprocessed text doesn't give the same.
     "-P" None Local(reasons::SIDE_FILE);
+    "-C" None Local(reasons::SIDE_FILE);
+    "-CC" None Local(reasons::SIDE_FILE);
     "-finput-charset=" Joined Local(reasons::SIDE_FILE);
     "-fno-preprocessed" None Local(reasons::SIDE_FILE);
     "-fdirectives-only" None Local(reasons::SIDE_FILE);
     "-frewrite-" Joined Local(reasons::SIDE_FILE);
+    "-fdebug-cpp" None Local(reasons::SIDE_FILE);
+    "-fkeep-system-includes" None Local(reasons::SIDE_FILE);
+    "-fminimize-whitespace" None Local(reasons::SIDE_FILE);
     "-fdebug-macro" None Local(reasons::SIDE_FILE);
     "-gembed-source" None Local(reasons::SIDE_FILE);
     "-gmodules" None Local(reasons::SIDE_FILE);
     "-frecord-gcc-switches" None Local(reasons::SIDE_FILE);
     "-frecord-command-line" None Local(reasons::SIDE_FILE);
     "-fcanon-prefix-map" None Local(reasons::SIDE_FILE);
+    "-fno-working-directory" None Local(reasons::SIDE_FILE);
     "-fsearch-include-path" Joined Local(reasons::SIDE_FILE);
     "-working-directory" Joined Local(reasons::SIDE_FILE);
     "-ObjC" Joined Local(reasons::LANGUAGE);
@@ -203,9 +211,13 @@ static ROWS: [ConstantRow; GCC_ROWS] = rows! {
     "-fsanitize-blacklist" Joined Local(reasons::SIDE_FILE);
     "-fsanitize-system-" Joined Local(reasons::SIDE_FILE);
     "-fsanitize-coverage-" Joined Local(reasons::SIDE_FILE);
+    "-fexperimental-sanitize" Joined Local(reasons::SIDE_FILE);
+    "-fcodegen-data-" Joined Local(reasons::SIDE_FILE);
+    "-frandomize-layout-seed" Joined Local(reasons::SIDE_FILE);
     "-fxray-" Joined Local(reasons::SIDE_FILE);
     "-fbasic-block-sections=" Joined Local(reasons::SIDE_FILE);
     "-fembed-offload" Joined Local(reasons::SIDE_FILE);
+    "-fembed-bitcode" Joined Local(reasons::SIDE_FILE);
     "-fopenmp-targets" Joined Local(reasons::SIDE_FILE);
     "-resource-dir" Joined Local(reasons::SIDE_FILE);
     "-cxx-isystem" Either Local(reasons::SIDE_FILE);
@@ -227,37 +239,43 @@ static ROWS: [ConstantRow; GCC_ROWS] = rows! {
     "-rpath" Next Local(reasons::SIDE_FILE);
     "-framework" Next Local(reasons::SIDE_FILE);
     "-filelist" Next Local(reasons::SIDE_FILE);
+    "-gcc-toolchain" Next Local(reasons::SIDE_FILE);
+    "-R" Next Local(reasons::SIDE_FILE);
+    "-G" Next Keep;
     // Used in preprocessing alone.
     "-MV" None Strip;
+    "-nostdlibinc" None Strip;
+    "-nobuiltininc" None Strip;
     "-F" Joined Strip;
 };
 
 // The places of the rows, sorted; `tools/option-index` prints them.
 static PLACES: [u32; GCC_ROWS] = [
     98, 64, 84, 76, 89, 47, 75, 74, 85, 69, 68, 86, 39, 65, 77, 78, 79, 72, 87, 81, 82, 88, 80, 70,
-    71, 66, 67, 83, 73, 16, 38, 13, 3, 195, 105, 15, 31, 4, 6, 10, 9, 131, 5, 7, 8, 12, 11, 194,
-    126, 113, 106, 1, 35, 14, 54, 33, 29, 94, 55, 62, 34, 30, 91, 95, 63, 61, 0, 183, 150, 176, 52,
-    92, 166, 151, 172, 152, 165, 164, 133, 123, 148, 155, 145, 154, 161, 186, 118, 141, 140, 143,
-    142, 144, 116, 103, 53, 173, 193, 162, 114, 109, 153, 160, 59, 115, 174, 136, 135, 157, 156,
-    159, 57, 112, 111, 163, 138, 45, 192, 122, 121, 48, 117, 168, 170, 167, 169, 134, 124, 158,
-    132, 110, 58, 46, 139, 108, 137, 187, 149, 171, 119, 130, 120, 56, 129, 99, 93, 24, 18, 17,
-    184, 96, 97, 19, 23, 25, 22, 185, 20, 21, 32, 42, 127, 101, 44, 128, 189, 41, 190, 179, 188,
-    102, 43, 27, 28, 2, 181, 100, 178, 175, 180, 191, 147, 51, 146, 90, 49, 177, 40, 107, 36, 26,
-    104, 182, 125, 60, 50, 37,
+    71, 66, 67, 83, 73, 16, 38, 116, 117, 13, 3, 212, 208, 105, 15, 31, 4, 6, 10, 9, 139, 5, 7, 8,
+    12, 11, 209, 134, 115, 106, 207, 1, 35, 14, 54, 33, 29, 94, 55, 62, 34, 30, 91, 95, 63, 61, 0,
+    195, 158, 188, 52, 92, 174, 159, 183, 160, 173, 172, 141, 130, 180, 156, 163, 153, 162, 169,
+    113, 198, 122, 125, 149, 148, 151, 150, 152, 120, 103, 53, 185, 184, 179, 205, 170, 118, 123,
+    109, 161, 124, 168, 59, 119, 131, 186, 144, 143, 165, 164, 167, 57, 112, 111, 171, 146, 45,
+    204, 181, 129, 128, 48, 121, 176, 178, 175, 177, 142, 132, 166, 140, 110, 58, 46, 147, 108,
+    145, 199, 157, 182, 206, 126, 138, 127, 56, 137, 99, 93, 24, 18, 17, 196, 96, 97, 19, 23, 25,
+    22, 197, 20, 21, 32, 42, 135, 101, 44, 136, 114, 201, 41, 202, 191, 200, 102, 43, 211, 27, 28,
+    210, 2, 193, 100, 190, 187, 192, 203, 155, 51, 154, 90, 49, 189, 40, 107, 36, 26, 104, 194,
+    133, 60, 50, 37,
 ];
 
 // Where the span of each second byte starts; `tools/option-index` prints them.
 static STARTS: [u32; LETTERS] = [
     0, 0, 0, 0, 0, 0, 0, 0, 0, 0, 0, 0, 0, 0, 0, 0, 0, 0, 0, 0, 0, 0, 0, 0, 0, 0, 0, 0, 0, 0, 0, 0,
     0, 0, 0, 0, 1, 1, 1, 1, 1, 1, 1, 1, 1, 1, 29, 29, 29, 29, 29, 29, 29, 29, 29, 29, 29, 29, 29,
-    29, 29, 29, 29, 29, 29, 29, 30, 31, 31, 32, 33, 34, 34, 35, 36, 36, 36, 37, 48, 48, 49, 50, 51,
-    51, 52, 53, 54, 54, 57, 62, 62, 62, 62, 62, 62, 62, 62, 62, 66, 66, 70, 71, 72, 138, 143, 144,
-    158, 158, 158, 159, 171, 173, 175, 176, 176, 180, 186, 188, 190, 192, 194, 195, 195, 196, 196,
-    196, 196, 196, 196, 196, 196, 196, 196, 196, 196, 196, 196, 196, 196, 196, 196, 196, 196, 196,
-    196, 196, 196, 196, 196, 196, 196, 196, 196, 196, 196, 196, 196, 196, 196, 196, 196, 196, 196,
-    196, 196, 196, 196, 196, 196, 196, 196, 196, 196, 196, 196, 196, 196, 196, 196, 196, 196, 196,
-    196, 196, 196, 196, 196, 196, 196, 196, 196, 196, 196, 196, 196, 196, 196, 196, 196, 196, 196,
-    196, 196, 196, 196, 196, 196, 196, 196, 196, 196, 196, 196, 196, 196, 196, 196, 196, 196, 196,
-    196, 196, 196, 196, 196, 196, 196, 196, 196, 196, 196, 196, 196, 196, 196, 196, 196, 196, 196,
-    196, 196, 196, 196, 196, 196, 196, 196, 196, 196, 196, 196, 196, 196, 196, 196, 196, 196,
+    29, 29, 29, 29, 29, 29, 29, 30, 31, 33, 34, 35, 36, 37, 38, 39, 39, 39, 40, 51, 51, 52, 53, 54,
+    55, 56, 57, 58, 58, 61, 66, 66, 66, 66, 66, 66, 66, 66, 66, 70, 70, 74, 75, 76, 151, 157, 158,
+    172, 172, 172, 173, 186, 190, 192, 193, 193, 197, 203, 205, 207, 209, 211, 212, 212, 213, 213,
+    213, 213, 213, 213, 213, 213, 213, 213, 213, 213, 213, 213, 213, 213, 213, 213, 213, 213, 213,
+    213, 213, 213, 213, 213, 213, 213, 213, 213, 213, 213, 213, 213, 213, 213, 213, 213, 213, 213,
+    213, 213, 213, 213, 213, 213, 213, 213, 213, 213, 213, 213, 213, 213, 213, 213, 213, 213, 213,
+    213, 213, 213, 213, 213, 213, 213, 213, 213, 213, 213, 213, 213, 213, 213, 213, 213, 213, 213,
+    213, 213, 213, 213, 213, 213, 213, 213, 213, 213, 213, 213, 213, 213, 213, 213, 213, 213, 213,
+    213, 213, 213, 213, 213, 213, 213, 213, 213, 213, 213, 213, 213, 213, 213, 213, 213, 213, 213,
+    213, 213, 213, 213, 213, 213, 213, 213, 213, 213, 213, 213, 213, 213, 213, 213, 213, 213,
 ];

@@ -9,7 +9,7 @@ abbrev pub asks_for_help : List ℕ → Bool
 asks_for_help word =
     bytes_eq word (codes "help") || bytes_eq word (codes "-h") || bytes_eq word (codes "-help") || bytes_eq word (codes "-?")
 
--- words behind which no other may stand
+-- words after which no other may be
 abbrev pub behind_option : List ℕ → Bool
 behind_option word = bytes_eq word (codes "--help") || bytes_eq word (codes "--version")
 

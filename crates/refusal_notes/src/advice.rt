@@ -12,7 +12,7 @@ pub enum Advice {
     HelpByOption,
     /// The first word is no command.
     UnknownCommand,
-    /// `--help` and `--version` stand alone, or `--help` behind a command.
+    /// `--help` and `--version` are alone, or `--help` after a command.
     BehindOption,
     /// A word is missing at the end.
     MissingWord,

@@ -1,4 +1,4 @@
-//! What a refusal is told as in plain words, behind the line that has its numbers.
+//! What a refusal says in plain words, after the line that has its numbers.
 #![tactic(auto)]
 
 mod advice;

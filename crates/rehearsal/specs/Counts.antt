@@ -20,7 +20,7 @@ use Rattle.rehearsal.specs.Puts as puts
 abbrev pub RehearsalKit : Type 0
 RehearsalKit = Kit (LoopDialer SampleStation) StillStation StillKeeper MemClock
 
--- what each kit's keeper was given, and nothing behind the last kit
+-- what each kit's keeper was given, and nothing after the last kit
 abbrev pub puts_at : Option RehearsalKit → List Put
 puts_at (Some kit) = kit.keeper.puts
 puts_at None = []
@@ -45,7 +45,7 @@ abbrev pub len_at : List Put → Option ℕ → ℕ
 len_at list (Some at) = puts.put_len_at list at
 len_at list None = 0
 
--- the length of the object that a job put as its last act, and 0 where it put none
+-- the length of the object that a job put as its last act, and 0 if it put none
 abbrev pub report_len : (ℕ → List Put) → Report → ℕ
 report_len puts report = len_at (puts report.worker) (last_put report.events)
 

@@ -1,4 +1,4 @@
--- The devices of a rehearsal, whose counts stand still.
+-- The devices of a rehearsal, whose counts stay.
 use Rattle.std.specs.Prelude.{[]}
 use Rattle.std.specs.FinMap.{from_entries}
 use Rattle.edge_traits.specs.Told.{told, untold}
@@ -13,11 +13,11 @@ use Rattle.rehearsal.specs.declared.station.StillStation.{StillStation}
 abbrev pub compiler_files : StillStation → Files
 compiler_files station = station_files station.inner
 
--- the station tells its runs, and its counts stand still
+-- the station tells its runs, and its counts stay
 abbrev pub compiler_shows : StillStation → StationView
 compiler_shows station = record { runs = (station_shows station.inner).runs; faults = 0; overruns = 0 }
 
--- the keeper tells what was put, and its counts stand still
+-- the keeper says what was put, and its counts stay
 abbrev pub keeper_shows : StillKeeper → KeeperView
 keeper_shows keeper = record {
   files = untold (from_entries []);

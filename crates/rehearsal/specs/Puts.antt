@@ -10,6 +10,6 @@ abbrev pub put_len : Option Put → ℕ
 put_len (Some put) = length put.bytes
 put_len None = 0
 
--- the length of the object that was put at this place, and 0 where none was
+-- the length of the object that was put at this place, and 0 if none was
 abbrev pub put_len_at : List Put → ℕ → ℕ
 put_len_at puts at = put_len (slice_get puts at)

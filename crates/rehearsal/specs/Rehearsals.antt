@@ -49,7 +49,7 @@ rehearsal_config = record { hosts = rehearsal_hosts; fallback = true; retry = tr
 abbrev pub rehearsal_workers_max : ℕ
 rehearsal_workers_max = 4
 
--- so many workers, but no more than there are jobs
+-- that many workers, but no more than there are jobs
 abbrev pub rehearsal_workers : ℕ → ℕ
 rehearsal_workers n = min n rehearsal_workers_max
 
@@ -58,12 +58,12 @@ abbrev pub loop_devices : Devices RehearsalKit
 loop_devices = devices (λ d. dialer_shows (dialer_state d)) compiler_shows keeper_shows (λ c. clock_shows (clock_state c))
     (λ d. DialerGives (λ s. StationRan (station_files s)) d) (λ s. StationRan (compiler_files s))
 
--- the table of a loop, which names the sample compiler alone
+-- the table of a loop, which names the sample compiler only
 abbrev pub scc_table : List Compiler
 scc_table = record { name = codes "scc"; program = codes "scc" } ∷ []
 
--- A kit before the first job: its station runs the compiler over these files, and so does the daemon behind its dialer, which is honest for
--- that. Its clock stands at 0, and nothing was put.
+-- A kit before the first job: its station runs the compiler over these files, and so does the daemon after its dialer, which is honest for
+-- that. Its clock is at 0, and nothing was put.
 pub record IsFresh (files : Files) (kit : RehearsalKit) : Type 0 where
   pub there : station_files (held_of kit.dialer).station ≡ files
   pub table : (held_of kit.dialer).table.rows ≡ scc_table
@@ -101,17 +101,17 @@ pub record AreCounted (n : ℕ) (reports : List Report) (count : Count) : Type 0
   pub reported : count.done ≡ count_by (λ report. is_done_well report.end) reports
   pub bytes : count.bytes ≡ sum_by object_len rans
 
--- a job wanted memory
+-- a job was out of memory
 abbrev pub SomeWanted : List Report → Type 0
 SomeWanted reports = (report : Report) × (at : ℕ) × (slice_get reports at ≡ Some report) × (report.end ≡ Failed Memory)
 
--- The numbers are told where all jobs were done, and not where one wanted memory.
+-- The numbers are told if all jobs were done, and not if one was out of memory.
 abbrev pub Tells : ℕ → List Report → Option Count → Type 0
 Tells n reports (Some count) = AreCounted n reports count
 Tells n reports None = SomeWanted reports
 
 -- The jobs of the workload were run by four workers at most, over loops to a daemon that runs the compiler over the workload's files.
--- There is a report for each, in order; each was done, or wanted memory.
+-- There is a report for each, in order; each was done, or was out of memory.
 pub record IsRehearsal (n : ℕ) (built : Built) (count : Option Count) : Type 0 where
   pub of_hosts : AreLimitsOf built.last.limits rehearsal_hosts
   pub of_jobs : built.last.limits.jobs ≡ n

@@ -1,4 +1,4 @@
-//! A keeper in memory whose counts stand still.
+//! A keeper in memory whose counts stay.
 
 ghost use Rattle.std.specs.Prelude.{◌≡◌, ◌<◌, ◌≤◌, [], None, All, length};
 ghost use Rattle.std.specs.Option.{ForSome};
@@ -11,7 +11,7 @@ use farm_types::limits::OBJECT_MAX;
 use farm_types::{Bytes, Items};
 use std::alloc::Global;
 
-/// A keeper in memory that remembers what was put. Its counts stand still: it has no file to give, so a fetch wants memory,
+/// A keeper in memory that remembers what was put. Its counts stay: it has no file to give, so a fetch is out of memory,
 /// and so does a put above the limit of objects.
 #[derive(Drop)]
 pub struct StillKeeper {
@@ -33,7 +33,7 @@ impl StillKeeper {
         }
     }
 
-    /// The length of the object that was put at this place, counted from 0; 0 where none was. It takes no memory.
+    /// The length of the object that was put at this place, counted from 0; 0 if none was. It takes no memory.
     pub(crate) fn object_len(&self, at: u32) -> u64
         ensures len { result ≡ puts.put_len_at self.now.puts at }
         ensures small { result ≤ object_max }

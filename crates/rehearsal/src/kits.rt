@@ -16,7 +16,7 @@ use sample_compiler::SampleStation;
 use std::alloc::{AllocError, Global};
 use workload::make;
 
-/// A kit of a rehearsal: a loop over the sample compiler, the sample compiler, a keeper in memory, and a clock that stands.
+/// A kit of a rehearsal: a loop over the sample compiler, the sample compiler, a keeper in memory, and a clock that stays at 0.
 pub type RehearsalKit = Kit<LoopDialer<SampleStation>, StillStation, StillKeeper, MemClock>;
 
 /// The table of a loop, which names the sample compiler `scc`.
@@ -47,7 +47,7 @@ fn kit(alloc: Global, n: u32) -> Result<RehearsalKit, AllocError>
     })
 }
 
-/// So many kits over the workload's files.
+/// That many kits over the workload's files.
 pub(crate) fn kits(alloc: Global, n: u32, count: usize) -> Result<Vec<RehearsalKit>, AllocError>
     requires some { 1 ≤ n }
     requires most { n ≤ jobs_max }

@@ -27,7 +27,7 @@ fn last_put(events: &EventList) -> Option<u32>
     }
 }
 
-// The length of the object that the job of this report put, which is its last act; 0 where it put none.
+// The length of the object that the job of this report put, which is its last act; 0 if it put none.
 fn object_len(kits: &[RehearsalKit], report: &Report) -> u64
     ensures len { result ≡ counts.report_len (puts_of kits.now) report.now }
     ensures small { result ≤ object_max }
@@ -76,7 +76,7 @@ fn done_well(reports: &[Report]) -> usize
     done
 }
 
-/// Counts what the jobs of these reports left, or nothing where one of them failed.
+/// Counts what the jobs of these reports left, or nothing if one of them failed.
 pub(crate) fn count_reports(kits: &[RehearsalKit], reports: &[Report]) -> Option<Count>
     requires { length reports.now ≤ jobs_max }
     ensures { CountsDone (puts_of kits.now) reports.now result }

@@ -19,7 +19,7 @@ use workload::make;
 /// The most workers of a rehearsal.
 const REHEARSAL_WORKERS_MAX: u32 = 4;
 
-/// What a rehearsal left: what was built, and the two numbers, which there are where no job wanted memory.
+/// What a rehearsal left: what was built, and the two numbers, which there are if no job was out of memory.
 #[derive(Drop)]
 pub struct Rehearsed {
     pub built: Built,
@@ -29,7 +29,7 @@ pub struct Rehearsed {
 /// Runs the jobs of the workload of n, which is 1 to 512, by four workers at most. Each has a kit of its own over the
 /// workload's files: the sample compiler, a loop to a daemon that runs the sample compiler, and a keeper in memory.
 ///
-/// An error says that memory was wanting before the first job began. It waits for slots.
+/// An error says that memory ran out before the first job began. It waits for slots.
 pub fn rehearse<R: Threads + Wait + Sync>(
     rt: &R,
     alloc: Global,

@@ -1,4 +1,4 @@
-//! The sample compiler as a station whose counts stand still.
+//! The sample compiler as a station whose counts stay.
 
 use edge_traits::{Bounds, Station, StationFault};
 use farm_types::{Ran, Word};
@@ -6,7 +6,7 @@ use sample_compiler::SampleStation;
 use sample_lang::FileMap;
 use std::alloc::Global;
 
-/// The sample compiler over a map of files. Its counts stand still: a run that leaves more than its bounds wants memory. No
+/// The sample compiler over a map of files. Its counts stay: a run that leaves more than its bounds is out of memory. No
 /// run of a job of the workload does.
 #[derive(Drop)]
 pub struct StillStation {

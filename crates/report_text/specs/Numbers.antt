@@ -32,7 +32,7 @@ abbrev pub end_number : End → ℕ
 end_number (Done status note err out by) = exit_code_of status
 end_number (Failed why) = why_number why
 
--- 0 where every job was done with status 0, else the number of the first that was not
+-- 0 if every job was done with status 0, else the number of the first that was not
 abbrev pub number : List Report → ℕ
 number [] = 0
 number (report ∷ reports) = if is_done_well report.end then number reports else end_number report.end

@@ -41,12 +41,12 @@ job_pieces_at hosts job end =
 abbrev pub job_pieces : List Host → Report → List Piece
 job_pieces hosts report = job_pieces_at hosts report.number report.end
 
--- why a command that was run alone failed; of one that was done there is no line
+-- why a command that was run only failed; of one that was done there is no line
 abbrev pub failure_text : List Host → End → List ℕ
 failure_text hosts (Done status note err out by) = []
 failure_text hosts (Failed why) = codes "farm: " ++ end_text hosts (Failed why) ++ codes "\n"
 
--- of a command that was run alone: its messages, and on the sink of errors why it failed
+-- of a command that was run only: its messages, and on the sink of errors why it failed
 abbrev pub command_pieces : List Host → End → List Piece
 command_pieces hosts end =
     record { sink = ErrSink; bytes = err_messages end ++ failure_text hosts end } ∷ record { sink = Out; bytes = out_messages end } ∷ []

@@ -49,7 +49,7 @@ pub fn number_of(report: &Report) -> u8
     end_number(&report.end)
 }
 
-/// The exit status of a build with these reports: 0 where every job was done with status 0, else the number of the first that
+/// The exit status of a build with these reports: 0 if every job was done with status 0, else the number of the first that
 /// was not. It takes no memory.
 pub fn status(reports: &ReportList) -> u8
     ensures { result ≡ specs.number reports.now }

@@ -80,7 +80,7 @@ pub fn skipped(alloc: Global, job: u32, by: u32) -> Result<Bytes, AllocError>
     Ok(text)
 }
 
-// Adds the line of a command that was run alone and failed.
+// Adds the line of a command that was run only and failed.
 fn add_failure(alloc: Global, text: &mut Bytes, hosts: &Hosts, end: &End) -> Result<(), AllocError>
     ensures { OnOk result (text.new ≡ text.old ++ failure_text hosts.now.list end.now) }
 {
@@ -94,7 +94,7 @@ fn add_failure(alloc: Global, text: &mut Bytes, hosts: &Hosts, end: &End) -> Res
     }
 }
 
-/// The printed text of one command that was run alone: its messages, and where it failed `farm:` and why, on the sink of errors.
+/// The printed text of one command that was run only: its messages, and if it failed `farm:` and why, on the sink of errors.
 /// There is no other line.
 pub fn command_lines(alloc: Global, hosts: &Hosts, end: &End) -> Result<Printed, AllocError>
     ensures err { IfOk result (λ printed. printed.err ≡ err_messages end.now ++ failure_text hosts.now.list end.now) }
@@ -128,7 +128,7 @@ fn total_line(alloc: Global, jobs: u64, good: u64) -> Result<Bytes, AllocError>
     Ok(text)
 }
 
-/// The line of the total of so many jobs, of which so many were done with status 0.
+/// The line of the total of that many jobs, of which that many were done with status 0.
 pub fn total_of(alloc: Global, jobs: u32, good: u32) -> Result<Bytes, AllocError>
     ensures { IfOk result (λ text. text ≡ total_text_of jobs good) }
 {

@@ -6,7 +6,7 @@ use Rattle.sample_compiler.specs.declared.stops.ExpandStop.{ExpandStop}
 use Rattle.sample_compiler.specs.Expanding.{ExpandResult}
 use Rattle.sample_compiler.specs.Lookups.{Stopped}
 
--- behind the text that was made before, it came to this outcome, unless it stopped for another reason
+-- after the text that was made before, it came to this outcome, unless it stopped for another reason
 abbrev pub Came : {T : Type 0} → Bool → ExpandResult → List ℕ → Expansion → Result T ExpandStop → Type 0
 Came whole outcome before now (Ok done) = (text : List ℕ) × (outcome ≡ Ok (record { defines = now.defines; text = text }))
     × (now.text ≡ before ++ text)

@@ -36,11 +36,11 @@ pub record Expanded : Type 0 where
   pub defines : List Define
   pub text : List ℕ
 
--- a fault stands on a line of the file that it is in
+-- a fault is on a line of the file that it is in
 abbrev pub ExpandResult : Type 0
 ExpandResult = Result Expanded (ℕ × ExpandFault)
 
--- behind a text that was made
+-- after a text that was made
 abbrev pub behind_text : List ℕ → ExpandResult → ExpandResult
 behind_text text (Ok more) = Ok (record { defines = more.defines; text = text ++ more.text })
 behind_text text (Err fault) = Err fault
@@ -80,7 +80,7 @@ abbrev pub from_file : (List Define → List (List ℕ) → ExpandResult) → �
 from_file expand line defines name None = Err (line, NoFile name)
 from_file expand line defines name (Some content) = expand defines (source_lines content)
 
--- an included file, where so many may still be open at once
+-- an included file, if that many may still be open at once
 unfoldable pub include : Files → List (List ℕ) → ℕ → Includes
 include files dirs zero line defines name = Err (line, TooDeep)
 include files dirs (suc room) line defines name =

@@ -39,7 +39,7 @@ pub record WasTooLong (old now : KeeperView) (bytes : ℕ) : Type 0 where
   pub above : source_max < bytes
   pub long : IsTrue now.files.known → (path : List ℕ) × HasLength now.files.value path bytes
 
--- When a load that came to nothing may answer so. It wants memory only where no fetch had failed.
+-- When a load that failed may answer so. It is out of memory only if no fetch had failed.
 abbrev pub LoadCause : KeeperView → KeeperView → LoadFault → Type 0
 LoadCause old now Failed = Rose old.faults now.faults
 LoadCause old now (TooMuch bytes) = WasTooLong old now bytes
@@ -47,7 +47,7 @@ LoadCause old now Memory = Still old.faults now.faults
 
 -- ---- which files are fetched
 
--- the entry of a fetch of this name: none where there is no such file
+-- the entry of a fetch of this name: none if there is no such file
 abbrev pub entry_of : List ℕ → Option (List ℕ) → List Fetch
 entry_of name None = []
 entry_of name (Some content) = record { path = name; bytes = content } ∷ []
@@ -59,7 +59,7 @@ entry_at files name = entry_of name (get files name)
 abbrev pub entries_at : Files → List (List ℕ) → List Fetch
 entries_at files names = flat_map (entry_at files) names
 
--- the names that the words have looked up, each where it comes first
+-- the names that the words have looked up, each at its first place
 abbrev pub names_for : Files → List (List ℕ) → List (List ℕ)
 names_for files words = firsts_after [] (asked_names files (task_of words))
 
@@ -87,7 +87,7 @@ pub record HasAbsent (files : Files) (names : List (List ℕ)) : Type 0 where
 abbrev pub OverrunsStand : KeeperView → KeeperView → List (List ℕ) → Type 0
 OverrunsStand old now names = IsTrue now.files.known → Still old.overruns now.overruns ⊎ HasAbsent now.files.value names
 
--- want of memory hides no file that was too long
+-- out of memory hides no file that was too long
 abbrev pub HidesNone : KeeperView → KeeperView → List (List ℕ) → LoadFault → Type 0
 HidesNone old now names Failed = Unit {0}
 HidesNone old now names (TooMuch bytes) = Unit {0}

@@ -11,7 +11,7 @@ use Rattle.sample_compiler.specs.declared.stops.ExpandStop.TheVariants.{Fault, U
 abbrev pub is_listed : List (List ℕ) → List ℕ → Bool
 is_listed names name = list_any (λ listed. bytes_eq listed name) names
 
--- The files are those of the map, and maybe more: but not these names, and none at all where the map is whole.
+-- The files are those of the map, and maybe more: but not these names, and none at all if the map is whole.
 pub record Agrees (known : Files) (absent : List (List ℕ)) (whole : Bool) (files : Files) : Type 0 where
   pub there : (path content : List ℕ) → get known path ≡ Some content → get files path ≡ Some content
   pub gone : (path : List ℕ) → get known path ≡ None → (whole || is_listed absent path) ≡ true → get files path ≡ None

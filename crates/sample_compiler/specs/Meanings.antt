@@ -16,7 +16,7 @@ use Rattle.sample_compiler.specs.declared.meaning.Reading.TheVariants.{Whole, Aw
 
 -- ---- an operand of `-D`: `N=V`, or `N`, which means `N=1`
 
--- how many bytes stand in front of the first `=`
+-- how many bytes are before the first `=`
 abbrev pub name_len : List ℕ → ℕ
 name_len text = prefix_len (λ c. not (c == 61)) text
 
@@ -35,7 +35,7 @@ with_operand sign.Folder operand = meaning.Folder operand
 with_operand sign.Define operand = meaning.Define (flag_definition operand)
 with_operand sign.Output operand = meaning.Output operand
 
--- the operand stands behind the spelling, or else is the next word
+-- the operand is after the spelling, or else is the next word
 abbrev pub option_of : Sign → ℕ → List ℕ → Reading
 option_of s from word = if nat_lt from (length word) then Whole (with_operand s (drop from word)) else Awaits s
 
@@ -63,12 +63,12 @@ reading_of word = found_reading (found scc_rows word) word
 
 -- ---- all words
 
--- the last word: no operand stands behind it
+-- the last word: no operand is after it
 abbrev pub last_meaning : Reading → Meaning
 last_meaning (Whole m) = m
 last_meaning (Awaits s) = meaning.Lacking
 
--- a word in front of another one, by what that one and those behind it mean: an option may take it as its operand
+-- a word before another one, by what that one and those after it mean: an option may take it as its operand
 abbrev pub in_front : Reading → List ℕ → List Meaning → List Meaning → List Meaning
 in_front (Whole m) next with_next behind_next = m ∷ with_next
 in_front (Awaits s) next with_next behind_next = with_operand s next ∷ behind_next

@@ -56,7 +56,7 @@ text_of (Err fault) = Err fault
 abbrev pub is_preprocessed_name : List ℕ → Bool
 is_preprocessed_name name = ends_with nat_eq name (codes ".i") || ends_with nat_eq name (codes ".ii")
 
--- the input is compiled as it stands
+-- the input is compiled as it is
 abbrev pub is_ready : Product → List ℕ → Bool
 is_ready Text input = false
 is_ready (Object output) input = is_preprocessed_name input
@@ -100,7 +100,7 @@ LeavesAsked files None ran = ran ≡ bad_words
 abbrev pub SampleOf : Files → List (List ℕ) → Ran → Type 0
 SampleOf files words ran = LeavesAsked files (task_of words) ran
 
--- ---- the preprocessed text alone
+-- ---- the preprocessed text only
 
 -- the same task, but for what is made
 abbrev pub as_text : Task → Task

@@ -17,7 +17,7 @@ use Rattle.sample_compiler.specs.Words.{begins}
 
 -- ---- an included file
 
--- nothing more is looked up where the file is there
+-- nothing more is looked up if the file is there
 abbrev pub until_there : Option (List ℕ) → List (List ℕ) → List (List ℕ)
 until_there None more = more
 until_there (Some content) more = []
@@ -46,7 +46,7 @@ by_directive seeks defines None = []
 abbrev pub by_line : Seeks → List Define → List ℕ → List (List ℕ)
 by_line seeks defines bytes = if begins (λ c. c == hash) bytes then by_directive seeks defines (include_of bytes) else []
 
--- behind a line with a fault nothing is looked up
+-- after a line with a fault nothing is looked up
 abbrev pub after_line : ExpandResult → (List Define → List (List ℕ)) → List (List ℕ)
 after_line (Ok made) more = more made.defines
 after_line (Err fault) more = []
@@ -61,7 +61,7 @@ abbrev pub by_content : (List (List ℕ) → List (List ℕ)) → Option (List �
 by_content seek None = []
 by_content seek (Some content) = seek (source_lines content)
 
--- an included file, where so many may still be open at once
+-- an included file, if that many may still be open at once
 unfoldable pub by_include : Files → List (List ℕ) → ℕ → Seeks
 by_include files dirs zero defines name = []
 by_include files dirs (suc room) defines name =
@@ -74,7 +74,7 @@ by_include files dirs (suc room) defines name =
 abbrev pub by_text : Files → Task → List ℕ → List (List ℕ)
 by_text files task content = by_lines (include files task.dirs includes_max) (by_include files task.dirs includes_max) 1 task.defines (source_lines content)
 
--- what the input has looked up, where it is there
+-- what the input has looked up, if it is there
 abbrev pub by_input : Files → Task → Option (List ℕ) → List (List ℕ)
 by_input files task None = []
 by_input files task (Some content) = if is_ready task.product task.input then [] else by_text files task content
@@ -97,7 +97,7 @@ abbrev pub first_unknown : Files → List (List ℕ) → List (List ℕ) → Opt
 first_unknown known absent [] = None
 first_unknown known absent (name ∷ names) = if is_known known absent name then first_unknown known absent names else Some name
 
--- a name that isn't known stopped the lookups, or a fault behind names that are known, or want of memory
+-- a name that isn't known stopped the lookups, or a fault after names that are known, or out of memory
 abbrev pub StoppedAt : Option (List ℕ) → ExpandStop → Type 0
 StoppedAt next (Fault line fault) = next ≡ None
 StoppedAt next (Unknown path) = next ≡ Some path
@@ -110,7 +110,7 @@ Walked next (Err stop) = StoppedAt next stop
 
 -- ---- names, each once
 
--- the names that aren't listed before, each where it stands first
+-- the names that aren't listed before, each at its first place
 abbrev pub firsts_after : List (List ℕ) → List (List ℕ) → List (List ℕ)
 firsts_after before [] = []
 firsts_after before (name ∷ names) =

@@ -23,7 +23,7 @@ use Rattle.sample_compiler.specs.Samples.{LeavesAsked}
 abbrev pub own_input : List ℕ
 own_input = 0 ∷ codes ".i"
 
--- the name that stands for the object
+-- the name that means the object
 abbrev pub own_output : List ℕ
 own_output = 0 ∷ codes ".object"
 
@@ -39,7 +39,7 @@ abbrev pub is_own_output : Product → Bool
 is_own_output product.Text = false
 is_own_output (product.Object output) = bytes_eq output own_output
 
--- the operand of `-o` stands for the object
+-- the operand of `-o` means the object
 abbrev pub is_output_named : Option Task → Bool
 is_output_named (Some task) = is_own_output task.product
 is_output_named None = false
@@ -47,7 +47,7 @@ is_output_named None = false
 abbrev pub without_object : Ran → Ran
 without_object ran = record { status = ran.status; out = ran.out; err = ran.err; object = [] }
 
--- an object is left only where a word stands for it, as the operand of `-o`
+-- an object is left only if a word means it, as the operand of `-o`
 abbrev pub as_left : List Word → Option Task → Ran → Ran
 as_left words asked ran = if has_output words && is_output_named asked then ran else without_object ran
 
@@ -66,7 +66,7 @@ stream_of ran stream.Out = ran.out
 stream_of ran stream.Err = ran.err
 stream_of ran stream.Object = ran.object
 
--- Why a run comes to nothing: what the compiler leaves has a stream of so many bytes, or memory is wanting. None fails.
+-- Why a run fails: what the compiler leaves has a stream of that many bytes, or memory runs out. None fails.
 abbrev pub RunStops : Files → List Word → List ℕ → StationFault → Type 0
 RunStops files words input fault.Failed = ⊥
 RunStops files words input (fault.TooMuch stream bytes) = (ran : Ran) × StationRan files words input ran

@@ -66,7 +66,7 @@ abbrev pub derived_product : Action → List ℕ → Option Ending → Option Pr
 derived_product action input (Some ending) = Some (Object (derived_output action input ending))
 derived_product action input None = None
 
--- no `-o` stands: an object is named after its source
+-- without `-o` an object is named after its source
 abbrev pub unnamed_product : Command → List ℕ → Option Product
 unnamed_product Expand input = Some Text
 unnamed_product (Build action) input = derived_product action input (ending_of (last_name input))
@@ -88,7 +88,7 @@ abbrev pub with_product : Gathered → List ℕ → Option Product → Option Ta
 with_product g input (Some product) = Some (record { product = product; input = input; dirs = g.dirs; defines = g.defines })
 with_product g input None = None
 
--- exactly one input stands
+-- there is exactly one input
 abbrev pub with_only_input : Gathered → Command → List (List ℕ) → Option Task
 with_only_input g command [] = None
 with_only_input g command (input ∷ []) = with_product g input (product_of command input g.outputs)
@@ -102,6 +102,6 @@ with_command g (command ∷ more) = with_only_input g command g.inputs
 abbrev pub asked : Gathered → Option Task
 asked g = if g.lacking then None else with_command g g.commands
 
--- what the words ask for, of which the first names the compiler; none where they are bad
+-- what the words ask for, of which the first names the compiler; none if they are bad
 unfoldable pub task_of : List (List ℕ) → Option Task
 task_of words = asked (gathered (meanings (drop 1 words)))

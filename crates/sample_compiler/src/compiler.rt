@@ -22,7 +22,7 @@ use std::alloc::{AllocError, Global};
 /// The most files that may be open within one another below the input.
 const INCLUDES_MAX: u32 = 16;
 
-// Whether the input is compiled as it stands.
+// Whether the input is compiled as it is.
 fn is_ready(product: &Product, input: &[u8]) -> bool
     ensures { result ≡ samples.is_ready product.now input.now }
 {
@@ -74,7 +74,7 @@ pub fn task_text(sources: Sources<'_>, task: &Task) -> Result<Bytes, ExpandStop>
     }
 }
 
-// What is left where the text is this.
+// What is left if the text is this.
 fn made_of(alloc: Global, product: &Product, text: Bytes) -> Result<Ran, AllocError>
     ensures { IfOk result (MadeOf product.now text) }
 {
@@ -103,7 +103,7 @@ fn left_by(alloc: Global, files: &FileMap, task: &Task) -> Result<Ran, AllocErro
     }
 }
 
-/// What is left where this is asked for.
+/// What is left if this is asked for.
 pub fn leave(alloc: Global, files: &FileMap, asked: &Option<Task>) -> Result<Ran, AllocError>
     ensures { IfOk result (LeavesAsked files.now asked.now) }
 {
@@ -122,7 +122,7 @@ pub fn compile(alloc: Global, files: &FileMap, words: &Words) -> Result<Ran, All
     leave(alloc, files, &asked)
 }
 
-/// What the compiler leaves by the same words with `-E` as their command: the preprocessed text, on standard output. Where
+/// What the compiler leaves by the same words with `-E` as their command: the preprocessed text, on standard output. If
 /// they ask for that already, it is what `compile` gives.
 pub fn preprocess(alloc: Global, files: &FileMap, words: &Words) -> Result<Ran, AllocError>
     ensures text { IfOk result (PreprocessedOf files.now words.now) }

@@ -7,7 +7,7 @@ ghost use Rattle.sample_compiler.specs.Words as words;
 use farm_types::{Bytes, TryCopy};
 use std::alloc::AllocError;
 
-/// A name, and what stands in its place.
+/// A name, and what is in its place.
 #[derive(Debug, Drop)]
 pub struct Define {
     pub name: Bytes,

@@ -25,7 +25,7 @@ pub struct Expansion {
     pub text: Bytes,
 }
 
-// What stands behind a line and its line feed.
+// What is after a line and its line feed.
 fn behind_line(text: &[u8], len: usize) -> &[u8]
     requires { len ≤ length text.now }
     ensures { result.now ≡ drop (len + 1) text.now }
@@ -37,7 +37,7 @@ fn behind_line(text: &[u8], len: usize) -> &[u8]
     }
 }
 
-// `#include "F"`, where so many files may still be opened within this one.
+// `#include "F"`, if that many files may still be opened within this one.
 #[cycle(nested)]
 fn include(
     sources: Sources<'_>,
@@ -122,7 +122,7 @@ fn take_line(
     Ok(())
 }
 
-/// Preprocesses a text, where so many files may be opened within it, behind what was made before.
+/// Preprocesses a text, if that many files may be opened within it, after what was made before.
 #[cycle(nested)]
 pub fn expand(
     sources: Sources<'_>,

@@ -73,7 +73,7 @@ pub fn printed(alloc: Global, text: Bytes) -> Ran
     }
 }
 
-/// What the compiler leaves of words that it doesn't take: wait status 512 and a message. It fails where memory is wanting.
+/// What the compiler leaves of words that it doesn't take: wait status 512 and a message. It fails if memory runs out.
 pub fn bad_words(alloc: Global) -> Result<Ran, AllocError>
     ensures { IfOk result (λ ran. ran ≡ samples.bad_words) }
 {

@@ -31,7 +31,7 @@ pub const FETCH_MAX: u32 = SOURCE_MAX as u32;
 pub enum LoadFault {
     /// The keeper failed.
     Failed,
-    /// A file has so many bytes, more than are fetched.
+    /// A file has that many bytes, more than are fetched.
     TooMuch { bytes: u64 },
     /// Memory ran out.
     Memory,
@@ -146,7 +146,7 @@ fn load_task<K: Keeper>(alloc: Global, task: &Task, keeper: &mut K) -> Result<Fi
             None => return Ok(known.files),
         }
     }
-    // No memory holds so many names.
+    // No memory holds that many names.
     Err(LoadFault::Memory)
 }
 

@@ -15,7 +15,7 @@ use farm_types::Bytes;
 use sample_lang::FileMap;
 use std::alloc::{AllocError, Global};
 
-/// The files of one run, as far as they are known, and the folders where included ones are looked up.
+/// The files of one run, as far as they are known, and the folders in which included ones are looked up.
 #[derive(Clone, Copy)]
 pub struct Sources<'a> {
     pub alloc: Global,

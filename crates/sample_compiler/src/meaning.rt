@@ -30,7 +30,7 @@ pub enum Sign {
     Output,
 }
 
-/// What a word, with the operand behind it where it has one, is used as.
+/// What a word, with the operand after it if it has one, is used as.
 #[derive(Debug, Drop)]
 pub enum Meaning {
     Command(Command),
@@ -54,7 +54,7 @@ pub enum Reading {
     Awaits(Sign),
 }
 
-// How many bytes stand in front of the first `=`.
+// How many bytes are before the first `=`.
 fn name_len(text: &[u8]) -> usize
     ensures reach { result ≡ meanings.name_len text.now }
     ensures within { result ≤ length text.now }
@@ -101,7 +101,7 @@ fn with_operand(alloc: Global, sign: Sign, operand: &[u8]) -> Result<Meaning, Al
     }
 }
 
-// An option that has an operand: behind the spelling, or else the next word.
+// An option that has an operand: after the spelling, or else the next word.
 fn option_of(alloc: Global, sign: Sign, from: usize, word: &Bytes) -> Result<Reading, AllocError>
     ensures { IfOk result (λ reading. reading ≡ meanings.option_of sign from word.now) }
 {

@@ -15,7 +15,7 @@ use std::alloc::{AllocError, Global};
 
 /// The name of the file that holds a run's input. No word of a command line has its first byte.
 const OWN_INPUT: &[u8] = b"\0.i";
-/// The name that stands for a run's object.
+/// The name that means a run's object.
 const OWN_OUTPUT: &[u8] = b"\0.object";
 
 /// The compiler over a map of files, as a station. What it leaves is what `compile` gives over these files and the input.
@@ -26,7 +26,7 @@ pub struct SampleStation {
     overruns: u64,
 }
 
-// The text of a word: the names of the station's own stand for the input and the object.
+// The text of a word: the names of the station's own mean the input and the object.
 fn own_word(alloc: Global, word: &Word) -> Result<Bytes, AllocError>
     ensures { IfOk result (λ text. text ≡ own_word word.now) }
 {
@@ -48,7 +48,7 @@ fn spelled(alloc: Global, words: &[Word]) -> Result<Words, AllocError>
     Ok(texts)
 }
 
-// Whether the name of `-o` is the one that stands for the object.
+// Whether the name of `-o` is the one that means the object.
 fn is_output_named(asked: &Option<Task>) -> bool
     ensures { result ≡ stations.is_output_named asked.now }
 {
@@ -61,7 +61,7 @@ fn is_output_named(asked: &Option<Task>) -> bool
     }
 }
 
-// The run as these words leave it: with no object where none of them stands for it as the operand of `-o`.
+// The run as these words leave it: with no object if none of them means it as the operand of `-o`.
 fn as_left(alloc: Global, words: &[Word], asked: &Option<Task>, mut ran: Ran) -> Ran
     ensures { result ≡ stations.as_left words.now asked.now ran }
 {
@@ -169,7 +169,7 @@ impl Station for SampleStation {
         ensures done { OnOk result (StationStill (station_shows self.old) (station_shows self.new)) }
         ensures cause { IfErr result (RunFault bounds.now (station_shows self.old) (station_shows self.new)) }
 
-        // A run that gives too much is one that the compiler leaves, with a stream of just so many bytes.
+        // A run that gives too much is one that the compiler leaves, with a stream of exactly that many bytes.
         ensures stops { IfErr result (RunStops (station_files self.new) words.now input.now) }
         // A run that gives too much counts once, and no other counts.
         ensures count { (station_shows self.new).overruns ≡ overruns_after_run (station_shows self.old).overruns result }

@@ -17,7 +17,7 @@ pub enum ExpandFault {
 }
 
 /// Why a text wasn't preprocessed: a fault on a line of its file, a name of which it isn't known whether it is a file,
-/// or want of memory.
+/// or out of memory.
 #[derive(Debug, Drop)]
 pub enum ExpandStop {
     Fault { line: u64, fault: ExpandFault },

@@ -88,7 +88,7 @@ fn gather(alloc: Global, words: &[Bytes]) -> Result<Gathered, AllocError>
     Ok(gathered)
 }
 
-// What is to be made where `-o` names this file.
+// What is to be made if `-o` names this file.
 fn named_product(command: Command, output: &Bytes) -> Result<Option<Product>, AllocError>
     ensures { IfOk result (λ product. product ≡ tasks.named_product command output.now) }
 {
@@ -104,7 +104,7 @@ fn named_product(command: Command, output: &Bytes) -> Result<Option<Product>, Al
     }
 }
 
-// What is to be made where no file is named: the object's name is then that of the source with another ending.
+// What is to be made if no file is named: the object's name is then that of the source with another ending.
 fn unnamed_product(
     alloc: Global,
     command: Command,
@@ -171,7 +171,7 @@ fn asked(alloc: Global, gathered: Gathered) -> Result<Option<Task>, AllocError>
     }
 }
 
-// The words behind the first one, which names the compiler.
+// The words after the first one, which names the compiler.
 fn behind_name(words: &[Bytes]) -> &[Bytes]
     ensures { result.now ≡ drop 1 words.now }
 {

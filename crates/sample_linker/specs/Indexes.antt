@@ -7,7 +7,7 @@ use Rattle.sample_lang.specs.Names.{name_of}
 use Rattle.sample_linker.specs.declared.name_table.NameTable.{NameTable}
 use Rattle.sample_linker.specs.Tables.{place_in}
 
--- the table has the place of each of these names, where it stands first, and no other name
+-- the table has the place of each of these names, its first, and no other name
 abbrev pub Indexes : NameTable → List (List ℕ) → Type 0
 Indexes table names = (name : List ℕ) → place_in table name ≡ position_from (bytes_eq name) 0 names
 

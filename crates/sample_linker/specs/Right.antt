@@ -1,4 +1,4 @@
--- Which items can stand in an object or an image, and which texts are right: the same as Files says, from an item to its text.
+-- Which items can be in an object or an image, and which texts are right: the same as Files says, from an item to its text.
 use Rattle.std.specs.Prelude.{ℕ, ◌≡◌, ◌<◌, ◌^◌, List, [], ◌∷◌, ◌++◌, true}
 use Rattle.std.specs.List.{flat_map}
 use Rattle.farm_types.specs.Bytes.{line_feed}

@@ -24,7 +24,7 @@ AreSources (text ∷ texts) [] = ⊥
 
 -- ---- the equations
 
--- for each `int n = e` of the source the number of n is the value of e, where each name in e stands for its number
+-- for each `int n = e` of the source the number of n is the value of e, if each name in e means its number
 abbrev pub FitsText : Numbers → List ℕ → Type 0
 FitsText numbers text = (items : List Item) × (source : SourceOf text items) × FormsHold numbers source.forms
 

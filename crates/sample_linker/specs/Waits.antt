@@ -26,11 +26,11 @@ pub record Wakes (old new : List (Vec ℕ Global)) (seen more : List ℕ) (place
   pub kept : (other n : ℕ) → Awaits old other n → Has more n ⊎ Awaits new other n
   pub seen_kept : (n : ℕ) → Has seen n → Has more n
 
--- the definition stands at the place
+-- the definition is at the place
 abbrev pub At : List Item → ℕ → Item → Type 0
 At defined place item = (place < length defined) × (get_or defined place item ≡ item)
 
--- the definition isn't ready: its code has a name that isn't placed, and it stands in the list of that name's place
+-- the definition isn't ready: its code has a name that isn't placed, and it is in the list of that name's place
 pub record Waits (table : NameTable) (lists : List (Vec ℕ Global)) (placed : List Item) (at : ℕ) (item : Item) : Type 0 where
   pub name : List ℕ
   pub place : ℕ

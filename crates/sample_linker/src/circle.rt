@@ -82,7 +82,7 @@ fn lowest(table: &NameTable, names: &[Bytes]) -> usize
     lowest
 }
 
-/// A circle, beginning with the name that is defined first. The name is one of a definition that is left, where none can be placed.
+/// A circle, beginning with the name that is defined first. The name is one of a definition that is left, if none can be placed.
 pub fn circle_from(
     alloc: Global,
     table: &NameTable,

@@ -30,7 +30,7 @@ pub fn images_of_orders()
         → Says kinds.Image (image_of order) order }
 {}
 
-/// The definitions of a right image have numbers, and these are the same in each assignment for which each name stands for the value
+/// The definitions of a right image have numbers, and these are the same in each assignment for which each name means the value
 /// of its code.
 pub fn one_assignment()
     ensures some { (text : List ℕ) (items : List Item) → Says kinds.Image text items → (numbers : Numbers) × ItemsHold numbers items }

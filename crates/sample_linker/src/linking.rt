@@ -38,7 +38,7 @@ fn read_object(alloc: Global, file: u64, object: &[u8]) -> Result<SampleFile, Li
     }
 }
 
-// Puts items behind others.
+// Puts items after others.
 fn add_items(items: &mut Vec<Item>, more: SampleFile) -> Result<(), AllocError>
     ensures { OnOk result (items.new.items ≡ items.old.items ++ more) }
 {
@@ -68,7 +68,7 @@ fn is_definition(item: &Item) -> bool
     matches!(item, Item::Def { .. })
 }
 
-// Gives the name of an item a place, where it has none.
+// Gives the name of an item a place, if it has none.
 fn place_item(alloc: Global, table: &mut NameTable, item: &Item, place: u64) -> Result<(), LinkStop>
     ensures ok { OnOk result ((items : List Item) → Lists table.old items
         → (is_named items (names.name_of item.now) ≡ false) × Lists table.new (items ++ item.now ∷ [])) }
@@ -85,7 +85,7 @@ fn place_item(alloc: Global, table: &mut NameTable, item: &Item, place: u64) -> 
     Ok(())
 }
 
-// The places of the definitions by their names, where none is defined twice.
+// The places of the definitions by their names, if none is defined twice.
 fn place_names(alloc: Global, items: &[Item]) -> Result<NameTable, LinkStop>
     ensures once { OnOk result (doubled [] (links.definitions items.now) ≡ None) }
     ensures lists { IfOk result (λ table. Lists table (links.definitions items.now)) }
@@ -129,7 +129,7 @@ fn meet_needs(table: &NameTable, items: &[Item]) -> Result<(), LinkStop>
     Ok(())
 }
 
-// Leaves the definitions alone.
+// Leaves the definitions only.
 fn leave_definitions(items: &mut Vec<Item>)
     ensures { items.new.items ≡ links.definitions items.old.items }
 {
@@ -148,7 +148,7 @@ fn make_image(alloc: Global, objects: &[Bytes]) -> Result<Bytes, LinkStop>
     place_definitions(alloc, &table, items.as_slice())
 }
 
-/// Links objects: their definitions in one image, each behind those that it uses, or the first fault (docs/sample-linker.md).
+/// Links objects: their definitions in one image, each after those that it uses, or the first fault (docs/sample-linker.md).
 pub fn link(alloc: Global, objects: &Words) -> Linked
     ensures linked { IsLinked objects.now result }
     ensures sources { (texts : List (List ℕ)) (files : List (List Item)) → AreSources texts files → objects.now ≡ map items_text files

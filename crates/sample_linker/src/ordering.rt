@@ -43,7 +43,7 @@ fn place_all(
             None => return Ok(()),
         }
     }
-    // No memory holds so many names.
+    // No memory holds that many names.
     Err(AllocError)
 }
 

@@ -1,4 +1,4 @@
-//! The order in which definitions are placed, each behind those that it uses.
+//! The order in which definitions are placed, each after those that it uses.
 
 ghost use Rattle.std.specs.Prelude.{◌≡◌, ◌<◌, ◌++◌, ◌∷◌, ℕ, List, [], Some, None, true, OnOk, IfOk, length};
 ghost use Rattle.std.specs.List.{Contains};
@@ -32,7 +32,7 @@ pub struct Progress {
     pub(crate) waiters: Vec<Vec<usize>>,
     /// Those that are to be looked at.
     pub(crate) seen: BTreeSet<usize>,
-    /// Where the name stands in each code for which it waited last.
+    /// Where the name is in each code for which it waited last.
     pub(crate) passed: Vec<usize>,
 }
 
@@ -96,14 +96,14 @@ fn place(
     )
 }
 
-// Notes where a code was read to.
+// Notes up to where a code was read.
 fn note_place(passed: &mut Vec<usize>, at: usize, found: usize) {
     if let Some(place) = passed.get_mut(at) {
         *place = found;
     }
 }
 
-// Lets a definition wait for a name, which stands at this place in its code.
+// Lets a definition wait for a name, which is at this place in its code.
 fn let_wait(
     table: &NameTable,
     progress: &mut Progress,

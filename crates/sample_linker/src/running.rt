@@ -40,7 +40,7 @@ pub enum Value {
 /// The name whose number is asked for.
 const MAIN: &[u8] = b"main";
 
-/// The number of a name, or 0 where it has none.
+/// The number of a name, or 0 if it has none.
 pub fn number_of(numbers: &NameTable, name: &[u8]) -> u64
     ensures { result ≡ number_in numbers.now name.now }
 {

@@ -32,7 +32,7 @@ fn unknown_from(table: &NameTable, code: &[Part], from: usize) -> Option<usize>
     None
 }
 
-/// The place in a code of a name that isn't in the table. It begins to look at this place, and looks at the places before it where it finds none.
+/// The place in a code of a name that isn't in the table. It begins to look at this place, and looks at the places before it if it finds none.
 pub fn unknown_in(table: &NameTable, code: &[Part], from: usize) -> Option<usize>
     ensures bound { IfSome result (λ at. at < length code.now) }
     ensures some { (items : List Item) → Lists table.now items → IfSome result (λ at. files.is_known items (get_or code.now at parts.Add) ≡ false) }

@@ -17,13 +17,13 @@ use Rattle.sample_program.specs.declared.fetching.FetchStop.TheVariants.{Missing
 abbrev pub files_max : ℕ
 files_max = object_max
 
--- ---- what comes of fetching, where the files are told
+-- ---- what comes of fetching, if the files are told
 
 abbrev pub found_of : ℕ → List ℕ → Option (List ℕ) → Result (List ℕ) FetchStop
 found_of left name None = Err (Missing name)
 found_of left name (Some content) = if nat_le (length content) left then Ok content else Err TooLarge
 
--- the file of this name, with at most so many bytes; a name that ends in `.farm~` is no file
+-- the file of this name, with at most that many bytes; a name that ends in `.farm~` is no file
 abbrev pub outcome_of : Files → ℕ → List ℕ → Result (List ℕ) FetchStop
 outcome_of files left name = if is_reserved name then Err (Missing name) else found_of left name (get files name)
 
@@ -31,7 +31,7 @@ abbrev pub then_object : Result (List ℕ) FetchStop → (List ℕ → Result (L
 then_object (Err stop) more = Err stop
 then_object (Ok content) more = more content
 
--- the files of these names behind others, with at most so many bytes together; or the first that is missing or goes beyond
+-- the files of these names after others, with at most that many bytes together; or the first that is missing or goes beyond
 abbrev pub objects_from : Files → List (List ℕ) → ℕ → List (List ℕ) → Result (List (List ℕ)) FetchStop
 objects_from files done left [] = Ok done
 objects_from files done left (name ∷ names) =
@@ -64,14 +64,14 @@ pub record TookAll (names : List (List ℕ)) (old new : KeeperView) (contents : 
   pub calm : KeeperStill old new
 
 -- The first file that is missing has this name, which ends in `.farm~` or is no file; or the files go beyond the bound. Neither
--- comes of a fault. The keeper's faults rose; or memory was wanting, and they stand.
+-- comes of a fault. The keeper's faults rose; or memory ran out, and they stay.
 abbrev pub FetchCause : KeeperView → KeeperView → FetchStop → Type 0
 FetchCause old new (Missing name) = Still old.faults new.faults × (Rose old.overruns new.overruns ⊎ (is_reserved name ≡ true))
 FetchCause old new TooLarge = Still old.faults new.faults × Rose old.overruns new.overruns
 FetchCause old new File = Rose old.faults new.faults
 FetchCause old new Memory = Still old.faults new.faults
 
--- where the files are told, the stop is what comes of fetching them; a fault and want of memory aren't told by files
+-- if the files are told, the stop is what comes of fetching them; a fault and out of memory aren't told by files
 abbrev pub StopsSo : {T : Type 0} → Result T FetchStop → FetchStop → Type 0
 StopsSo outcome (Missing name) = outcome ≡ Err (Missing name)
 StopsSo outcome TooLarge = outcome ≡ Err TooLarge

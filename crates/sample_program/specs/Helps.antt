@@ -29,7 +29,7 @@ help =
 abbrev pub told_by : List ℕ → Option (List ℕ)
 told_by word = if bytes_eq word (codes "--help") then Some help else (if bytes_eq word (codes "--version") then Some version else None)
 
--- the words are `--help` or `--version` alone
+-- the words are `--help` or `--version` only
 abbrev pub told_text : List (List ℕ) → Option (List ℕ)
 told_text [] = None
 told_text (word ∷ []) = told_by word

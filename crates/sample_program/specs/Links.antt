@@ -36,7 +36,7 @@ use Rattle.stream_print.specs.Printing.{complaint}
 abbrev pub refused : List ℕ → Ran
 refused text = record { status = 256; out = []; err = text; object = [] }
 
--- each name behind a blank
+-- each name after a blank
 abbrev pub listed : List (List ℕ) → List ℕ
 listed names = flat_map (λ name. space ∷ name) names
 
@@ -58,13 +58,13 @@ abbrev pub run_text : RunFault → List ℕ
 run_text (BadImage line) = codes "run: bad image at line " ++ decimal line ++ codes "\n"
 run_text NoMain = codes "run: no main\n"
 
--- what linking these files prints; want of memory is no run
+-- what linking these files prints; out of memory is no run
 abbrev pub IsLinkRan : List (List ℕ) → Linked → Ran → Type 0
 IsLinkRan files (linked.Image image) ran = ran ≡ printed []
 IsLinkRan files (linked.Fault fault) ran = ran ≡ refused (fault_text files fault)
 IsLinkRan files linked.Memory ran = ⊥
 
--- what running an image prints; want of memory is no run
+-- what running an image prints; out of memory is no run
 abbrev pub IsValueRan : Value → Ran → Type 0
 IsValueRan (values.Number n) ran = ran ≡ printed (decimal n ++ codes "\n")
 IsValueRan (values.Fault fault) ran = ran ≡ refused (run_text fault)
@@ -76,7 +76,7 @@ link_puts name (linked.Image image) = record { path = name; bytes = image } ∷ 
 link_puts name (linked.Fault fault) = []
 link_puts name linked.Memory = []
 
--- what is printed where a file is missing or too large; the other stops are no run
+-- what is printed if a file is missing or too large; the other stops are no run
 abbrev pub MissedRan : FetchStop → Ran → Type 0
 MissedRan (fetches.Missing name) ran = ran ≡ refused (codes "no file " ++ name ++ codes "\n")
 MissedRan fetches.TooLarge ran = ran ≡ refused (codes "too large\n")
@@ -117,7 +117,7 @@ pub data DidLink (files : List (List ℕ)) (image : List ℕ) (old new : KeeperV
       → IsLinkRan files answer ran → DidLink files image old new ran
   missed_so : (stop : FetchStop) → MissedOne files old new stop → PutBy [] old new → MissedRan stop ran → DidLink files image old new ran
 
--- The keeper failed, or memory was wanting. Some first files were fetched, and nothing was put.
+-- The keeper failed, or memory ran out. Some first files were fetched, and nothing was put.
 pub record Stopped (files : List (List ℕ)) (old new : KeeperView) (stop : RunStop) : Type 0 where
   pub put : PutBy [] old new
   pub contents : List (List ℕ)
@@ -135,13 +135,13 @@ pub data DidRunImage (image : List ℕ) (old new : KeeperView) (ran : Ran) : Typ
 
 -- ---- the program
 
--- what a run left was printed; or what there is to print where there was none
+-- what a run left was printed; or what there is to print if there was none
 abbrev pub PrintsRan : Result Ran RunStop → SinksView → SinksView → ℕ → Type 0
 PrintsRan (Ok ran) sinks sinks_now answer = Printing no_memory_text (printed_by ran) (exit_code_of ran.status) sinks sinks_now answer
 PrintsRan (Err File) sinks sinks_now answer = Printing no_memory_text (complaint file_fault_text ∷ []) fault_status sinks sinks_now answer
 PrintsRan (Err Memory) sinks sinks_now answer = WantOf no_memory_text [] sinks sinks_now answer
 
--- the message for words that aren't right, unless memory was wanting
+-- the message for words that aren't right, unless memory ran out
 abbrev pub RefusedWords : SinksView → SinksView → ℕ → Type 0
 RefusedWords sinks sinks_now answer = PrintsRan (Ok bad_words) sinks sinks_now answer ⊎ PrintsRan (Err Memory) sinks sinks_now answer
 
@@ -155,12 +155,12 @@ pub record Prints (did : Ran → Type 0) (halted : RunStop → Type 0) (sinks si
   pub came : CameTo did halted result
   pub printed_so : PrintsRan result sinks sinks_now answer
 
--- what is done by the words behind `--link`
+-- what is done by the words after `--link`
 abbrev pub DoesLink : Option (List (List ℕ) × List ℕ) → KeeperView → KeeperView → SinksView → SinksView → ℕ → Type 0
 DoesLink (Some form) old new sinks sinks_now answer = Prints (DidLink form.0 form.1 old new) (Stopped form.0 old new) sinks sinks_now answer
 DoesLink None old new sinks sinks_now answer = (new ≡ old) × RefusedWords sinks sinks_now answer
 
--- what is done by the words behind `--run`
+-- what is done by the words after `--run`
 abbrev pub DoesRun : Option (List ℕ) → KeeperView → KeeperView → SinksView → SinksView → ℕ → Type 0
 DoesRun (Some image) old new sinks sinks_now answer = Prints (DidRunImage image old new)
     (Stopped (image ∷ []) old new) sinks sinks_now answer

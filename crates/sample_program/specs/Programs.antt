@@ -27,11 +27,11 @@ use Rattle.sample_program.specs.Puts.{PutBy, puts_of, no_memory_text, file_fault
 abbrev pub named : List (List ℕ) → List (List ℕ)
 named words = codes "scc" ∷ words
 
--- the names that the words look up over these files, in order, where one that ends in `.farm~` is no file
+-- the names that the words look up over these files, in order, if one that ends in `.farm~` is no file
 abbrev pub looked_up : Files → List (List ℕ) → List (List ℕ)
 looked_up files words = asked_names (unstaged files) (task_of (named words))
 
--- the same, each where it comes first
+-- the same, each at its first place
 abbrev pub firsts_looked_up : Files → List (List ℕ) → List (List ℕ)
 firsts_looked_up files words = names_for (unstaged files) (named words)
 
@@ -39,12 +39,12 @@ firsts_looked_up files words = names_for (unstaged files) (named words)
 abbrev pub fetches_of : Files → List (List ℕ) → List Fetch
 fetches_of files words = entries_at (unstaged files) (firsts_looked_up files words)
 
--- Where the files are told, no overrun rose, unless a name that the words look up is no file.
+-- If the files are told, no overrun rose, unless a name that the words look up is no file.
 abbrev pub OverrunsStandBy : List (List ℕ) → KeeperView → KeeperView → Type 0
 OverrunsStandBy words old new = IsTrue new.files.known
     → Still old.overruns new.overruns ⊎ HasAbsent old.files.value (looked_up old.files.value words)
 
--- The run is that of the compiler over some files: those of the keeper, where they are told, but for names that end in
+-- The run is that of the compiler over some files: those of the keeper, if they are told, but for names that end in
 -- `.farm~`. The object of one that ended well was put, and nothing else. Each file that the words look up was fetched once,
 -- and no other, and no fault rose.
 pub record DidRun (words : List (List ℕ)) (old new : KeeperView) (ran : Ran) : Type 0 where
@@ -66,7 +66,7 @@ pub record HasLong (words : List (List ℕ)) (old new : KeeperView) : Type 0 whe
 abbrev pub FileCause : List (List ℕ) → KeeperView → KeeperView → Type 0
 FileCause words old new = Rose old.faults new.faults ⊎ HasLong words old new
 
--- Memory was wanting only where nothing failed but the removal of what was being written, and it hides no file that was too long.
+-- Memory ran out only if nothing failed but the removal of what was being written, and it hides no file that was too long.
 pub record WantCause (words : List (List ℕ)) (old new : KeeperView) : Type 0 where
   pub removal : IsRemoval old.faults new.faults
   pub overruns : OverrunsStandBy words old new
@@ -84,7 +84,7 @@ pub record StoppedRun (words : List (List ℕ)) (old new : KeeperView) (stop : R
 
 -- ---- the program
 
--- The compiler ran, and what it left was printed; or the files failed; or memory was wanting before anything was put or printed.
+-- The compiler ran, and what it left was printed; or the files failed; or memory ran out before anything was put or printed.
 pub data Compiled (words : List (List ℕ)) (old new : KeeperView) (sinks sinks_now : SinksView) (answer : ℕ) : Type 0 where
   ran_so : (ran : Ran) → DidRun words old new ran
       → Printing no_memory_text (printed_by ran) (exit_code_of ran.status) sinks sinks_now answer
@@ -95,7 +95,7 @@ pub data Compiled (words : List (List ℕ)) (old new : KeeperView) (sinks sinks_
   memory_wanted : StoppedRun words old new Memory → WantOf no_memory_text [] sinks sinks_now answer
       → Compiled words old new sinks sinks_now answer
 
--- the text was printed, or memory was wanting before
+-- the text was printed, or memory ran out before
 abbrev pub Told : List ℕ → SinksView → SinksView → ℕ → Type 0
 Told text sinks sinks_now answer = Printing no_memory_text (output text ∷ []) 0 sinks sinks_now answer
     ⊎ WantOf no_memory_text [] sinks sinks_now answer

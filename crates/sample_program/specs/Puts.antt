@@ -53,7 +53,7 @@ pub record NoneFetched (old new : KeeperView) : Type 0 where
   pub fetches : Grew old.fetches new.fetches []
   pub overruns : Still old.overruns new.overruns
 
--- when a put that came to nothing may be told so
+-- when a put that failed may be told so
 abbrev pub PutStop : KeeperView → KeeperView → RunStop → Type 0
 PutStop old new File = Rose old.faults new.faults
 PutStop old new Memory = IsRemoval old.faults new.faults

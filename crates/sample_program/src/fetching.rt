@@ -37,7 +37,7 @@ impl From<AllocError> for FetchStop {
     }
 }
 
-/// Fetches a file of at most so many bytes. A name that ends in `.farm~` is no file, and isn't fetched.
+/// Fetches a file of at most that many bytes. A name that ends in `.farm~` is no file, and isn't fetched.
 pub fn fetch_file<K: Keeper>(
     alloc: Global,
     name: &Bytes,

@@ -1,4 +1,4 @@
-//! What the words behind `--link` and `--run` ask for.
+//! What the words after `--link` and `--run` ask for.
 
 ghost use Rattle.std.specs.Prelude.{ℕ, ◌≡◌, ◌≤◌, map, string_bytes, length, None, Some, MatchOption};
 ghost use Rattle.std.specs.List.{position_or_len};
@@ -11,7 +11,7 @@ use farm_types::limits::JOBS_MAX;
 /// The most files that are linked.
 const LINK_MAX: usize = JOBS_MAX;
 
-/// The word in front of the image's name.
+/// The word before the image's name.
 const OUTPUT: &str = "-o";
 
 /// What is linked, and the name of the image.
@@ -21,7 +21,7 @@ pub struct LinkForm<'a> {
     pub image: &'a String,
 }
 
-// How many words stand before the first `-o`.
+// How many words are before the first `-o`.
 fn len_before_output(words: &[String]) -> usize
     ensures len { result ≡ position_or_len is_output (map string_bytes words.now) }
     ensures within { result ≤ length words.now }
@@ -34,7 +34,7 @@ fn len_before_output(words: &[String]) -> usize
     words.len()
 }
 
-/// What the words behind `--link` ask for: 1 to `LINK_MAX` files, `-o`, and a name that doesn't end in `.farm~`.
+/// What the words after `--link` ask for: 1 to `LINK_MAX` files, `-o`, and a name that doesn't end in `.farm~`.
 pub fn link_form(words: &[String]) -> Option<LinkForm<'_>>
     ensures { MatchOption result (forms.link_form (map string_bytes words.now) ≡ None)
         (λ form. forms.link_form (map string_bytes words.now) ≡ Some (map string_bytes form.files.now, string_bytes form.image.now)) }
@@ -53,7 +53,7 @@ pub fn link_form(words: &[String]) -> Option<LinkForm<'_>>
     })
 }
 
-/// What the words behind `--run` ask for: an image.
+/// What the words after `--run` ask for: an image.
 pub fn run_form(words: &[String]) -> Option<&String>
     ensures { MatchOption result (forms.run_form (map string_bytes words.now) ≡ None)
         (λ image. forms.run_form (map string_bytes words.now) ≡ Some (string_bytes image.now)) }

@@ -24,7 +24,7 @@ The first of -c, -S and -E counts. Other words that begin with - are passed over
   --run        print the number of main in an image
 ";
 
-// What a word asks for alone.
+// What a word asks for only.
 fn told_by(word: &str) -> Option<&'static [u8]>
     ensures { MatchOption result (told_text (word.now ∷ []) ≡ None) (λ text. told_text (word.now ∷ []) ≡ Some text.now) }
 {
@@ -35,7 +35,7 @@ fn told_by(word: &str) -> Option<&'static [u8]>
     }
 }
 
-/// The text that the words ask for, where they are `--help` or `--version` alone.
+/// The text that the words ask for, if they are `--help` or `--version` only.
 pub(crate) fn told_text(words: &[String]) -> Option<&'static [u8]>
     ensures { MatchOption result (told_text (map string_bytes words.now) ≡ None) (λ text. told_text (map string_bytes words.now) ≡ Some text.now) }
 {

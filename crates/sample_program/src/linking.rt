@@ -15,7 +15,7 @@ use sample_compiler::printed;
 use sample_linker::{Linked, link, run};
 use std::alloc::Global;
 
-// What is printed where files weren't fetched.
+// What is printed if files weren't fetched.
 fn missed_ran(alloc: Global, stop: FetchStop) -> Result<Ran, RunStop>
     ensures ran { IfOk result (links.MissedRan stop) }
     ensures stop { IfErr result (links.MissedStop stop) }

@@ -35,7 +35,7 @@ pub fn refuse_words(alloc: Global) -> Result<Ran, RunStop>
     Ok(bad_words(alloc)?)
 }
 
-/// A message with a name behind it.
+/// A message with a name after it.
 pub fn name_text(alloc: Global, front: &[u8], name: &[u8]) -> Result<Bytes, AllocError>
     ensures { IfOk result (λ text. text ≡ front.now ++ name.now ++ codes "\n") }
 {
@@ -45,7 +45,7 @@ pub fn name_text(alloc: Global, front: &[u8], name: &[u8]) -> Result<Bytes, Allo
     Ok(text)
 }
 
-// Each name behind a blank.
+// Each name after a blank.
 fn put_names(text: &mut Bytes, names: &[Bytes]) -> Result<(), AllocError>
     ensures { OnOk result (text.new ≡ text.old ++ listed names.now) }
 {
@@ -115,7 +115,7 @@ fn run_text(alloc: Global, fault: RunFault) -> Result<Bytes, AllocError>
     }
 }
 
-/// The number of an image, or its fault. Want of memory has none.
+/// The number of an image, or its fault. Out of memory has none.
 pub fn value_ran(alloc: Global, value: Value) -> Result<Ran, AllocError>
     ensures { IfOk result (λ ran. links.IsValueRan value ran) }
 {

@@ -21,10 +21,10 @@ use farm_types::{Bytes, Ran, exit_code};
 use std::alloc::Global;
 use stream_print::{Piece, SinkKind, complain, finish, no_memory};
 
-/// What is printed where files could not be fetched or put.
+/// What is printed if files could not be fetched or put.
 const FILE_FAULT_TEXT: &[u8] = b"scc: file fault\n";
 
-/// What is printed where memory is wanting.
+/// What is printed if memory runs out.
 const NO_MEMORY_TEXT: &[u8] = b"scc: no memory\n";
 
 // Prints what a run left: its messages, and then its output.
@@ -117,7 +117,7 @@ fn refuse<O: Sink, E: Sink>(alloc: Global, out: &mut O, err: &mut E) -> u8
     print_ran(ran, out, err)
 }
 
-// Links by the words behind `--link`.
+// Links by the words after `--link`.
 fn link_by<K: Keeper, O: Sink, E: Sink>(
     alloc: Global,
     words: &[String],
@@ -139,7 +139,7 @@ fn link_by<K: Keeper, O: Sink, E: Sink>(
     }
 }
 
-// Runs by the words behind `--run`.
+// Runs by the words after `--run`.
 fn run_by<K: Keeper, O: Sink, E: Sink>(
     alloc: Global,
     words: &[String],
@@ -161,7 +161,7 @@ fn run_by<K: Keeper, O: Sink, E: Sink>(
     }
 }
 
-// Links or runs where the first word says so, and compiles by any other words.
+// Links or runs if the first word says so, and compiles by any other words.
 fn do_words<K: Keeper, O: Sink, E: Sink>(
     alloc: Global,
     words: &[String],
@@ -185,7 +185,7 @@ fn do_words<K: Keeper, O: Sink, E: Sink>(
 }
 
 /// The program `scc` (docs/sample-compiler.md). `words` are its arguments without its own name. It fetches the files that they
-/// look up, compiles, puts the object of a run that ended well, and prints the run's messages and then its output. Where the
+/// look up, compiles, puts the object of a run that ended well, and prints the run's messages and then its output. If the
 /// first word is `--link` or `--run` it links objects and runs images instead (docs/sample-linker.md). No put is pending, and
 /// neither sink is stopped.
 pub fn scc<K: Keeper, O: Sink, E: Sink>(

@@ -35,7 +35,7 @@ fn put_link(alloc: Global, files: &mut FileMap, number: u32) -> Result<(), Alloc
     put(alloc, files, name.as_bytes(), content.as_bytes())
 }
 
-/// A file that includes another one, and that one the next: so many, the last with an item in it.
+/// A file that includes another one, and that one the next: that many, the last with an item in it.
 pub fn chain(alloc: Global, count: u32) -> Result<FileMap, AllocError> {
     let mut files = FileMap::new(alloc);
     put(alloc, &mut files, b"c.c", b"#include \"h1\"\n")?;
@@ -47,7 +47,7 @@ pub fn chain(alloc: Global, count: u32) -> Result<FileMap, AllocError> {
     Ok(files)
 }
 
-/// The words of a command, behind the compiler's name.
+/// The words of a command, after the compiler's name.
 pub fn words_of(alloc: Global, list: &[&str]) -> Result<Words, AllocError> {
     let mut words = Words::new(alloc);
     words.try_push(Bytes::from_slice(alloc, b"scc")?)?;

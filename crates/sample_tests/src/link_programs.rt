@@ -162,7 +162,7 @@ const ROWS: &[Row] = &[
         words: &["--run", "p", "p"],
         ..BAD
     },
-    // Behind another first word they are passed over, as before.
+    // After another first word they are passed over, as before.
     Row {
         words: &["-c", "--run", "p.c"],
         err: b"line 0: no file p.c\n",
@@ -203,7 +203,7 @@ fn add_object(
     Ok(())
 }
 
-// Words that link so many objects, which are put among the files.
+// Words that link that many objects, which are put among the files.
 fn add_objects(
     alloc: Global,
     files: &mut FileMap,
@@ -219,7 +219,7 @@ fn add_objects(
     Ok(())
 }
 
-// A keeper of so many objects, and the words that link them.
+// A keeper of that many objects, and the words that link them.
 fn many_objects(alloc: Global, count: u32) -> Result<(MemKeeper, Vec<String>), AllocError>
     ensures { IfOk result (λ made. IsIdle (keeper_shows (keeper_state made.0))) }
 {
@@ -229,7 +229,7 @@ fn many_objects(alloc: Global, count: u32) -> Result<(MemKeeper, Vec<String>), A
     Ok((MemKeeper::new(files, Items::new(alloc)), words))
 }
 
-// The status where so many objects are linked, and how many puts were made.
+// The status if that many objects are linked, and how many puts were made.
 fn link_many(alloc: Global, count: u32) -> Result<(u8, usize), AllocError> {
     let (mut keeper, words) = many_objects(alloc, count)?;
     let status = status_of(alloc, words.as_slice(), &mut keeper)?;

@@ -23,7 +23,7 @@ fn object_text(alloc: Global, source: &[u8]) -> Result<Bytes, AllocError> {
     parsed_object(alloc, &parse(alloc, &source))
 }
 
-// A text, and a number behind it.
+// A text, and a number after it.
 fn put_numbered(
     alloc: Global,
     all: &mut Bytes,
@@ -35,7 +35,7 @@ fn put_numbered(
     all.try_extend(digits.as_bytes())
 }
 
-// A text, and a name behind it.
+// A text, and a name after it.
 fn put_named(all: &mut Bytes, text: &[u8], name: &Bytes) -> Result<(), AllocError> {
     all.try_extend(text)?;
     all.try_extend(name.as_slice())
@@ -98,7 +98,7 @@ fn value_text(alloc: Global, image: &[u8]) -> Result<Bytes, AllocError> {
 // Several texts, and what linking gives.
 type Linking = (&'static [&'static [u8]], &'static [u8]);
 
-// Sources, and what linking their objects gives, with the value of the image behind it.
+// Sources, and what linking their objects gives, with the value of the image after it.
 const SOURCES: &[Linking] = &[
     (
         &[b"extern int b; int main = b*(2+b);\n", b"int b = 3;\n"],

@@ -7,7 +7,7 @@ use std::process::Abort;
 use std::test::Fail;
 use workload::{Load, make};
 
-// The number of jobs, the place of one of them, its words with a blank behind each, and its source.
+// The number of jobs, the place of one of them, its words with a blank after each, and its source.
 type Row = (u32, usize, &'static [u8], &'static [u8]);
 
 const LOADS: &[Row] = &[
@@ -36,7 +36,7 @@ fn words_of(load: &Load, at: usize) -> Result<&Words, Fail> {
     }
 }
 
-// The words, with a blank behind each.
+// The words, with a blank after each.
 fn line_of(alloc: Global, words: &Words) -> Result<Bytes, Fail> {
     let mut line = Bytes::new(alloc);
     for word in words.as_slice() {

@@ -42,7 +42,7 @@ pub type Left = (u32, &'static [u8], &'static [u8], &'static [u8]);
 /// What bad words leave.
 const BAD: Left = (512, b"", b"scc: bad words\n", b"");
 
-// Words behind the compiler's name, and what they leave.
+// Words after the compiler's name, and what they leave.
 type Words = &'static [&'static str];
 
 const RUNS: &[(Words, Left)] = &[
@@ -118,7 +118,7 @@ pub fn compare<R: Abort, W: Debug>(rt: &R, ran: &Ran, want: (u32, &[u8], &[u8], 
     same_bytes(rt, ran.object.as_slice(), object, row);
 }
 
-/// What the compiler leaves by these words behind its name.
+/// What the compiler leaves by these words after its name.
 pub fn compile_by(alloc: Global, files: &FileMap, list: &[&str]) -> Result<Ran, AllocError> {
     let words = words_of(alloc, list)?;
     compile(alloc, files, &words)
@@ -154,7 +154,7 @@ fn runs(rt: HostRuntime) -> Result<(), Fail> {
     expect_text(&rt, rt.alloc(), &files)
 }
 
-// How many files stand within one another below the input, and what its text comes to.
+// How many files are within one another below the input, and what its text comes to.
 const CHAINS: &[(u32, Left)] = &[
     (16, (0, b"int a = 1;\n", b"", b"")),
     (17, (256, b"", b"line 1: includes too deep\n", b"")),

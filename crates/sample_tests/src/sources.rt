@@ -7,7 +7,7 @@ use std::alloc::{AllocError, Global};
 use std::process::Abort;
 use std::test::Fail;
 
-// A part of a code, behind a blank.
+// A part of a code, after a blank.
 fn put_part(alloc: Global, text: &mut Bytes, part: &Part) -> Result<(), AllocError> {
     match part {
         Part::Number(n) => {
@@ -31,7 +31,7 @@ fn put_code(alloc: Global, text: &mut Bytes, code: &[Part]) -> Result<(), AllocE
     Ok(())
 }
 
-// An item, with `;` behind it.
+// An item, with `;` after it.
 fn put_item(alloc: Global, text: &mut Bytes, item: &Item) -> Result<(), AllocError> {
     match item {
         Item::Extern(name) => {
@@ -70,7 +70,7 @@ fn parsed_text(alloc: Global, parsed: &Parsed) -> Result<Bytes, AllocError> {
     }
 }
 
-// The items that a source means, or its fault behind the line.
+// The items that a source means, or its fault after the line.
 fn answer_to(alloc: Global, text: &[u8]) -> Result<Bytes, AllocError> {
     let text = Bytes::from_slice(alloc, text)?;
     parsed_text(alloc, &parse(alloc, &text))
@@ -147,7 +147,7 @@ fn sources(rt: HostRuntime) -> Result<(), Fail> {
     expect_sources(&rt, rt.alloc(), SOURCES)
 }
 
-// A byte, so many times.
+// A byte, that many times.
 fn put_many(text: &mut Bytes, byte: u8, count: u32) -> Result<(), AllocError> {
     for _ in 0..count {
         text.try_push(byte)?;
@@ -155,7 +155,7 @@ fn put_many(text: &mut Bytes, byte: u8, count: u32) -> Result<(), AllocError> {
     Ok(())
 }
 
-// An item whose name has so many bytes, and whose number stands in so many parentheses.
+// An item whose name has that many bytes, and whose number is in that many parentheses.
 fn put_number(text: &mut Bytes, len: u32, depth: u32) -> Result<(), AllocError> {
     text.try_extend(b"int ")?;
     put_many(text, b'x', len)?;

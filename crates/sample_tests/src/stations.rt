@@ -131,7 +131,7 @@ fn expect_runs<R: Abort>(rt: &R, alloc: Global, all: &[Run]) -> Result<(), Fail>
     Ok(())
 }
 
-// The fault of a run, where it has one.
+// The fault of a run, if it has one.
 fn fault_on(
     alloc: Global,
     command: &str,

@@ -8,7 +8,7 @@ use sample_program::scc;
 use std::alloc::AllocError;
 use std::process::{self, ExitCode};
 
-// The words of the command line. Where one isn't UTF-8, there are none, which the compiler doesn't take.
+// The words of the command line. If one isn't UTF-8, there are none, which the compiler doesn't take.
 fn words_of(rt: &HostRuntime) -> Result<Vec<String>, AllocError> {
     Ok(match command_words(rt)? {
         Some(words) => words,
@@ -19,7 +19,7 @@ fn words_of(rt: &HostRuntime) -> Result<Vec<String>, AllocError> {
 // Runs `scc` on the program's words, and answers its exit status.
 fn run(rt: &HostRuntime) -> Result<u8, AllocError> {
     let words = words_of(rt)?;
-    let files = DiskFiles::new(*rt, own_folder(rt)?, process::id(rt.process()));
+    let files = DiskFiles::new(*rt, own_folder(rt)?, process::id(rt.process()), true);
     let mut keeper = FileKeeper::new(files);
     let mut out = StdSink::new(WaitingStream::new(*rt, rt.stdout()));
     let mut err = StdSink::new(WaitingStream::new(*rt, rt.stderr()));

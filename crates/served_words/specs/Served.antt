@@ -117,7 +117,7 @@ abbrev pub operand_of : List ℕ → Option Operand
 operand_of word =
     if bytes_eq word (codes "-B") || bytes_eq word (codes "-resource-dir") then Some Folder else
     if bytes_eq word (codes "-mllvm") then Some Flag else
-    if bytes_eq word (codes "--param") || bytes_eq word (codes "-target") then Some Setting else None
+    if bytes_eq word (codes "--param") || bytes_eq word (codes "-target") || bytes_eq word (codes "-G") then Some Setting else None
 
 -- an option of LLVM without its one or two dashes
 abbrev pub undashed : List ℕ → List ℕ

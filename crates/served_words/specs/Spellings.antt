@@ -19,7 +19,9 @@ levels = codes "-O" ∷ codes "-O0" ∷ codes "-O1" ∷ codes "-O2" ∷ codes "-
 abbrev pub link_words : List (List ℕ)
 link_words = codes "-s" ∷ codes "-static" ∷ codes "-shared" ∷ codes "-rdynamic" ∷ codes "-pie" ∷ codes "-no-pie" ∷ codes "-nopie"
     ∷ codes "-static-pie" ∷ codes "-static-libgcc" ∷ codes "-static-libstdc++" ∷ codes "-nostdlib" ∷ codes "-nostdlib++"
-    ∷ codes "-nodefaultlibs" ∷ codes "-nostartfiles" ∷ []
+    ∷ codes "-nodefaultlibs" ∷ codes "-nostartfiles" ∷ codes "-nolibc" ∷ codes "-symbolic"
+    ∷ codes "-shared-libgcc" ∷ codes "-shared-libasan" ∷ codes "-shared-libsan" ∷ codes "-static-libasan" ∷ codes "-static-liblsan"
+    ∷ codes "-static-libsan" ∷ codes "-static-libtsan" ∷ codes "-static-libubsan" ∷ []
 
 -- The words with two dashes that are let through as they stand.
 abbrev pub long_words : List (List ℕ)
@@ -35,14 +37,15 @@ specs_words = codes "--specs=nano.specs" ∷ codes "-specs=nano.specs" ∷ codes
 
 -- What a word begins with whose name and value are plain bytes.
 abbrev pub name_fronts : List (List ℕ)
-name_fronts = codes "-f" ∷ codes "-m" ∷ codes "-W" ∷ codes "-g" ∷ codes "-std=" ∷ codes "-stdlib=" ∷ codes "-rtlib="
+name_fronts = codes "-f" ∷ codes "-m" ∷ codes "-W" ∷ codes "-g" ∷ codes "-G" ∷ codes "-std=" ∷ codes "-stdlib=" ∷ codes "-rtlib="
     ∷ codes "-unwindlib=" ∷ codes "--param=" ∷ codes "--target=" ∷ codes "--std=" ∷ codes "--stdlib=" ∷ codes "--rtlib="
     ∷ codes "--unwindlib=" ∷ []
 
 -- What a word begins with whose value is only written into the object or compared with names.
 abbrev pub path_fronts : List (List ℕ)
 path_fronts = codes "-fdebug-prefix-map=" ∷ codes "-ffile-prefix-map=" ∷ codes "-fmacro-prefix-map=" ∷ codes "-fcoverage-prefix-map="
-    ∷ codes "-fdebug-compilation-dir=" ∷ codes "-frandom-seed=" ∷ codes "-Rpass=" ∷ codes "-Rpass-missed=" ∷ codes "-Rpass-analysis=" ∷ []
+    ∷ codes "-fdebug-compilation-dir=" ∷ codes "-ffile-compilation-dir=" ∷ codes "-fcoverage-compilation-dir=" ∷ codes "-frandom-seed="
+    ∷ codes "-Rpass=" ∷ codes "-Rpass-missed=" ∷ codes "-Rpass-analysis=" ∷ []
 
 -- What a word begins with whose value is a folder of a compiler's own parts.
 abbrev pub folder_fronts : List (List ℕ)

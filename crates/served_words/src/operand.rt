@@ -7,6 +7,6 @@ pub enum Operand {
     Folder,
     /// An option of the back end: `-mllvm`.
     Flag,
-    /// A name and a value: `--param`, `-target`.
+    /// A name, a number or a value: `--param`, `-target`, `-G`.
     Setting,
 }

@@ -6,7 +6,7 @@ ghost use Rattle.served_words.specs.Served.{reaches_out};
 use crate::lists::begins;
 
 /// What a word begins with that would have a compiler load or run a program, read or write a file beside its source and its object, take the next word, or compile otherwise than once. None of these is let through.
-const REACHING_FRONTS: [&str; 75] = [
+const REACHING_FRONTS: [&str; 76] = [
     "-fplugin",
     "-fpass-plugin",
     "-fmodule",
@@ -64,6 +64,7 @@ const REACHING_FRONTS: [&str; 75] = [
     "-fcodegen-data",
     "-fbasic-block-sections=list",
     "-frandomize-layout-seed-file",
+    "-fexperimental-sanitize-metadata-ignorelist",
     "-frewrite-map-file",
     "-fdepscan",
     "-fcas-",
@@ -88,6 +89,6 @@ const REACHING_FRONTS: [&str; 75] = [
 pub fn reaches_out(word: &[u8]) -> bool
     ensures { result ≡ reaches_out word.now }
 {
-    let spellings: [&str; 75] = REACHING_FRONTS;
+    let spellings: [&str; 76] = REACHING_FRONTS;
     begins(spellings.as_slice(), word)
 }

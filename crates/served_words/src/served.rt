@@ -78,7 +78,10 @@ fn operand_of(word: &[u8]) -> Option<Operand>
         Some(Operand::Folder)
     } else if word == b"-mllvm".as_slice() {
         Some(Operand::Flag)
-    } else if word == b"--param".as_slice() || word == b"-target".as_slice() {
+    } else if word == b"--param".as_slice()
+        || word == b"-target".as_slice()
+        || word == b"-G".as_slice()
+    {
         Some(Operand::Setting)
     } else {
         None

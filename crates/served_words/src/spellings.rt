@@ -49,7 +49,7 @@ const LEVELS: [&str; 15] = [
 ];
 
 /// The words for the linker that are let through, though nothing is linked.
-const LINK_WORDS: [&str; 14] = [
+const LINK_WORDS: [&str; 24] = [
     "-s",
     "-static",
     "-shared",
@@ -64,6 +64,16 @@ const LINK_WORDS: [&str; 14] = [
     "-nostdlib++",
     "-nodefaultlibs",
     "-nostartfiles",
+    "-nolibc",
+    "-symbolic",
+    "-shared-libgcc",
+    "-shared-libasan",
+    "-shared-libsan",
+    "-static-libasan",
+    "-static-liblsan",
+    "-static-libsan",
+    "-static-libtsan",
+    "-static-libubsan",
 ];
 
 /// The words with two dashes that are let through as they stand.
@@ -95,11 +105,12 @@ const SPECS_WORDS: [&str; 6] = [
 ];
 
 /// What a word begins with whose name and value are plain bytes.
-const NAME_FRONTS: [&str; 14] = [
+const NAME_FRONTS: [&str; 15] = [
     "-f",
     "-m",
     "-W",
     "-g",
+    "-G",
     "-std=",
     "-stdlib=",
     "-rtlib=",
@@ -113,12 +124,14 @@ const NAME_FRONTS: [&str; 14] = [
 ];
 
 /// What a word begins with whose value is only written into the object or compared with names.
-const PATH_FRONTS: [&str; 9] = [
+const PATH_FRONTS: [&str; 11] = [
     "-fdebug-prefix-map=",
     "-ffile-prefix-map=",
     "-fmacro-prefix-map=",
     "-fcoverage-prefix-map=",
     "-fdebug-compilation-dir=",
+    "-ffile-compilation-dir=",
+    "-fcoverage-compilation-dir=",
     "-frandom-seed=",
     "-Rpass=",
     "-Rpass-missed=",
@@ -145,7 +158,7 @@ pub fn is_level(word: &[u8]) -> bool
 pub fn is_link_word(word: &[u8]) -> bool
     ensures { result ≡ is_link_word word.now }
 {
-    let spellings: [&str; 14] = LINK_WORDS;
+    let spellings: [&str; 24] = LINK_WORDS;
     is_one(spellings.as_slice(), word)
 }
 
@@ -169,7 +182,7 @@ pub fn is_specs_word(word: &[u8]) -> bool
 pub fn has_name_front(word: &[u8]) -> bool
     ensures { result ≡ has_name_front word.now }
 {
-    let spellings: [&str; 14] = NAME_FRONTS;
+    let spellings: [&str; 15] = NAME_FRONTS;
     begins(spellings.as_slice(), word)
 }
 
@@ -177,6 +190,6 @@ pub fn has_name_front(word: &[u8]) -> bool
 pub fn has_path_front(word: &[u8]) -> bool
     ensures { result ≡ has_path_front word.now }
 {
-    let spellings: [&str; 9] = PATH_FRONTS;
+    let spellings: [&str; 11] = PATH_FRONTS;
     begins(spellings.as_slice(), word)
 }

@@ -19,7 +19,7 @@ enum Subject {
     Jobs,
 }
 
-// The word behind the program's name.
+// The word after the program's name.
 fn wanted<R: Runtime>(rt: &R) -> anyhow::Result<Option<Subject>> {
     let mut words = env::args(rt)?;
     let _program = words.next();

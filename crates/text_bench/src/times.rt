@@ -8,7 +8,7 @@ use std::time::Instant;
 
 const ROUNDS: u32 = 5;
 
-/// What is measured. Each of its calls says whether it was done. It isn't where memory ran out.
+/// What is measured. Each of its calls says whether it was done. It isn't if memory ran out.
 pub trait Measured {
     /// A plain copy of as many bytes as the task has.
     fn copy(&self, alloc: Global) -> bool;
@@ -31,7 +31,7 @@ struct Times {
 }
 
 impl Times {
-    /// How many hundredths of a copy the task takes. Where the copy takes no time it is 0.
+    /// How many hundredths of a copy the task takes. If the copy takes no time it is 0.
     fn hundredths(self) -> u64
         ensures none { self.copy ≡ 0 → result ≡ 0 }
         ensures exact { 0 < self.copy → self.task * 100 < 2 ^ 64 → result ≡ self.task * 100 / self.copy }

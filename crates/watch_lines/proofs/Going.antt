@@ -3,8 +3,7 @@ use Rattle.std.proofs.Common.{◌≡◌, ℕ, zero, suc, ◌+◌, ◌-◌, ◌�
 use Rattle.std.proofs.Common.{length, take, refl, sym, ap, ◌∙◌, subst, inl, inr, arith, append_assoc, min}
 use Rattle.std.proofs.lemmas.List.{append-nil}
 use mathlib.Core.List.{IsPrefix}
-use Rattle.farm_monitor.specs.declared.ends.Watcher.{Watcher}
-use Rattle.farm_monitor.specs.Boards.{known_rows}
+use Rattle.farm_monitor.specs.declared.progress.Progress.{Progress}
 use Rattle.std.proofs.lemmas.Bool.{and_parts, and_from, le-leb, leb-true}
 use Rattle.std.proofs.lemmas.Bool.Decides.{nat_tests}
 use Rattle.edge_traits.specs.Told.{Grew}
@@ -16,7 +15,7 @@ use Rattle.watch_lines.specs.declared.count.Count.{Count}
 use Rattle.watch_lines.specs.declared.line_end.LineEnd.{LineEnd}
 use Rattle.watch_lines.specs.declared.line_end.LineEnd.TheVariants.{Whole, SinkFault, Memory}
 use Rattle.watch_lines.specs.Lines.{watch_line, lines_text, counts_rise, are_all, lines_end}
-use Rattle.watch_lines.specs.Counts.{total, at_jobs, count_of, KnowMore, AreLooks}
+use Rattle.watch_lines.specs.Counts.{total, at_jobs, count_of, ReadOn, AreLooks}
 use Rattle.watch_lines.specs.Printed.{PartPrinted, LinePrinted, LinesCut, WatchLines, counts_told}
 
 goes-join : {a b c : SinkView} → GoesOn a b → GoesOn b c → GoesOn a c
@@ -178,78 +177,78 @@ cut-here jobs workers at lines least c old new fit some part =
 begins-on : {A : Type 0} (xs ys zs : List A) → IsPrefix xs ys → IsPrefix ys zs → IsPrefix xs zs
 begins-on xs ys zs p q = (p.0 ++ q.0, sym (append_assoc xs p.0 q.0) ∙ ap (λ all. all ++ q.0) p.1 ∙ q.1)
 
-pub know-on : (a b c : List Watcher) → KnowMore a b → KnowMore b c → KnowMore a c
-know-on [] [] c p q = q
-know-on [] (y ∷ b) c p q = absurd p
-know-on (x ∷ a) [] c p q = absurd p
-know-on (x ∷ a) (y ∷ b) [] p q = absurd q
-know-on (x ∷ a) (y ∷ b) (z ∷ c) p q = (begins-on (known_rows x) (known_rows y) (known_rows z) p.0 q.0, know-on a b c p.1 q.1)
+pub read-on : (a b c : List (List Progress)) → ReadOn a b → ReadOn b c → ReadOn a c
+read-on [] [] c p q = q
+read-on [] (y ∷ b) c p q = absurd p
+read-on (x ∷ a) [] c p q = absurd p
+read-on (x ∷ a) (y ∷ b) [] p q = absurd q
+read-on (x ∷ a) (y ∷ b) (z ∷ c) p q = (begins-on x y z p.0 q.0, read-on a b c p.1 q.1)
 
-pub know-same : (a : List Watcher) → KnowMore a a
-know-same [] = tt
-know-same (x ∷ a) = (([], append-nil (known_rows x)), know-same a)
+pub read-same : (a : List (List Progress)) → ReadOn a a
+read-same [] = tt
+read-same (x ∷ a) = (([], append-nil x), read-same a)
 
 -- looks that follow a look follow one before it, too
-looks-from : (jobs : ℕ) (a b last : List Watcher) (counts : List Count) → KnowMore a b → AreLooks jobs b counts last
+looks-from : (jobs : ℕ) (a b last : List (List Progress)) (counts : List Count) → ReadOn a b → AreLooks jobs b counts last
     → AreLooks jobs a counts last
-looks-from jobs a b last [] more looks = know-on a b last more looks
-looks-from jobs a b last (c ∷ counts) more looks = (looks.0, know-on a b looks.0 more looks.1, looks.2, looks.3)
+looks-from jobs a b last [] more looks = read-on a b last more looks
+looks-from jobs a b last (c ∷ counts) more looks = (looks.0, read-on a b looks.0 more looks.1, looks.2, looks.3)
 
 counted : ℕ → ℕ → Count
 counted ended busy = record { ended = ended; busy = busy }
 
-pub count-is : (jobs : ℕ) (c : Count) (here : List Watcher) → c.ended ≡ min jobs (total here) → c.busy ≡ at_jobs here
+pub count-is : (jobs : ℕ) (c : Count) (here : List (List Progress)) → c.ended ≡ min jobs (total here) → c.busy ≡ at_jobs here
     → c ≡ count_of jobs here
 unfolding counted
 count-is jobs c here ended busy =
     subst (λ (e : ℕ). c ≡ counted e (at_jobs here)) ended (subst (λ (b : ℕ). c ≡ counted c.ended b) busy refl)
 
--- What `WatchTells` says, with the numbers of workers and of jobs ended apart from the watchers.
-pub record Tells (jobs workers at lines least : ℕ) (first last : List Watcher) (old new : SinkView) (end : LineEnd) : Type 0 where
+-- What `WatchTells` says, with the numbers of workers and of jobs ended apart from the boards.
+pub record Tells (jobs workers at lines least : ℕ) (first last : List (List Progress)) (old new : SinkView) (end : LineEnd) : Type 0 where
   pub printed : WatchLines jobs workers at lines least old new end
   pub looks : AreLooks jobs first (counts_told jobs workers at lines least old new end printed) last
 
 -- a count, and the look at which it was taken
-pub record Look (jobs workers least : ℕ) (c : Count) (first here : List Watcher) : Type 0 where
+pub record Look (jobs workers least : ℕ) (c : Count) (first here : List (List Progress)) : Type 0 where
   pub fit : Fits jobs workers least c
-  pub more : KnowMore first here
+  pub more : ReadOn first here
   pub is : c ≡ count_of jobs here
 
-pub none-tells : (jobs workers at lines least : ℕ) (first : List Watcher) (sink : SinkView) → lines ≡ 0
+pub none-tells : (jobs workers at lines least : ℕ) (first : List (List Progress)) (sink : SinkView) → lines ≡ 0
     → Tells jobs workers at lines least first first sink sink Whole
 unfolding none-left
 none-tells jobs workers at lines least first sink none = record {
   printed = none-left jobs workers at lines least sink none;
-  looks = know-same first;
+  looks = read-same first;
 }
 
-pub last-tells : (jobs workers at lines least : ℕ) (c : Count) (first here : List Watcher) (old new : SinkView)
+pub last-tells : (jobs workers at lines least : ℕ) (c : Count) (first here : List (List Progress)) (old new : SinkView)
     → Look jobs workers least c first here → 0 < lines → ((lines == 1) || are_all jobs c) ≡ true
     → LinePrinted (watch_line at jobs c) old new Whole → Tells jobs workers at lines least first here old new Whole
 unfolding last-here
 last-tells jobs workers at lines least c first here old new look some last line = record {
   printed = last-here jobs workers at lines least c old new look.fit some last line;
-  looks = (here, look.more, look.is, know-same here);
+  looks = (here, look.more, look.is, read-same here);
 }
 
-pub cut-tells : (jobs workers at lines least : ℕ) (c : Count) (first here : List Watcher) (old new : SinkView) (end : LineEnd)
+pub cut-tells : (jobs workers at lines least : ℕ) (c : Count) (first here : List (List Progress)) (old new : SinkView) (end : LineEnd)
     → Look jobs workers least c first here → 0 < lines → LinePrinted (watch_line at jobs c) old new end → end ≢ Whole
     → Tells jobs workers at lines least first here old new end
 unfolding cut-here
 cut-tells jobs workers at lines least c first here old new Whole look some line cut = absurd (cut refl)
 cut-tells jobs workers at lines least c first here old new SinkFault look some line cut = record {
   printed = (cut-here jobs workers at lines least c old new look.fit some line.0, line.1);
-  looks = (here, look.more, look.is, know-same here);
+  looks = (here, look.more, look.is, read-same here);
 }
 cut-tells jobs workers at lines least c first here old new Memory look some line cut = record {
   printed = (cut-here jobs workers at lines least c old new look.fit some line.0, line.1);
-  looks = (here, look.more, look.is, know-same here);
+  looks = (here, look.more, look.is, read-same here);
 }
 
 -- a line was printed, and the others from a later look on
-pub one-tells : (jobs workers at lines left least later : ℕ) (c : Count) (first here again last : List Watcher)
+pub one-tells : (jobs workers at lines left least later : ℕ) (c : Count) (first here again last : List (List Progress))
     (old mid new : SinkView) (end : LineEnd) → Look jobs workers least c first here → lines ≡ left + 1 → 1 ≤ left
-    → ((lines == 1) || are_all jobs c) ≡ false → LinePrinted (watch_line at jobs c) old mid Whole → KnowMore here again
+    → ((lines == 1) || are_all jobs c) ≡ false → LinePrinted (watch_line at jobs c) old mid Whole → ReadOn here again
     → c.ended ≤ later → Tells jobs workers (at + 1) left later again last mid new end
     → Tells jobs workers at lines least first last old new end
 unfolding one-more cut-more lines-from cut-from
@@ -267,4 +266,21 @@ one-tells jobs workers at lines left least later c first here again last old mid
   printed = one-more jobs workers at lines left least c old mid new Memory look.fit one some goes line
       (lines-from jobs workers (at + 1) left later c.ended mid new Memory up rest.printed);
   looks = (here, look.more, look.is, looks-from jobs here again last (rest.printed.0.counts ++ rest.printed.0.next ∷ []) more rest.looks);
+}
+
+-- what lines tell they tell also from a lower least on
+pub tells-from : (jobs workers at lines least low : ℕ) (first last : List (List Progress)) (old new : SinkView) (end : LineEnd)
+    → low ≤ least → Tells jobs workers at lines least first last old new end → Tells jobs workers at lines low first last old new end
+unfolding lines-from cut-from
+tells-from jobs workers at lines least low first last old new Whole less tells = record {
+  printed = lines-from jobs workers at lines least low old new Whole less tells.printed;
+  looks = tells.looks;
+}
+tells-from jobs workers at lines least low first last old new SinkFault less tells = record {
+  printed = lines-from jobs workers at lines least low old new SinkFault less tells.printed;
+  looks = tells.looks;
+}
+tells-from jobs workers at lines least low first last old new Memory less tells = record {
+  printed = lines-from jobs workers at lines least low old new Memory less tells.printed;
+  looks = tells.looks;
 }

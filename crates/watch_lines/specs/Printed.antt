@@ -7,7 +7,7 @@ use Rattle.watch_lines.specs.declared.count.Count.{Count}
 use Rattle.watch_lines.specs.declared.line_end.LineEnd.{LineEnd}
 use Rattle.watch_lines.specs.declared.line_end.LineEnd.TheVariants.{Whole, SinkFault, Memory}
 use Rattle.farm_monitor.specs.declared.ends.Watcher.{Watcher}
-use Rattle.watch_lines.specs.Counts.{total, AreLooks}
+use Rattle.watch_lines.specs.Counts.{known, total, AreLooks}
 use Rattle.watch_lines.specs.Lines.{watch_line, lines_text, counts_rise, lines_end, none_says_all}
 
 -- no more jobs have ended than there are, and no more workers are at a job than there are
@@ -59,7 +59,8 @@ counts_told jobs workers at lines least old new Whole w = w.counts
 counts_told jobs workers at lines least old new SinkFault w = w.0.counts ++ w.0.next ∷ []
 counts_told jobs workers at lines least old new Memory w = w.0.counts ++ w.0.next ∷ []
 
--- Lines were printed, or cut, and each tells what these watchers knew at one look.
+-- Lines were printed, or cut, and each tells what these watchers had read at one look.
 pub record WatchTells (jobs at lines : ℕ) (old new : List Watcher) (before after : SinkView) (end : LineEnd) : Type 0 where
-  pub printed : WatchLines jobs (length old) at lines (min jobs (total old)) before after end
-  pub looks : AreLooks jobs old (counts_told jobs (length old) at lines (min jobs (total old)) before after end printed) new
+  pub printed : WatchLines jobs (length old) at lines (min jobs (total (known old))) before after end
+  pub looks : AreLooks jobs (known old)
+      (counts_told jobs (length old) at lines (min jobs (total (known old))) before after end printed) (known new)

@@ -1,7 +1,7 @@
 //! The last line, once all workers have ended.
 ghost use Rattle.std.specs.Prelude.{◌≡◌, ◌+◌, ◌^◌, ◌<◌, ◌≤◌, ◌++◌, [], length, map, true, decimal, codes};
 ghost use Rattle.farm_monitor.specs.Boards.{board_watched};
-ghost use Rattle.watch_lines.specs.Counts.{count_of, KnowMore};
+ghost use Rattle.watch_lines.specs.Counts.{known, count_of, ReadOn};
 ghost use Rattle.watch_lines.specs.Lines.{are_all, last_line, last_text};
 ghost use Rattle.watch_lines.specs.Texts.{text_of};
 ghost use Rattle.watch_lines.specs.Printed.{LinePrinted};
@@ -39,8 +39,8 @@ pub fn watch_last<E: Sink>(
 ) -> (LineEnd, bool)
     requires few { length watchers.old < 2 ^ 32 }
     ensures same { map board_watched watchers.new ≡ map board_watched watchers.old }
-    ensures more { KnowMore watchers.old watchers.new }
-    ensures told { result.1 ≡ true → (told ≡ true) × (are_all jobs (count_of jobs watchers.new) ≡ true) }
+    ensures read { ReadOn (known watchers.old) (known watchers.new) }
+    ensures told { result.1 ≡ true → (told ≡ true) × (are_all jobs (count_of jobs (known watchers.new)) ≡ true) }
     ensures printed { LinePrinted (last_text jobs result.1) (E.shows err.old) (E.shows err.new) result.0 }
 {
     let count = count_rows(watchers, jobs);

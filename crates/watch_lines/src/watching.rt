@@ -2,7 +2,7 @@
 ghost use Rattle.std.specs.Prelude.{◌≡◌, ◌+◌, ◌==◌, ◌^◌, ◌<◌, ◌≤◌, ◌||◌, [], length, map};
 ghost use Rattle.edge_traits.specs.Told.{Grew};
 ghost use Rattle.farm_monitor.specs.Boards.{board_watched};
-ghost use Rattle.watch_lines.specs.Counts.{total, KnowMore};
+ghost use Rattle.watch_lines.specs.Counts.{known, total, ReadOn};
 ghost use Rattle.watch_lines.specs.Lines.{watch_line, are_all};
 ghost use Rattle.watch_lines.specs.Printed.{LinePrinted, WatchTells};
 
@@ -32,8 +32,8 @@ const PAUSES: u32 = 100;
 fn pause_on<C: Clock>(clock: &mut C, watchers: &mut [Watcher], jobs: u32, pauses: u32)
     requires few { length watchers.old < 2 ^ 32 }
     ensures same { map board_watched watchers.new ≡ map board_watched watchers.old }
-    ensures rises { total watchers.old ≤ total watchers.new }
-    ensures more { KnowMore watchers.old watchers.new }
+    ensures rises { total (known watchers.old) ≤ total (known watchers.new) }
+    ensures read { ReadOn (known watchers.old) (known watchers.new) }
     ensures paused { Grew (C.shows clock.old).moments (C.shows clock.new).moments [] }
 {
     if pauses == 0 {

@@ -1,7 +1,6 @@
 -- Which commands of gcc want a word that has the preprocessed text name its folder.
 use Rattle.std.specs.Prelude.{ℕ, Bool, false, not, ◌&&◌, ◌||◌, nat_eq, List, [], ◌∷◌, codes}
 use Rattle.std.specs.List.{list_any, starts_with}
-use Rattle.arg_scan.specs.Names.{last_name}
 use Rattle.whole_command.specs.Clang.{asks_debug}
 
 -- The name of gcc or g++ begins at some place of the name.
@@ -23,7 +22,6 @@ abbrev pub settles_marks : List (List ℕ) → Bool
 settles_marks words = list_any says_marks words
 
 -- gcc's command for link-time optimisation without debug information that doesn't say whether the text names its folder
-abbrev pub needs_marks : List (List ℕ) → Bool
-needs_marks [] = false
-needs_marks (program ∷ arguments) =
-    is_gcc (last_name program) && (asks_link_time arguments && (not (asks_debug arguments) && not (settles_marks arguments)))
+abbrev pub needs_marks : List ℕ → List (List ℕ) → Bool
+needs_marks driver words =
+    is_gcc driver && (asks_link_time words && (not (asks_debug words) && not (settles_marks words)))

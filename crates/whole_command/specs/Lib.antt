@@ -6,5 +6,6 @@ pub mod Held
 pub mod Outputs
 pub mod Passed
 pub mod Programs
+pub mod SourceText
 pub mod Starts
 pub mod Stations

@@ -4,23 +4,16 @@ ghost use Rattle.std.specs.Prelude.{◌≡◌};
 ghost use Rattle.whole_command.specs.Gcc.{asks_link_time, is_gcc, is_link_time, needs_marks, says_marks, settles_marks};
 
 use crate::clang::asks_debug;
-use arg_scan::last_name;
 use farm_types::Bytes;
 
-/// Whether a command wants `-fworking-directory`, by which the preprocessed text names the folder: it is gcc's with `-flto`, and says nothing of it.
+/// Whether a command wants `-fworking-directory`, by which the preprocessed text names the folder: its driver is gcc, and it has `-flto` and says nothing of it.
 ///
 /// Without that word gcc writes the folder that it runs in, which is a new one for each run on a host. With `-g` it is on by itself, and gcc would record the
 /// word in the object.
-pub fn needs_marks(words: &[Bytes]) -> bool
-    ensures { result ≡ needs_marks words.now }
+pub fn needs_marks(driver: &[u8], words: &[Bytes]) -> bool
+    ensures { result ≡ needs_marks driver.now words.now }
 {
-    let [program, arguments @ ..] = words else {
-        return false;
-    };
-    is_gcc(last_name(program.as_slice()))
-        && asks_link_time(arguments)
-        && !asks_debug(arguments)
-        && !settles_marks(arguments)
+    is_gcc(driver) && asks_link_time(words) && !asks_debug(words) && !settles_marks(words)
 }
 
 fn asks_link_time(words: &[Bytes]) -> bool
@@ -35,8 +28,8 @@ fn settles_marks(words: &[Bytes]) -> bool
     words.iter().any(|word| says_marks(word.as_slice()))
 }
 
-// Whether a program's name has that of gcc or g++ in it.
-fn is_gcc(name: &[u8]) -> bool
+// Whether a driver's name has that of gcc or g++ in it.
+pub(crate) fn is_gcc(name: &[u8]) -> bool
     ensures { result ≡ is_gcc name.now }
 {
     match name {

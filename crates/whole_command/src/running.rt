@@ -16,13 +16,20 @@ use std::rt::Files;
 /// Runs a command as it stands, and returns its exit code.
 ///
 /// It has the standard streams, the folder and the environment of this process. Its exit code is its own, 104 if a signal ended it, and 107 if
-/// it can't be started; a line on the standard error says which signal, and why it can't.
+/// it can't be started or the system keeps no end of it; a line on the standard error says which signal, and why.
 pub fn run_whole<R: Processes + Env + Files + Eprint + AllocGlobal>(
     rt: &R,
     whole: &Whole<'_>,
 ) -> Result<u8, AllocError> {
     Ok(match status_of(rt, whole)? {
         Ok(status) => number_of(rt, name_of(whole.given, "the command"), status),
+        Err(error) if error.raw_os_error() == Some(NO_CHILD) => {
+            let program = name_of(whole.given, "the command");
+            let _ = eprintln!(rt;
+                "farm: {program}: how it ended isn't known: whoever started farm has it ignore SIGCHLD"
+            );
+            FAULT
+        }
         Err(error) => {
             let program = name_of(whole.given, "bash");
             let _ = eprintln!(rt; "farm: {program}: cannot be started: {error}");
@@ -30,6 +37,9 @@ pub fn run_whole<R: Processes + Env + Files + Eprint + AllocGlobal>(
         }
     })
 }
+
+// The number of the fault of a wait for a child of which the system keeps no end.
+const NO_CHILD: i32 = 10;
 
 // Starts a command, and waits for it.
 //

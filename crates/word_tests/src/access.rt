@@ -56,7 +56,16 @@ const RULES: &[RuleText] = &[
     ("", Err(AccessFault::BadAddress)),
     ("10.0.0.0/33", Err(AccessFault::BadBits)),
     ("10.0.0.0/", Err(AccessFault::BadBits)),
-    ("10.0.0.0/08", Err(AccessFault::BadBits)),
+    (
+        "10.0.0.0/08",
+        Ok(Rule {
+            allow: true,
+            net: 167_772_160,
+            bits: 8,
+        }),
+    ),
+    ("10.0.0.0/008", Err(AccessFault::BadBits)),
+    ("10.0.0.00/8", Err(AccessFault::BadAddress)),
     ("10.0.0.0/8/8", Err(AccessFault::BadBits)),
 ];
 

@@ -246,7 +246,7 @@ const PLACED: &[Placed] = &[
     (54, "-Wa,", Form::Joined, Effect::Listing),
     (63, "-arch", Form::Next, Effect::Local(21)),
     (64, "--", Form::Joined, Effect::Local(21)),
-    (195, "-F", Form::Joined, Effect::Strip),
+    (212, "-F", Form::Joined, Effect::Strip),
 ];
 
 fn expect_row<R: Abort>(rt: &R, row: &OptionRow, placed: &Placed) {

@@ -8,8 +8,8 @@ use std::alloc::{AllocError, Global};
 /// The bytes of a MiB.
 const MEBIBYTE: usize = 1_048_576;
 
-/// The form of the lines of a list: what stands at a line's front, what is repeated as often as there is room,
-/// and what stands before the job's number at its end.
+/// The form of the lines of a list: what is at a line's front, what is repeated as often as there is room,
+/// and what is before the job's number at its end.
 pub struct Shape {
     pub name: &'static str,
     front: &'static str,
@@ -51,7 +51,7 @@ pub const SHAPES: [Shape; 5] = [
     },
 ];
 
-// A line of at most so many bytes.
+// A line of at most that many bytes.
 fn put_job(
     text: &mut Vec<u8>,
     alloc: Global,
@@ -70,7 +70,7 @@ fn put_job(
     text.extend_from_slice(end.as_bytes())
 }
 
-/// A list of 512 jobs of this form, of at most so many MiB.
+/// A list of 512 jobs of this form, of at most that many MiB.
 pub fn jobs(alloc: Global, shape: &Shape, mebibytes: usize) -> Result<Vec<u8>, AllocError>
     requires { mebibytes ≤ 16 }
 {
@@ -87,7 +87,7 @@ pub fn jobs(alloc: Global, shape: &Shape, mebibytes: usize) -> Result<Vec<u8>, A
     Ok(text)
 }
 
-/// One job behind short comments and empty lines, of at most so many MiB.
+/// One job after short comments and empty lines, of at most that many MiB.
 pub fn comments(alloc: Global, mebibytes: usize) -> Result<Vec<u8>, AllocError>
     requires { mebibytes ≤ 16 }
 {

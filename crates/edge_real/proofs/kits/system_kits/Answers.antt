@@ -6,6 +6,6 @@ use Rattle.edge_real.proofs.kits.system_kits.Goals as goal
 pub loop-preserved : goal.loop-preserved
 loop-preserved g c = record {
   count = search rules;
-  kits = one_kit_more c.args.rt c.args.folder.now c.args.process c.loop.kits.items c.push.new.self.items _
+  kits = one_kit_more c.args.rt c.args.settings.now.folder.now c.args.settings.now.process c.loop.kits.items c.push.new.self.items _
       c.in_ok-system_kit.ensures c.loop.invariant.kits c.in_ok-push.ensures.items;
 }

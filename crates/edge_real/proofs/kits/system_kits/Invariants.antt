@@ -6,5 +6,5 @@ use Rattle.edge_real.proofs.kits.system_kits.Given as goal
 abbrev pub invariant-loop : goal.invariant-loop
 invariant-loop g l = record {
   count : vec_len l.kits ≡ l.counter;
-  kits : All (IsSystemKit l.rt l.folder l.process) l.kits.items;
+  kits : All (IsSystemKit l.rt l.settings.folder.now l.settings.process) l.kits.items;
 }

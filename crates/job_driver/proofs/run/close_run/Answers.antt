@@ -8,9 +8,9 @@ use Rattle.farm_machine.specs.Usable.{job_at}
 use Rattle.farm_cell.specs.Passes.{limits_of, seen_of}
 use Rattle.job_driver.specs.declared.workers.Reserve.{Reserve}
 use Rattle.job_driver.specs.Workers.{kit_of, reserve_of, reports_on}
-use Rattle.job_driver.specs.Driven.{JobsRan}
+use Rattle.job_driver.specs.Driven.{reports_by, JobsRan}
 use Rattle.job_driver.proofs.SettingUp.{flat-length}
-use Rattle.job_driver.proofs.Building.{all-back, none-out, all-reported, ran-of}
+use Rattle.job_driver.proofs.Building.{all-back, none-out, all-reported, own-of, ran-of}
 use Rattle.job_driver.proofs.run.close_run.Goals as goal
 
 pub close-pass-requires-clause-passes : goal.close-pass-requires-clause-passes
@@ -49,3 +49,14 @@ returns-clause-ran g c = λ jobs config before done.
     (IsNonDecreasingBy-from_sort_by_key (λ (r : Report). r.number) _ c.sort_unstable_by_key.ensures.sorted (λ a r q k. search rules))
     closed.state
     (c.in-Ok.ensures.items ∙ ap (λ zs. zs ++ c.args.run.unused.items) c.take_down.ensures.kits)))
+
+pub returns-clause-reports : goal.returns-clause-reports
+returns-clause-reports g c = λ jobs config before done worker other below.
+    let closed = c.close-pass.ensures in
+    ap (reports_by worker) c.from_vec.ensures
+    ∙ own-of done c.take_down.new.passes.items c.take_down.ensures.passes (seen_of c.close-pass.result.1) closed.legal closed.callers
+    closed.each c.gather.new.reports.items c.sort_unstable_by_key.new.self.items
+    (c.gather.ensures ∙ ap (λ (ds : List Reserve). flat_map reports_on (reverse ds)) c.take_down.ensures.reserves)
+    c.sort_unstable_by_key.ensures.permutation
+    (IsNonDecreasingBy-from_sort_by_key (λ (r : Report). r.number) _ c.sort_unstable_by_key.ensures.sorted (λ a r q k. search rules))
+    worker other below

@@ -1,4 +1,4 @@
-use Rattle.std.proofs.Common.{◌≡◌, ℕ, [], ◌∷◌, ◌++◌, length, refl, sym, ap, ◌∙◌, subst, arith}
+use Rattle.std.proofs.Common.{◌≡◌, ℕ, List, [], ◌∷◌, ◌++◌, length, refl, sym, ap, ◌∙◌, subst, arith}
 use Rattle.std.proofs.lemmas.Result.{err_from_is_err_and}
 use Rattle.edge_traits.specs.Told.{Grew}
 use Rattle.edge_traits.specs.declared.kit.Kit.{Kit}
@@ -6,8 +6,11 @@ use Rattle.job_run.proofs.Leaves.{same_peers, same_programs}
 use Rattle.farm_cell.specs.Passes.{seen_of}
 use Rattle.farm_machine.specs.Devices.{devices}
 use Rattle.farm_machine.specs.Usable.{job_at}
-use Rattle.job_driver.specs.Watching.{AfterLines}
-use Rattle.job_driver.proofs.Watching.{watched-ran, last-printed}
+use Rattle.farm_monitor.specs.declared.ends.Watcher.{Watcher}
+use Rattle.watch_lines.specs.Counts.{known, ReadOn}
+use Rattle.job_driver.specs.declared.marker.Marker.{Marker}
+use Rattle.job_driver.specs.Watching.{AfterLines, AreMarked}
+use Rattle.job_driver.proofs.Watching.{watched-ran, last-printed, rows-told, tell-to}
 use Rattle.job_driver.proofs.watched.build_watched.Goals as goal
 
 pub unreachable-requires-in_default-push : goal.unreachable-requires-in_default-push
@@ -58,9 +61,24 @@ returns-clause-printed g c =
     subst (λ (n : ℕ). AfterLines n c.in_ok-built.end after.result.1 (shows c.build_beside-done.new.err)
     (shows after.new.err) after.result.0)
     c.len.ensures after.ensures.printed in
-    last-printed (length c.args.jobs.now) c.args.workers c.args.lines after.result.1 (shows c.args.err.now)
-    (shows c.build_beside-done.new.err)
-    (shows after.new.err) c.in_ok-built.end after.result.0 c.in_ok-built.ensures.watched.printed followed
+    let rows = known c.tell_all-told.new.watchers in
+    let parts = c.into_parts-markers.ensures in
+    let many : length c.as_mut_slice.result.now ≡ c.args.workers =
+    ap length c.as_mut_slice.ensures.value ∙ ap (λ ms. length ms.items) parts.markers
+    ∙ c.build_beside-done.ensures.markers in
+    let marked = subst (λ (ms : List Marker). AreMarked c.in_ok-built.built.reports ms)
+    (sym (c.as_mut_slice.ensures.value ∙ ap (λ ms. ms.items) parts.markers)) c.in_ok-built.ensures.marked in
+    let more = subst (λ (ws : List Watcher). ReadOn (known ws) rows)
+    (c.as_mut_slice-2.ensures.value ∙ ap (λ ws. ws.items) parts.watchers) c.tell_all-told.ensures.read in
+    record {
+      rows = rows;
+      of_reports = λ yes. rows-told c.args.workers c.in_ok-built.built.reports _ c.tell_all-told.new.watchers many marked
+          (c.tell_all-told.ensures.told (after.ensures.told yes));
+      printed = last-printed (length c.args.jobs.now) c.args.workers c.args.lines rows after.result.1 (shows c.args.err.now)
+          (shows c.build_beside-done.new.err)
+          (shows after.new.err) c.in_ok-built.end after.result.0
+          (tell-to _ _ _ _ _ rows _ _ _ c.in_ok-built.ensures.watched.printed more) followed;
+    }
 
 pub returns-in_err-built-clause-undone : goal.returns-in_err-built-clause-undone
 returns-in_err-built-clause-undone g c =

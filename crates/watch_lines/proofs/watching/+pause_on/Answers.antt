@@ -1,12 +1,13 @@
-use Rattle.watch_lines.proofs.Going.{know-on, know-same}
+use Rattle.watch_lines.specs.Counts.{known}
+use Rattle.watch_lines.proofs.Going.{read-on, read-same}
 use Rattle.watch_lines.proofs.watching.+pause_on.Goals as goal
 
-pub returns-then-pauses-eq0-clause-more : goal.returns-then-pauses-eq0-clause-more
-returns-then-pauses-eq0-clause-more g t c = know-same c.args.watchers.now
+pub returns-then-pauses-eq0-clause-read : goal.returns-then-pauses-eq0-clause-read
+returns-then-pauses-eq0-clause-read g t c = read-same (known c.args.watchers.now)
 
-pub returns-else-not-are_all-clause-more : goal.returns-else-not-are_all-clause-more
-returns-else-not-are_all-clause-more g t c = c.count_rows.ensures.more
+pub returns-else-not-are_all-clause-read : goal.returns-else-not-are_all-clause-read
+returns-else-not-are_all-clause-read g t c = c.count_rows.ensures.read
 
-pub returns-then-not-are_all-clause-more : goal.returns-then-not-are_all-clause-more
-returns-then-not-are_all-clause-more g t c =
-    know-on c.args.watchers.now c.count_rows.new.watchers c.pause_on.new.watchers c.count_rows.ensures.more c.pause_on.ensures.more
+pub returns-then-not-are_all-clause-read : goal.returns-then-not-are_all-clause-read
+returns-then-not-are_all-clause-read g t c =
+    read-on (known c.args.watchers.now) (known c.count_rows.new.watchers) (known c.pause_on.new.watchers) c.count_rows.ensures.read c.pause_on.ensures.read

@@ -1,19 +1,19 @@
 use Rattle.std.proofs.Common.{◌≡◌, ◌≢◌, ℕ, List, ◌+◌, ◌-◌, ◌<◌, ◌≤◌, length, min, sym, ap, ◌∙◌, subst, arith}
 use Rattle.std.proofs.lemmas.List.{length-map}
 use Rattle.farm_monitor.specs.Boards.{board_watched}
-use Rattle.farm_monitor.specs.declared.ends.Watcher.{Watcher}
+use Rattle.farm_monitor.specs.declared.progress.Progress.{Progress}
 use Rattle.watch_lines.specs.declared.count.Count.{Count}
 use Rattle.watch_lines.specs.declared.line_end.LineEnd.TheVariants.{Whole, SinkFault, Memory}
-use Rattle.watch_lines.specs.Counts.{total, at_jobs, KnowMore}
+use Rattle.watch_lines.specs.Counts.{known, total, at_jobs, ReadOn}
 use Rattle.watch_lines.specs.Lines.{are_all}
 use Rattle.watch_lines.proofs.Going.{Look, Tells, fits, count-is, none-tells, more-left, one-tells, last-tells, cut-tells}
 use Rattle.watch_lines.proofs.watching.+watch_on.Goals as goal
 
 -- what is known of a count after a look
-look : (jobs : ℕ) (c : Count) (old here : List Watcher) → c.ended ≡ min jobs (total here) → c.busy ≡ at_jobs here → c.busy ≤ length old
-    → total old ≤ total here → KnowMore old here → Look jobs (length old) (min jobs (total old)) c old here
-look jobs c old here ended busy few rises more = record {
-  fit = fits jobs (length old) (min jobs (total old)) c (omega (arith, ended, rises)) (omega (arith, ended)) few;
+look : (jobs workers : ℕ) (c : Count) (old here : List (List Progress)) → c.ended ≡ min jobs (total here) → c.busy ≡ at_jobs here
+    → c.busy ≤ workers → total old ≤ total here → ReadOn old here → Look jobs workers (min jobs (total old)) c old here
+look jobs workers c old here ended busy few rises more = record {
+  fit = fits jobs workers (min jobs (total old)) c (omega (arith, ended, rises)) (omega (arith, ended)) few;
   more = more;
   is = count-is jobs c here ended busy;
 }
@@ -22,7 +22,7 @@ pub returns-then-left-eq0-clause-tells : goal.returns-then-left-eq0-clause-tells
 returns-then-left-eq0-clause-tells g t c =
     let old = c.args.watchers.now in
     let none : c.args.left ≡ 0 = omega (arith, c.if-left-eq0.true) in
-    let tells = none-tells c.args.jobs (length old) c.args.number c.args.left (min c.args.jobs (total old)) old
+    let tells = none-tells c.args.jobs (length old) c.args.number c.args.left (min c.args.jobs (total (known old))) (known old)
     (g.E.Sink.shows c.args.err.now) none in
     record { printed = tells.printed; looks = tells.looks }
 
@@ -33,8 +33,9 @@ returns-in-Whole-clause-tells g t c =
     let count = c.count_rows-count.result in
     let n = c.count_rows-count.ensures in
     let some : 0 < c.args.left = omega arith in
-    let tells = last-tells jobs (length old) c.args.number c.args.left (min jobs (total old)) count old c.count_rows-count.new.watchers _ _
-    (look jobs count old c.count_rows-count.new.watchers n.ended n.busy n.few n.rises n.more) some
+    let tells = last-tells jobs (length old) c.args.number c.args.left (min jobs (total (known old))) count (known old)
+    (known c.count_rows-count.new.watchers) _ _
+    (look jobs (length old) count (known old) (known c.count_rows-count.new.watchers) n.ended n.busy n.few n.rises n.read) some
     (sym c.is_last.ensures ∙ c.if-is_last.true) c.in-Whole.ensures in
     record { printed = tells.printed; looks = tells.looks }
 
@@ -54,17 +55,18 @@ returns-in-Whole-2-clause-tells g t c =
     let new = shows c.watch_on.new.err in
     let len : length again ≡ length old =
     sym (length-map again board_watched) ∙ ap length (p.same ∙ n.same) ∙ length-map old board_watched in
-    let later : count.ended ≤ min jobs (total again) = let e = n.ended in let r = p.rises in omega (arith, e, r) in
+    let later : count.ended ≤ min jobs (total (known again)) = let e = n.ended in let r = p.rises in omega (arith, e, r) in
     let left : 0 < c.args.left = omega arith in
     let goes = sym c.is_last.ensures ∙ c.if-is_last.false in
     let some : 1 ≤ c.args.left - 1 = more-left c.args.left (are_all jobs count) left goes in
     let one : c.args.left ≡ c.args.left - 1 + 1 = omega (arith, some) in
-    let from : Tells jobs (length old) (c.args.number + 1) (c.args.left - 1) (min jobs (total again)) again last mid new c.watch_on.result =
-    subst (λ (k : ℕ). Tells jobs k (c.args.number + 1) (c.args.left - 1) (min jobs (total again)) again last mid new c.watch_on.result) len
+    let from : Tells jobs (length old) (c.args.number + 1) (c.args.left - 1) (min jobs (total (known again))) (known again) (known last) mid new c.watch_on.result =
+    subst (λ (k : ℕ). Tells jobs k (c.args.number + 1) (c.args.left - 1) (min jobs (total (known again))) (known again) (known last) mid new c.watch_on.result) len
     (record { printed = rest.printed; looks = rest.looks }) in
-    let tells = one-tells jobs (length old) c.args.number c.args.left (c.args.left - 1) (min jobs (total old)) (min jobs (total again)) count
-    old read again last (shows c.args.err.now) mid new c.watch_on.result
-    (look jobs count old read n.ended n.busy n.few n.rises n.more) one some goes c.in-Whole.ensures p.more later from in
+    let tells = one-tells jobs (length old) c.args.number c.args.left (c.args.left - 1) (min jobs (total (known old))) (min jobs (total (known again))) count
+    (known old) (known read) (known again) (known last) (shows c.args.err.now) mid new c.watch_on.result
+    (look jobs (length old) count (known old) (known read) n.ended n.busy n.few n.rises n.read) one some goes c.in-Whole.ensures p.read
+    later from in
     record { printed = tells.printed; looks = tells.looks }
 
 pub returns-in-SinkFault-clause-tells : goal.returns-in-SinkFault-clause-tells
@@ -75,8 +77,9 @@ returns-in-SinkFault-clause-tells g t c =
     let n = c.count_rows-count.ensures in
     let some : 0 < c.args.left = omega arith in
     let cut : SinkFault ≢ Whole = λ whole. absurd (cc whole) in
-    let tells = cut-tells jobs (length old) c.args.number c.args.left (min jobs (total old)) count old c.count_rows-count.new.watchers _ _ SinkFault
-    (look jobs count old c.count_rows-count.new.watchers n.ended n.busy n.few n.rises n.more) some c.in-SinkFault.ensures
+    let tells = cut-tells jobs (length old) c.args.number c.args.left (min jobs (total (known old))) count (known old)
+    (known c.count_rows-count.new.watchers) _ _ SinkFault
+    (look jobs (length old) count (known old) (known c.count_rows-count.new.watchers) n.ended n.busy n.few n.rises n.read) some c.in-SinkFault.ensures
     cut in
     record { printed = tells.printed; looks = tells.looks }
 
@@ -88,7 +91,8 @@ returns-in-Memory-clause-tells g t c =
     let n = c.count_rows-count.ensures in
     let some : 0 < c.args.left = omega arith in
     let cut : Memory ≢ Whole = λ whole. absurd (cc whole) in
-    let tells = cut-tells jobs (length old) c.args.number c.args.left (min jobs (total old)) count old c.count_rows-count.new.watchers _ _ Memory
-    (look jobs count old c.count_rows-count.new.watchers n.ended n.busy n.few n.rises n.more) some c.in-Memory.ensures
+    let tells = cut-tells jobs (length old) c.args.number c.args.left (min jobs (total (known old))) count (known old)
+    (known c.count_rows-count.new.watchers) _ _ Memory
+    (look jobs (length old) count (known old) (known c.count_rows-count.new.watchers) n.ended n.busy n.few n.rises n.read) some c.in-Memory.ensures
     cut in
     record { printed = tells.printed; looks = tells.looks }

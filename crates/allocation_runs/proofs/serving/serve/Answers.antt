@@ -1,0 +1,5 @@
+use Rattle.daemon_program.proofs.Alike.{alike_always}
+use Rattle.allocation_runs.proofs.serving.serve.Goals as goal
+
+pub farmd-requires-clause-alike : goal.farmd-requires-clause-alike
+farmd-requires-clause-alike g c κs within = alike_always (λ words input left. Unit {0}) c.args.doors.now.items

@@ -1,0 +1,11 @@
+use Rattle.std.proofs.Common.{◌≡◌, ◌∙◌}
+use Rattle.daemon_program.specs.Sharing.{counts_line}
+use Rattle.daemon_program.proofs.Telling.{print_ended}
+use Rattle.daemon_program.proofs.share_printing.print_counts.Goals as goal
+
+pub returns-in-Ok : goal.returns-in-Ok
+returns-in-Ok g c =
+    let text : c.as_slice.result.now ≡ counts_line c.args.door c.args.counts.now = c.as_slice.ensures ∙ c.in-Ok.ensures in
+    let print = c.print.ensures in
+    print_ended (counts_line c.args.door c.args.counts.now) c.as_slice.result.now (g.O.Sink.shows c.args.out.now)
+    (g.O.Sink.shows c.print.new.sink) c.print.result text print.all print.part print.stopped print.goes_on print.memory

@@ -1,0 +1,110 @@
+//! The desk's own process.
+
+use crate::room::{CALLERS, DeskRoom};
+use crate::variable::{VARIABLE, variable_text};
+use desk_service::serve;
+use desk_words::Greetings;
+use slot_desk::Desk;
+use slot_table::Limits;
+use std::alloc::Global;
+use std::io::{self, ErrorKind, Read, Write};
+use std::net::{Ipv4Addr, Net, OpenListener, SocketAddr, SocketAddrV4, TcpListener};
+use std::os::fd::AsRawFd;
+use std::process::{Command, Processes, Stdio};
+use std::random::RandomSource;
+use std::rt::Clock;
+
+/// What a desk goes by.
+#[derive(Drop)]
+pub struct DeskPlan {
+    pub limits: Limits<16>,
+    /// The entries of the host list, as its print has them.
+    pub entries: Vec<Vec<u8>>,
+    /// For how many seconds a host isn't used after a failure.
+    pub period: u32,
+}
+
+/// How many bytes a token is made of.
+const TOKEN_BYTES: usize = 16;
+
+/// Is the desk: says on `out` where it is, serves its callers until `parent` ends, and then ends the command: the process that the parent has named, or
+/// if it had no time for that, whatever has the run's variable.
+///
+/// # Errors
+/// The limits aren't right, there is no port, or no random bytes; or memory is wanting.
+pub fn serve_desk<
+    R: Net + Processes + RandomSource + Clock + Copy + Drop,
+    P: Read + AsRawFd + Drop,
+    W: Write,
+>(rt: R, alloc: Global, parent: P, out: &mut W, plan: DeskPlan) -> io::Result<()>
+where
+    R::Listener: AsRawFd,
+    R::Stream: AsRawFd,
+{
+    if !plan.limits.are_valid() {
+        return Err(io::Error::from(ErrorKind::InvalidInput));
+    }
+    let mut desk: Desk<16> = Desk::new(alloc, plan.limits, plan.period, CALLERS)?;
+    let greetings = Greetings::new(alloc, token(&rt, alloc)?)?;
+    let place = SocketAddr::V4(SocketAddrV4::new(Ipv4Addr::LOCALHOST, 0));
+    let listener = TcpListener::bind(&rt, place)?;
+    let port = listener.local_addr()?.port();
+    let mut room = DeskRoom::new(rt, alloc, listener, parent, plan.entries)?;
+    let line = format!(in alloc; "{port}:{}\n", greetings.token)?;
+    out.write_all(line.as_bytes())?;
+    serve(&mut desk, &greetings, &mut room);
+    match room.command() {
+        Some(process) => stop(&rt, alloc, process),
+        None => stop_unnamed(&rt, alloc, port, greetings.token.as_str()),
+    }
+}
+
+fn token<R: RandomSource>(rt: &R, alloc: Global) -> io::Result<String> {
+    let mut bytes = [0u8; TOKEN_BYTES];
+    rt.fill_bytes(&mut bytes)?;
+    Ok(hex::encode(alloc, bytes.as_slice())?)
+}
+
+// Asks a process to end, as `kill` does.
+fn stop<R: Processes>(rt: &R, alloc: Global, process: u32) -> io::Result<()> {
+    run_script(
+        rt,
+        alloc,
+        "kill -TERM \"$0\"",
+        format!(in alloc; "{process}")?.as_str(),
+    )
+}
+
+/// The script that ends whatever has a word in its environment. It looks for a second: what is being started has it only then.
+const STOP_ALL: &str = "for time in 1 2 3 4 5; do
+  for file in $(grep -lF \"$0\" /proc/[0-9]*/environ); do
+    file=${file#/proc/}
+    kill -TERM \"${file%/environ}\"
+  done
+  sleep 0.2
+done";
+
+// Ends the command, whose process the parent had no time to name: it has just begun.
+fn stop_unnamed<R: Processes>(rt: &R, alloc: Global, port: u16, token: &str) -> io::Result<()> {
+    let value = variable_text(alloc, port, token)?;
+    run_script(
+        rt,
+        alloc,
+        STOP_ALL,
+        format!(in alloc; "{VARIABLE}={value}")?.as_str(),
+    )
+}
+
+// Runs a script of the shell to its end. Its one word is `$0`.
+fn run_script<R: Processes>(rt: &R, alloc: Global, script: &str, word: &str) -> io::Result<()> {
+    let mut command = Command::new(alloc, "sh")?;
+    command.arg("-c")?;
+    command.arg(script)?;
+    command.arg(word)?;
+    command
+        .stdin(Stdio::null())
+        .stdout(Stdio::null())
+        .stderr(Stdio::null());
+    command.status(rt)?;
+    Ok(())
+}

@@ -1,0 +1,111 @@
+// The slot that a compile command is lent by the desk of a shared run.
+use crate::settings::HOSTS;
+use desk_real::{Granted, Seat, SharedRun, ask};
+use desk_words::{Asked, Told};
+use edge_real::variable;
+use farm_types::Host;
+use farm_words::lookup;
+use host_list::parse;
+use host_turns::only;
+use std::alloc::AllocError;
+use std::net::TcpStream;
+
+/// Where a command is done by the slot that it was lent.
+#[derive(Clone, Copy, PartialEq, Eq)]
+pub enum Lent {
+    /// Here, though it asked for a host.
+    Here,
+    /// Here, by an entry of the host list that is this machine.
+    Local,
+    /// By a host.
+    Host,
+}
+
+/// A slot that was lent, until it is left.
+#[derive(Drop)]
+pub struct SharedSlot {
+    seat: Seat<TcpStream>,
+    pub lent: Lent,
+}
+
+impl SharedSlot {
+    /// Gives it back, and says whether the exchange with its host broke.
+    pub fn leave(self, has_broken: bool) {
+        self.seat
+            .leave(if has_broken { Told::Broke } else { Told::Done });
+    }
+}
+
+/// Waits for a slot of this run: a local one if the command is done here anyway. Then the variables have the entry only that was lent, or none. None if the
+/// command goes on without the desk, which is told.
+pub fn share_slot(
+    rt: &HostRuntime,
+    run: &SharedRun<'_>,
+    is_here: bool,
+    variables: &mut Vec<(String, String)>,
+) -> Result<Option<SharedSlot>, AllocError> {
+    let alloc = rt.alloc();
+    let asked = match (run.is_within, is_here) {
+        (true, _) => Asked::Within,
+        (false, true) => Asked::Local,
+        (false, false) => Asked::Hosts,
+    };
+    let Some((granted, seat)) = ask(rt, alloc, run, asked)? else {
+        tell_missing(rt)?;
+        return Ok(None);
+    };
+    match granted {
+        Granted::Alone => Ok(None),
+        Granted::Here => {
+            set_hosts(variables, String::new(alloc));
+            let lent = Lent::Here;
+            Ok(Some(SharedSlot { seat, lent }))
+        }
+        Granted::Host(entry) => {
+            let text = lookup(variables.as_slice(), HOSTS).unwrap_or("");
+            let Some(made) = only(alloc, text.as_bytes(), entry.as_slice())? else {
+                tell_other(rt)?;
+                return Ok(None);
+            };
+            let is_local = entry.as_slice().starts_with(b"localhost/");
+            let text = String::from_utf8(made.into_vec()).unwrap_or(String::new(alloc));
+            set_hosts(variables, text);
+            let lent = if is_local { Lent::Local } else { Lent::Host };
+            Ok(Some(SharedSlot { seat, lent }))
+        }
+    }
+}
+
+// Another text of the host list.
+fn set_hosts(variables: &mut Vec<(String, String)>, text: String) {
+    for (name, value) in variables.iter_mut() {
+        if name.as_str() == HOSTS {
+            *value = text;
+            return;
+        }
+    }
+}
+
+// Whether lines that tell of hosts are wanted.
+fn is_told(rt: &HostRuntime) -> Result<bool, AllocError> {
+    let value = variable(rt, "FARM_NOTICES")?;
+    Ok(value.as_ref().map(|value| value.as_str()) != Some("0"))
+}
+
+fn tell_missing(rt: &HostRuntime) -> Result<(), AllocError> {
+    if is_told(rt)? {
+        let _ = eprintln!(rt;
+            "farm: farm share doesn't answer: this command takes a slot by itself"
+        );
+    }
+    Ok(())
+}
+
+fn tell_other(rt: &HostRuntime) -> Result<(), AllocError> {
+    if is_told(rt)? {
+        let _ = eprintln!(rt;
+            "farm: farm share has another host list: this command takes a slot by itself"
+        );
+    }
+    Ok(())
+}
