@@ -5,3 +5,4 @@ pub mod Labels
 pub mod Laws
 pub mod Outputs
 pub mod Reading
+pub mod StandardInput

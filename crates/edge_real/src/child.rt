@@ -12,7 +12,7 @@ use crate::command::{
 use crate::counting::raise;
 use crate::notices::{tell_overrun, tell_signal, tell_unserved};
 use crate::refusing::refusal_of;
-use crate::run_folder::{RunFolder, SharedRemoval};
+use crate::run_folder::{RunFolder, SharedNotes};
 use crate::run_watch::{RunWatch, Unwatched, have_descriptors};
 use crate::running::{Watched, object_left, of_any_kind, of_asked_kind, run_command, run_watched};
 use edge_traits::{Bounds, Station, StationFault, has_output};
@@ -49,8 +49,8 @@ struct Service<W> {
     rules: ServingRules,
     /// The folder of this process, from which its programs may be named.
     here: String,
-    /// Where the removal of a run's folder is left, if it isn't the station's own.
-    removal: Option<SharedRemoval>,
+    /// Where the folder of a run is left to a door, if there is one.
+    notes: Option<SharedNotes>,
     watch: W,
 }
 
@@ -96,13 +96,13 @@ impl<R: Processes + rt::Files<File = File>> ChildStation<R, Unwatched> {
 
 impl<R: Processes + rt::Files<File = File>, W> ChildStation<R, W> {
     /// A station that runs what others send, by these rules. `here` is the folder of this process: a program that is named by a path from there
-    /// is found, though its run is in another. The removal of a run's folder may be left to a door.
+    /// is found, though its run is in another. A door may share the notes, and removes the folders of runs then.
     pub fn serving(
         rt: R,
         folder: String,
         here: String,
         rules: ServingRules,
-        removal: Option<SharedRemoval>,
+        notes: Option<SharedNotes>,
         watch: W,
     ) -> ChildStation<R, W>
         ensures view { station_view result ≡ counted_station 0 0 }
@@ -116,7 +116,7 @@ impl<R: Processes + rt::Files<File = File>, W> ChildStation<R, W> {
             service: Some(Service {
                 rules,
                 here,
-                removal,
+                notes,
                 watch,
             }),
             faults: 0,
@@ -154,6 +154,7 @@ impl<R: Processes + rt::Files<File = File> + RandomSource + Eprint + Clock, W: R
             input,
             bounds,
         };
+        note_asked(&self.service);
         let ran = run_served(&self.rt, self.folder.as_str(), &self.service, alloc, &task);
         if let Ok(ran) = &ran {
             tell_signal(&self.rt, words, ran.status);
@@ -168,6 +169,19 @@ impl<R: Processes + rt::Files<File = File> + RandomSource + Eprint + Clock, W: R
             Err(StationFault::Memory) => {}
         }
         ran
+    }
+}
+
+/// Notes for a door that this station is asked for a run.
+fn note_asked<W>(service: &Option<Service<W>>) {
+    if let Some(
+        Service {
+            notes: Some(notes),
+            ..
+        },
+    ) = service
+    {
+        notes.note_asked();
     }
 }
 
@@ -265,7 +279,7 @@ fn run_for_others<
         bounds,
     } = *task;
     have_descriptors(rt, &service.watch);
-    let folder = RunFolder::create(rt, alloc, folder, &service.removal)?;
+    let folder = RunFolder::create(rt, alloc, folder, &service.notes)?;
     let _source = input_file(&folder, words, input)?;
     let path = output_path(&folder, words)?;
     let command = command_in(alloc, words, folder.path(), service.here.as_str())?;
@@ -304,8 +318,8 @@ fn run_with_files<R: Processes + rt::Files<File = File> + RandomSource + Eprint>
         input,
         bounds,
     } = *task;
-    let removal = None;
-    let folder = RunFolder::create(rt, alloc, folder, &removal)?;
+    let notes = None;
+    let folder = RunFolder::create(rt, alloc, folder, &notes)?;
     let source = input_file(&folder, words, input)?;
     let path = output_path(&folder, words)?;
     let command = command_of(alloc, words, path_of(&source), path_of(&path))?;

@@ -7,10 +7,10 @@ ghost use Rattle.edge_real.specs.Views.{door_link_view, door_view, counted_door,
 
 use crate::counting::raise;
 use crate::door_link::DoorLink;
-use crate::notices::{tell_closed, tell_door_end, tell_unshared};
+use crate::notices::{Lookup, tell_closed, tell_door_end, tell_unshared};
 use crate::pending::Pending;
 use crate::room::{Room, SharedRoom, Wants};
-use crate::run_folder::{SharedRemoval, carry_out};
+use crate::run_folder::{SharedNotes, remove_left};
 use crate::run_watch::{DoorWatch, SharedWatch};
 use crate::waiting_room::{WaitingRoom, ipv4_of};
 use access_list::AccessList;
@@ -38,7 +38,8 @@ pub struct TcpDoor<R, L, S> {
     listener: Option<L>,
     room: Option<SharedRoom<L, S>>,
     refusal: Option<Error>,
-    removal: Option<SharedRemoval>,
+    notes: Option<SharedNotes>,
+    has_cache: bool,
     watch: Option<SharedWatch<R, L, S>>,
     faults: u64,
 }
@@ -63,7 +64,8 @@ impl<R: Eprint + Net> TcpDoor<R, R::Listener, R::Stream> {
             listener,
             room,
             refusal,
-            removal: None,
+            notes: None,
+            has_cache: false,
             watch: None,
             faults: 0,
         }
@@ -81,7 +83,8 @@ impl<R: Eprint, L: OpenListener, S> TcpDoor<R, L, S> {
             listener: None,
             room: None,
             refusal: None,
-            removal: None,
+            notes: None,
+            has_cache: false,
             watch: None,
             faults: 0,
         }
@@ -103,18 +106,21 @@ impl<R: Eprint, L: OpenListener, S> TcpDoor<R, L, S> {
             listener: another(&self.rt, &self.listener),
             room,
             refusal: None,
-            removal: None,
+            notes: None,
+            has_cache: false,
             watch: None,
             faults: 0,
         }
     }
 
-    /// The same door, which carries this removal out when it leaves a connection, before the peer is told that nothing more comes.
-    pub fn removing(mut self, removal: SharedRemoval) -> TcpDoor<R, L, S>
+    /// The same door, which shares the notes of its station. When it leaves a connection it removes the folder of the run, before it shuts the sending
+    /// side. If it has a cache, its line says whether the answer came from there.
+    pub fn noting(mut self, notes: SharedNotes, has_cache: bool) -> TcpDoor<R, L, S>
         ensures view { door_view result ≡ door_view self }
         ensures listener { is_listening result ≡ is_listening self }
     {
-        self.removal = Some(removal);
+        self.notes = Some(notes);
+        self.has_cache = has_cache;
         self
     }
 
@@ -208,8 +214,19 @@ where
         ensures listener { is_listening self.new ≡ is_listening self.old }
         ensures faults { (door_view self.new).faults ≡ (door_view self.old).faults }
     {
-        carry_out(&self.rt, &self.removal);
-        link.end(&self.rt);
+        let lookup = lookup_of(&self.notes, self.has_cache);
+        remove_left(&self.rt, &self.notes);
+        link.end(&self.rt, lookup);
+    }
+}
+
+/// What the look into the cache came to, as the station noted. None if there is no cache.
+fn lookup_of(notes: &Option<SharedNotes>, has_cache: bool) -> Option<Lookup> {
+    let was_asked = notes.as_ref()?.take_asked();
+    match (has_cache, was_asked) {
+        (false, _) => None,
+        (true, true) => Some(Lookup::Miss),
+        (true, false) => Some(Lookup::Hit),
     }
 }
 

@@ -5,7 +5,7 @@ ghost use Rattle.edge_traits.specs.Links.{IsNew, moved_none};
 ghost use Rattle.edge_real.specs.Counts.{call_faults};
 ghost use Rattle.edge_real.specs.Views.{door_link_view, door_stream_of};
 
-use crate::notices::{Leaving, Visit, tell_visit};
+use crate::notices::{Leaving, Lookup, Visit, tell_visit};
 use crate::pending::Pending;
 use crate::retrying::read_by;
 use crate::tcp::TcpLink;
@@ -68,13 +68,14 @@ impl<R: Drop, S: Read + OpenStream + Drop> DoorLink<R, S> {
     ///
     /// A socket that is closed over unread bytes is reset, and what its peer has not read by then is lost. So where bytes were sent the sending
     /// side is shut, and what the peer still sends is read until its end, for at most `LINGER_MILLIS` in all.
-    pub(crate) fn end<Q: Eprint + Clock>(self, rt: &Q) {
+    pub(crate) fn end<Q: Eprint + Clock>(self, rt: &Q, lookup: Option<Lookup>) {
         let exchange = self.link.taken_in();
         let visit = Visit {
             peer: &self.peer,
             leaving: self.leaving,
             was_given: exchange.asked.bytes > 0,
             exchange: Some(exchange),
+            lookup,
             begun: self.link.begun(),
         };
         tell_visit(rt, &visit);

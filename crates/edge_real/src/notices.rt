@@ -136,6 +136,13 @@ pub enum Leaving {
     Displaced,
 }
 
+/// Whether an answer came from the cache.
+#[derive(Clone, Copy, PartialEq, Eq)]
+pub enum Lookup {
+    Hit,
+    Miss,
+}
+
 /// A connection that ends.
 #[derive(Drop)]
 pub struct Visit<'a> {
@@ -145,12 +152,28 @@ pub struct Visit<'a> {
     pub was_given: bool,
     /// What passed, where a door read it.
     pub exchange: Option<Exchange<'a>>,
+    /// What the look into the cache came to, if the door has one.
+    pub lookup: Option<Lookup>,
     /// The moment of the monotonic clock when it began.
     pub begun: Duration,
 }
 
-/// The exchange, of a connection that a door read. Of another `denied`, `sent nothing` or `sent no whole request`, and `, left for another` behind that
-/// where its place was wanted.
+impl Visit<'_> {
+    // What is said of the cache. Only an answer of status 0 is ever in it, so another without a run is no hit.
+    fn lookup_text(&self) -> &'static str {
+        let status = self
+            .exchange
+            .and_then(|exchange| exchange.answered.status());
+        match (self.lookup, status) {
+            (Some(Lookup::Miss), _) => ", miss",
+            (Some(Lookup::Hit), Some(0)) => ", hit",
+            _ => "",
+        }
+    }
+}
+
+/// The exchange and what the look into the cache came to, of a connection that a door read. Of another `denied`, `sent nothing` or
+/// `sent no whole request`, and then `, left for another` if its place was wanted.
 impl Display for Visit<'_> {
     fn fmt<W: fmt::Write>(&self, f: &mut Formatter<W>) -> fmt::Result {
         if self.leaving == Leaving::Denied {
@@ -158,7 +181,7 @@ impl Display for Visit<'_> {
         }
         match self.exchange {
             _ if !self.was_given => f.write_str("sent nothing")?,
-            Some(exchange) => write!(f, "{exchange}")?,
+            Some(exchange) => write!(f, "{exchange}{}", self.lookup_text())?,
             None => f.write_str("sent no whole request")?,
         }
         if self.leaving == Leaving::Displaced {

@@ -13,29 +13,43 @@ use std::os::unix::fs::OpenOptionsExt;
 use std::random::RandomSource;
 use std::rt;
 use std::sync::Arc;
-use std::sync::atomic::{AtomicU64, Ordering};
+use std::sync::atomic::{AtomicBool, AtomicU64, Ordering};
 
-/// The removal of a run's folder that is put off: the station that made the folder leaves it here, and the door carries it out once the
-/// reply was sent, since the system may write to the disk for it. There is one at a time, and the same thread leaves it and carries it out.
+/// What a station leaves to its door: the folder of its last run, and whether it was asked for a run.
+///
+/// The door removes the folder once the reply was sent, since the system may write to the disk for it. There is one at a time, and one thread has
+/// both the station and the door.
 #[derive(Drop)]
-pub struct PendingRemoval {
+pub struct RunNotes {
     alloc: Global,
     /// The folder in which that of the run is.
     folder: String,
-    /// The halves of the random word of its name; both are 0 where there is none.
+    /// The halves of the random word of its name; both are 0 if there is none.
     first: AtomicU64,
     second: AtomicU64,
+    was_asked: AtomicBool,
 }
 
-impl PendingRemoval {
-    /// None yet, of a folder in this one.
-    pub fn new(alloc: Global, folder: String) -> PendingRemoval {
-        PendingRemoval {
+impl RunNotes {
+    /// None yet, of runs whose folders are in this one.
+    pub fn new(alloc: Global, folder: String) -> RunNotes {
+        RunNotes {
             alloc,
             folder,
             first: AtomicU64::new(0),
             second: AtomicU64::new(0),
+            was_asked: AtomicBool::new(false),
         }
+    }
+
+    /// The station is asked for a run.
+    pub(crate) fn note_asked(&self) {
+        self.was_asked.store(true, Ordering::SeqCst);
+    }
+
+    /// Whether the station was asked for a run since this was called last.
+    pub(crate) fn take_asked(&self) -> bool {
+        self.was_asked.swap(false, Ordering::SeqCst)
     }
 
     /// Leaves the folder of this word. There is none before.
@@ -45,8 +59,8 @@ impl PendingRemoval {
         self.second.store(second, Ordering::SeqCst);
     }
 
-    /// Removes the folder that was left, where there is one. Where memory is wanting for its name, it is still left.
-    pub fn carry_out<R: rt::Files + Eprint>(&self, rt: &R) {
+    /// Removes the folder that was left, if there is one. If memory runs out for its name, it is still left.
+    fn remove_left<R: rt::Files + Eprint>(&self, rt: &R) {
         let word = word_of(
             self.first.swap(0, Ordering::SeqCst),
             self.second.swap(0, Ordering::SeqCst),
@@ -61,13 +75,13 @@ impl PendingRemoval {
     }
 }
 
-/// A removal that a station and its door share.
-pub type SharedRemoval = Arc<PendingRemoval, Global>;
+/// The notes that a station and its door share.
+pub type SharedNotes = Arc<RunNotes, Global>;
 
-/// Carries a removal out, where there is one.
-pub fn carry_out<R: rt::Files + Eprint>(rt: &R, removal: &Option<SharedRemoval>) {
-    if let Some(removal) = removal {
-        removal.carry_out(rt);
+/// Removes the folder that was left, if there are notes.
+pub fn remove_left<R: rt::Files + Eprint>(rt: &R, notes: &Option<SharedNotes>) {
+    if let Some(notes) = notes {
+        notes.remove_left(rt);
     }
 }
 
@@ -91,21 +105,21 @@ pub struct RunFolder<'a, R: rt::Files + Eprint> {
     alloc: Global,
     path: String,
     word: [u8; WORD_LENGTH],
-    removal: &'a Option<SharedRemoval>,
+    notes: &'a Option<SharedNotes>,
 }
 
 impl<'a, R: rt::Files + RandomSource + Eprint> RunFolder<'a, R> {
-    /// A new empty folder in this one. Its removal is left to another where there is one for that, who removes now what was left before.
+    /// A new empty folder in this one. With notes, its removal is left to the door, and what was left before is removed now.
     pub fn create(
         rt: &'a R,
         alloc: Global,
         folder: &str,
-        removal: &'a Option<SharedRemoval>,
+        notes: &'a Option<SharedNotes>,
     ) -> Result<RunFolder<'a, R>, StationFault>
         ensures name { IfOk result (λ made. IsNamedIn folder.now (place_of made)) }
         ensures fault { IfErr result NamesNoStream }
     {
-        carry_out(rt, removal);
+        remove_left(rt, notes);
         let word = random_word(rt, folder)?;
         let path = folder_name(alloc, folder, &word)?;
         match rt.create_dir_with_mode(path.as_str(), FOLDER_OF_OWNER) {
@@ -114,7 +128,7 @@ impl<'a, R: rt::Files + RandomSource + Eprint> RunFolder<'a, R> {
                 alloc,
                 path,
                 word,
-                removal,
+                notes,
             }),
             Err(error) => {
                 tell_unmade(rt, path.as_str(), &error);
@@ -162,10 +176,10 @@ impl<R: rt::Files + Eprint> Drop for RunFolder<'_, R> {
             alloc,
             path,
             word,
-            removal,
+            notes,
         } = self;
-        match removal {
-            Some(removal) => removal.leave(&word),
+        match notes {
+            Some(notes) => notes.leave(&word),
             None => remove_folder(rt, alloc, path.as_str()),
         }
         drop(path);

@@ -290,6 +290,7 @@ impl<L, S: Drop> WaitingRoom<L, S> {
             leaving,
             was_given: pending.was_given,
             exchange: None,
+            lookup: None,
             begun: pending.begun,
         };
         tell_visit(rt, &visit);

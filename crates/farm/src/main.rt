@@ -1,8 +1,10 @@
 //! The program `farm`: the call `farm` over the devices of the system.
 #![tactic(auto)]
 
+mod advice;
 mod command;
 mod compile;
+mod faults;
 mod reasons;
 mod run;
 mod settings;

@@ -1,8 +1,9 @@
 // What a refusal is told as in plain words, on the standard error, behind the line that has its numbers.
+use crate::advice::{Advice, advice_on};
+use crate::faults::{host_reason, job_reason, needs_reason};
 use farm_program::Refusal;
 use farm_words::{Command, host_text, lookup};
 use host_list::HostFault;
-use refusal_notes::{Advice, advice_on, host_reason, job_reason, needs_reason};
 use std::fmt::{self, Display, Formatter};
 use std::io::Eprint;
 

@@ -1,6 +1,6 @@
 // What `farm` reads of its environment.
 use edge_real::{Notices, variable};
-use host_turns::{spread, turned};
+use host_list::{spread, turned};
 use std::alloc::AllocError;
 use std::process;
 

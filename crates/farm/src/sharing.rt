@@ -5,8 +5,7 @@ use desk_words::{Asked, Told};
 use edge_real::variable;
 use farm_types::Host;
 use farm_words::lookup;
-use host_list::parse;
-use host_turns::only;
+use host_list::{only, parse};
 use std::alloc::AllocError;
 use std::net::TcpStream;
 

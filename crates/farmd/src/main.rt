@@ -16,9 +16,9 @@ use daemon_words::{
 };
 use daemon_worker::DoorKit;
 use edge_real::{
-    ChildStation, ErrorLines, HeldStreams, PendingRemoval, ServingRules, SharedRemoval,
-    SharedWatch, StdSink, TcpDoor, Unhindered, WaitingStream, WordPolicy, command_words,
-    current_folder, own_folder,
+    ChildStation, ErrorLines, HeldStreams, RunNotes, ServingRules, SharedNotes, SharedWatch,
+    StdSink, TcpDoor, Unhindered, WaitingStream, WordPolicy, command_words, current_folder,
+    own_folder,
 };
 use farm_types::exits::{FAULT, NO_MEMORY};
 use log::warn;
@@ -91,6 +91,11 @@ fn access_of(rt: &HostRuntime, words: &[String]) -> Result<AccessList, AllocErro
     })
 }
 
+// Whether results are kept, so that an answer may come from a cache.
+fn has_cache(words: &[String]) -> bool {
+    matches!(options_of(words), Some(options) if options.cache.is_some() || options.shared.is_some())
+}
+
 // Whether any machine that reaches this one may be served: no rule says who is, and the address isn't of this machine alone.
 fn lets_all_in(options: &Option<Options>) -> bool {
     match options {
@@ -128,13 +133,12 @@ fn kit_of<'a>(
     let rules = serving_rules(rt, words)?;
     let folder = own_folder(rt)?;
     let here = current_folder(rt)?;
-    let removal = PendingRemoval::new(rt.alloc(), own_folder(rt)?);
-    let removal: SharedRemoval = Arc::new(rt.alloc(), removal)?;
-    let door = door.removing(Arc::try_clone(&removal)?);
+    let notes: SharedNotes = Arc::new(rt.alloc(), RunNotes::new(rt.alloc(), own_folder(rt)?))?;
+    let door = door.noting(Arc::try_clone(&notes)?, has_cache(words));
     let (door, watch) = watched(rt, door)?;
     Ok(DoorKit {
         door,
-        station: ChildStation::serving(system, folder, here, rules, Some(removal), watch),
+        station: ChildStation::serving(system, folder, here, rules, Some(notes), watch),
     })
 }
 

@@ -6,3 +6,5 @@ pub mod TextWords
 pub mod HostWords
 pub mod HostLists
 pub mod Steps
+pub mod Turns
+pub mod Only

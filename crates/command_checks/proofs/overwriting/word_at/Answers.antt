@@ -1,5 +1,0 @@
-use Rattle.arg_scan.proofs.Firsts.{past_end}
-use Rattle.command_checks.proofs.overwriting.word_at.Goals as goal
-
-pub returns-in-None : goal.returns-in-None
-returns-in-None c = past_end c.args.words.now c.args.at c.in-None.ensures
