@@ -1,4 +1,4 @@
-// The places of the standard streams, where this process was begun without them.
+// The places of the standard streams, if this process was begun without them.
 ghost use Rattle.std.specs.Prelude.{IfOk, IfSome};
 ghost use Rattle.edge_real.specs.Streams.{StandsInPlace};
 
@@ -39,7 +39,7 @@ impl HeldStreams {
     }
 }
 
-/// A file in the first place that is free, where that is a standard stream's.
+/// A file in the first place that is free, if that is a standard stream's.
 fn first_free<R: rt::Files<File = File>>(rt: &R) -> io::Result<Option<File>>
     ensures { IfOk result (λ place. IfSome place StandsInPlace) }
 {
