@@ -54,16 +54,10 @@ struct Service<W> {
     watch: W,
 }
 
-/// Runs programs as children of this process, and waits for their ends. A program whose name has no slash is sought in `PATH`.
-///
-/// A program has the environment of this process and an empty standard input. The files of `Input` and `Output` are in a new folder of the run. Only
-/// its owner may look into it, and its name has a random word. It is removed with all its files when the run ends.
-///
-/// A program runs in the folder of this process. If the station serves others, it runs in the folder of its run, which is its `TMPDIR` too. Then it
-/// is killed if its peer has gone or its lifetime has passed, and its run has failed. What it started itself isn't killed.
-///
-/// If a run fails, a line on the standard error says why. There is a line too if a program ended with status 0 and left no object, and if the folder
-/// couldn't be removed.
+/// Runs programs as children of this process, and waits for their ends. A run with files, and each run for others, has
+/// a new folder, which is removed when the run ends. Only its owner may look into it, and its name has a random word.
+/// A program for others runs in that folder. It is killed if its peer has gone or its lifetime has passed, and its run has failed.
+/// A line on the standard error says why a run failed. docs/real-devices.md has the rest.
 #[derive(Drop)]
 pub struct ChildStation<R, W = Unwatched> {
     rt: R,

@@ -21,12 +21,9 @@ use std::io::{Eprint, ErrorKind};
 use std::{fs, io, rt, str};
 
 /// The files of the system, for a keeper that writes one file at a time. A name that isn't UTF-8 counts as a fault.
-///
-/// A file is written under its name with `.farm~` added. On the disk it is a new file in the same folder with a short name of its own,
-/// `farm-PROCESS-SERIAL.farm~`. No two processes write one file, and no file that is there is written over.
-///
-/// A character device keeps its place: its bytes are written to a file in the folder that this value was given, and copied into the device in the
-/// end. Anything else that is no regular file is never replaced. A file without a byte may be refused, as no compiler leaves an empty object.
+/// A file is written as a new file `farm-PROCESS-SERIAL.farm~` in its folder, and gets its name in the end. A character device gets the bytes in the
+/// end, from such a file in the folder that this value was given.
+/// Anything else that is no regular file is never replaced. A file without a byte may be refused.
 #[derive(Drop)]
 pub struct DiskFiles<R> {
     rt: R,

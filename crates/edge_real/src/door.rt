@@ -23,16 +23,10 @@ use std::rt::{Clock, Files};
 use std::sync::{Arc, Mutex, Wait};
 use std::time::Duration;
 
-/// Takes connections in over TCP. Without a listener, each `accept` counts as a fault.
-///
-/// A connection waits in a room that the doors on one listener share, so that a slow peer holds no door. It is ready when its request is whole, its
-/// peer has ended or failed, its bytes are no request, or 16,384 bytes of it wait. An idle door takes the first that is ready.
-///
-/// The room holds 512 connections. If it is full or descriptors run out, the one that has waited longest is left. Each is left after 10 minutes. A
-/// peer that is denied doesn't wait.
-///
-/// When a connection is left, a line on the standard error says when, the peer, the compiler, what became of it, the lengths of the source and of the
-/// object, and how long it took. If the system takes no connection any more, a line says so, with the reason.
+/// Takes connections in over TCP. Without a listener, each `accept` counts as a fault. A peer that is denied doesn't wait.
+/// Connections wait in a room of 512 that the doors on one listener share, so that a slow peer holds no door.
+/// One that isn't ready is left after 10 minutes.
+/// When a connection is left, a line on the standard error says what became of it. docs/real-devices.md has the rest.
 #[derive(Drop)]
 pub struct TcpDoor<R, L, S> {
     rt: R,

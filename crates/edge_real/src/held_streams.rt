@@ -9,11 +9,9 @@ use std::{io, rt};
 /// The number of the standard error, the last of the three.
 const LAST: RawFd = 2;
 
-/// Files in the places of the standard streams that this process was begun without.
-///
+/// Files in the places of the standard streams that this process was begun without. They can be neither read nor written.
 /// What is opened gets the lowest number that is free. So without these a file or a socket would be the standard output or error, and what is printed
-/// would go into an object, or to a peer. They can be neither read nor written, as streams that are closed, and a program that is started has streams of
-/// its own.
+/// would go into an object, or to a peer. A program that is started has streams of its own.
 #[derive(Drop)]
 pub struct HeldStreams {
     first: Option<File>,

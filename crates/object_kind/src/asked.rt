@@ -61,13 +61,9 @@ fn runs_driver(words: &[Word]) -> bool
     }
 }
 
-/// Whether the bytes are what the words ask for. The first word names the program.
-///
-/// A driver of gcc or clang gives text with `-S`: at least one byte, and no zero. Without it, it gives an object: relocatable ELF, Mach-O, COFF or
-/// WebAssembly, or LLVM's bitcode with `-flto` or `-emit-llvm`. Of any other program nothing is asked.
-///
-/// A driver is known by its name: `gcc`, `cc`, `g++`, `c++`, `clang` or `clang++`, with a target and `-` before it or not, and a version after it or
-/// not.
+/// Whether the bytes are what the words ask for. The first word names the program. A driver of gcc or clang gives text with `-S`: at least one byte,
+/// and no zero. Else it gives an object: relocatable ELF, Mach-O, COFF or WebAssembly, or LLVM's bitcode with `-flto` or `-emit-llvm`.
+/// A driver is `gcc`, `cc`, `g++`, `c++`, `clang` or `clang++`, also with a target before and a version after it. Of others nothing is asked.
 pub fn is_asked_kind(words: &[Word], object: &[u8]) -> bool
     ensures { result ≡ is_asked_kind words.now object.now }
 {
