@@ -22,8 +22,8 @@ address_part text = take (slash_in text) text
 abbrev pub bits_part : List ℕ → List ℕ
 bits_part text = drop (slash_in text) text
 
--- what follows an address says this number of bits: `/BITS`, 1 or 2 digits with a value of 0 to 32, where a zero may be in front,
--- or nothing, which means 32
+-- What follows an address says this number of bits: `/BITS`, or nothing, which means 32. BITS has 1 or 2 digits and a value of 0 to 32, and may have
+-- a leading zero.
 abbrev pub bits_of : List ℕ → ℕ → Type 0
 bits_of [] bits = bits ≡ 32
 bits_of (first ∷ digits) bits = IsDecimal 2 0 32 digits bits
@@ -34,7 +34,7 @@ pub record RuleOf (allow : Bool) (text : List ℕ) (rule : Rule) : Type 0 where
   pub address : IsAddress (address_part text) rule.net
   pub bits : bits_of (bits_part text) rule.bits
 
--- what is wrong with a text that says no rule: the address, or what stands behind a right one
+-- what is wrong with a text that says no rule: the address, or what comes after a right one
 abbrev pub WrongRule : List ℕ → AccessFault → Type 0
 WrongRule text BadAddress = (addr : ℕ) → IsAddress (address_part text) addr → ⊥
 WrongRule text BadBits = ((addr : ℕ) × IsAddress (address_part text) addr) × ((bits : ℕ) → bits_of (bits_part text) bits → ⊥)
@@ -62,18 +62,19 @@ pub record IsFirstMatch (rules : List Rule) (addr number : ℕ) (rule : Rule) : 
   pub none_before : NoneMatch addr before
   pub match : matches addr rule ≡ true
 
--- The decision is that of the first rule that matches. Where none does, the peer is let in where there are no rules, and denied otherwise.
+-- The decision is that of the first rule that matches. If none does, the peer is let in if there are no rules, and denied otherwise.
 abbrev pub AccessDecision : List Rule → ℕ → Decision → Type 0
 AccessDecision rules addr (Admitted (Some number)) = (rule : Rule) × IsFirstMatch rules addr number rule × (rule.allow ≡ true)
 AccessDecision rules addr (Denied (Some number)) = (rule : Rule) × IsFirstMatch rules addr number rule × (rule.allow ≡ false)
 AccessDecision rules addr (Admitted None) = rules ≡ []
 AccessDecision rules addr (Denied None) = (rules ≢ []) × NoneMatch addr rules
 
--- the same as a function: by the first of some rules that matches, where their numbers go on from this one
+-- the decision by a rule that matches, which has this number
 abbrev pub by_rule : Bool → ℕ → Decision
 by_rule true number = Admitted (Some number)
 by_rule false number = Denied (Some number)
 
+-- the decision by the first of some rules that matches, with numbers that go on from this one
 abbrev pub by_first : ℕ → List Rule → ℕ → Option Decision
 by_first number [] addr = None
 by_first number (rule ∷ rules) addr = if matches addr rule then Some (by_rule rule.allow number) else by_first (suc number) rules addr

@@ -6,7 +6,7 @@ ghost use Rattle.access_list.specs.Addresses.{IsAddress, CutsNumber};
 
 use farm_types::read_plain_decimal;
 
-/// The place of the first such byte, or the text's length where there is none. It takes no memory.
+/// The place of the first such byte, or the text's length if there is none. It takes no memory.
 pub fn place_of(byte: u8, text: &[u8]) -> usize
     ensures place { result ≡ position_or_len (λ c. c == byte) text.now }
     ensures within { result ≤ length text.now }
@@ -23,7 +23,7 @@ pub fn place_of(byte: u8, text: &[u8]) -> usize
     at
 }
 
-// The number up to the first point, and what stands behind the point.
+// The number up to the first point, and what comes after the point.
 fn cut_number(text: &[u8]) -> Option<(u32, &[u8])>
     ensures found { IfSome result (λ cut. CutsNumber text.now cut.0 cut.1.now) }
     ensures none { IfNone result ((n : ℕ) (rest : List ℕ) → CutsNumber text.now n rest → ⊥) }

@@ -40,7 +40,7 @@ impl Rule {
     }
 }
 
-// The number of bits that stand behind an address: `/BITS`, or nothing, which means 32.
+// The number of bits after an address: `/BITS`, or nothing, which means 32.
 fn read_bits(text: &[u8]) -> Option<u32>
     ensures found { IfSome result (λ bits. bits_of text.now bits) }
     ensures none { IfNone result ((bits : ℕ) → bits_of text.now bits → ⊥) }
@@ -70,8 +70,8 @@ fn read_rule(allow: bool, text: &[u8]) -> Result<Rule, AccessFault>
     })
 }
 
-/// Reads a rule: an IPv4 address, with or without `/BITS` after it, 1 or 2 digits with a value of 0 to 32. Without it BITS is
-/// 32. A zero may be in front in BITS, as in `08`, and not in the address. It takes no memory.
+/// Reads a rule: an IPv4 address, with or without `/BITS` after it, 1 or 2 digits with a value of 0 to 32. Without it BITS is 32. BITS may have a
+/// leading zero, as in `08`, and the address may not. It takes no memory.
 pub fn parse_rule(allow: bool, text: &[u8]) -> Result<Rule, AccessFault>
     ensures rule { IfOk result (RuleOf allow text.now) }
     ensures fault { IfErr result (WrongRule text.now) }

@@ -4,7 +4,7 @@ ghost use Rattle.std.specs.Prelude.{◌≡◌, length, IfOk};
 use farm_types::Bytes;
 use std::alloc::{AllocError, Global};
 
-/// So many bytes, each other than the one before.
+/// That many bytes, each other than the one before.
 pub fn pattern(alloc: Global, len: usize, first: usize) -> Result<Bytes, AllocError>
     ensures { IfOk result (λ bytes. length bytes ≡ len) }
 {

@@ -25,7 +25,7 @@ const LENGTHS: &[Lengths] = &[
     (0, 90_000, 240_000),
 ];
 
-/// So many runs of several sizes, of which the book below holds some ten.
+/// How many runs of several sizes there are. The book below holds some ten of them.
 const CROWD: u8 = 60;
 
 const BOUNDS: Bounds = Bounds {

@@ -1,4 +1,4 @@
-//! Entries of any size within the bound are kept, where memory suffices.
+//! Entries of any size within the bound are kept, if memory suffices.
 
 use crate::filled::pattern;
 use crate::same::same;

@@ -12,6 +12,6 @@ plain_kit kit = record { door = kit.door; station = kit.station.station }
 abbrev pub book_of : {A S : Type 0} → DoorKit A (Cached S) → BookView
 book_of kit = kit.station.book
 
--- what a book tells
+-- the counts of a book, and the bytes of its entries
 abbrev pub stats_of : BookView → Stats
 stats_of book = record { hits = book.hits; misses = book.misses; unkept = book.unkept; bytes = sizes book.entries }

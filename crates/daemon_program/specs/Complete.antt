@@ -1,4 +1,4 @@
--- Where nothing failed, every connection is answered by what it gave.
+-- If nothing failed, every connection is answered by what it gave.
 use Rattle.std.specs.Prelude.{◌≡◌, ℕ, suc, ◌⊎◌, false, IsTrue, List, [], ◌∷◌, ◌++◌, take, Some, None}
 use Rattle.farm_types.specs.Exits.{memory_status}
 use Rattle.farm_types.specs.declared.placed.Word.{Word}
@@ -20,7 +20,7 @@ use Rattle.daemon_words.specs.Options.{book_bound}
 use Rattle.object_cache.specs.Stations.{cached_shows}
 use Rattle.daemon_program.specs.Daemons.{IsConfig, doors_used}
 
--- the door tells its visits, and over none of the new ones a call failed or a send took nothing
+-- the door records its visits, and over none of the new ones a call failed or a send took nothing
 pub record CalmVisits (old new : DoorView) : Type 0 where
   pub told : IsTrue new.visits.known
   pub calm : (visits : List Visit) → new.visits.value ≡ old.visits.value ++ visits → AreCalm visits
@@ -52,14 +52,16 @@ module _ {A S : Type 0} (door : A → DoorView) (station : S → StationView) (r
     pub going : new.stopped ≡ false
 
 module _ {A S : Type 0} (door : A → DoorView) (station : S → StationView) (ran : S → List Word → List ℕ → Ran → Type 0) where
-  -- Memory was wanting before anything was served; or every connection was answered rightly, and the status is 0 or that of want of memory;
-  -- with books, by stations that tell no runs.
+  -- What was done, if nothing failed.
   pub data Completed (words : List (List ℕ)) (options : Options) (olds news : List (DoorKit A S)) (answer : ℕ) : Type 0 where
+    -- memory ran out before anything was served
     nothing : news ≡ olds → answer ≡ memory_status → Completed words options olds news answer
+    -- Without books: every connection was answered rightly, and the status is 0 or that of lack of memory.
     all : (config : DaemonConfig) (log : List Entry) → IsConfig words options config → book_bound options ≡ None
         → DoorsRight door station ran config.table.rows config.access.rules config.serve 1 (take (doors_used options olds) olds)
         (take (doors_used options olds) news) log
         → (answer ≡ 0) ⊎ (answer ≡ memory_status) → Completed words options olds news answer
+    -- With books, the same by stations that record no runs.
     beside : (config : DaemonConfig) (log : List Entry) (bound : ℕ) → IsConfig words options config → book_bound options ≡ Some bound
         → DoorsRight door (λ s. cached_shows (station s)) ran config.table.rows config.access.rules config.serve 1
         (take (doors_used options olds) olds) (take (doors_used options olds) news) log

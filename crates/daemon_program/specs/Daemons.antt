@@ -34,7 +34,7 @@ abbrev pub is_door_memory : Met → Bool
 is_door_memory met.DoorMemory = true
 is_door_memory other = false
 
--- 107 where a door failed, else 105 where memory was wanting at one, else 0
+-- 107 if a door failed, else 105 if memory ran out at one, else 0
 abbrev pub log_status : List Entry → ℕ
 log_status entries =
     if list_any (λ entry. is_door_fault entry.what) entries then fault_status
@@ -52,17 +52,19 @@ doors_used options doors = min (unwrap_or options.jobs 4) (length doors)
 
 module _ {A S : Type 0} (door : A → DoorView) (station : S → StationView) (ran : S → List Word → List ℕ → Ran → Type 0)
     (goes : S → List Word → List ℕ → Bounds → Result Ran StationFault → S → Type 0) where
-  -- Memory was wanting before anything was served. Or the doors were served, the others are as before, and the log was printed. With a cache each
-  -- door's station is beside a book of its own and records no runs. Each book is what the door's own connections make of a new book of the
-  -- given bound, and the lines of the books are printed after the log.
+  -- What was served and printed.
   pub data Serves (words : List (List ℕ)) (options : Options) (olds news : List (DoorKit A S)) (old new : SinkView)
       (answer : ℕ) : Type 0 where
+    -- memory ran out before anything was served
     unserved : news ≡ olds → WantsAfter [] old new answer → Serves words options olds news old new answer
+    -- Without a cache: the doors were served, the others are as before, and the log was printed.
     served : (config : DaemonConfig) (log : List Entry) → IsConfig words options config → book_bound options ≡ None
         → DoorsServed config.table.rows config.access.rules config.serve door station ran 1 (take (doors_used options olds) olds)
         (take (doors_used options olds) news) log
         → drop (doors_used options olds) news ≡ drop (doors_used options olds) olds
         → Ends (log_text log) (log_status log) old new answer → Serves words options olds news old new answer
+    -- With a cache, the same, but each door's station is beside a book of its own and records no runs. Each book is what the door's own connections
+    -- make of a new book of the given bound, and the lines of the books are printed after the log.
     cached : (config : DaemonConfig) (log : List Entry) (bound : ℕ) (books : List Stats) → IsConfig words options config
         → book_bound options ≡ Some bound
         → DoorsServed config.table.rows config.access.rules config.serve door (λ s. cached_shows (station s)) ran 1
@@ -72,7 +74,7 @@ module _ {A S : Type 0} (door : A → DoorView) (station : S → StationView) (r
         → BooksKept station goes config.table.rows bound (take (doors_used options olds) olds) (take (doors_used options olds) news) log books
         → Ends (log_text log ++ books_text 1 books) (log_status log) old new answer → Serves words options olds news old new answer
 
-  -- what is done by these words: bad ones are told with their place, and nothing is served
+  -- what is done by these words: for bad ones their place is printed, and nothing is served
   abbrev pub Does : List (List ℕ) → List (DoorKit A S) → List (DoorKit A S) → SinkView → SinkView → ℕ → Result Command ℕ → Type 0
   Does words olds news old new answer (Err place) = (news ≡ olds) × Ends (bad_words_text place) bad_words_status old new answer
   Does words olds news old new answer (Ok Help) = (news ≡ olds) × Ends help 0 old new answer

@@ -94,12 +94,14 @@ module _ {S : Type 0} (shows : S → StationView) (ran : S → List Word → Lis
 
 module _ {A S : Type 0} (door : A → DoorView) (station : S → StationView) (ran : S → List Word → List ℕ → Ran → Type 0)
     (goes : S → List Word → List ℕ → Bounds → Result Ran StationFault → S → Type 0) where
-  -- Memory was wanting before anything was served. Or the doors were served, the others are as before, and the log was printed. Each door's
-  -- station is beside the one book and records no runs. Each door's counts are what its own connections make of none, the book has
-  -- at most its bound, and the lines of the doors and of the book are printed after the log.
+  -- What was served and printed, with one book for all doors.
   pub data Shares (words : List (List ℕ)) (options : Options) (bound : ℕ) (olds news : List (DoorKit A S)) (old new : SinkView)
       (answer : ℕ) : Type 0 where
+    -- memory ran out before anything was served
     unserved : news ≡ olds → WantsAfter [] old new answer → Shares words options bound olds news old new answer
+    -- The doors were served, the others are as before, and the log was printed. Each door's station is beside the one book and records no runs. Each
+    -- door's counts begin at 0 and are by its own connections only, and the book has at most its bound. The lines of the doors and of the book are
+    -- printed after the log.
     shared : (config : DaemonConfig) (log : List Entry) (counts : List Counts) (stats : SharedStats) → IsConfig words options config
         → DoorsServed config.table.rows config.access.rules config.serve door (λ s. cached_shows (station s)) ran 1
         (take (doors_used options olds) olds) (take (doors_used options olds) news) log
@@ -111,12 +113,12 @@ module _ {A S : Type 0} (door : A → DoorView) (station : S → StationView) (r
         → Ends (log_text log ++ shares_text counts stats) (log_status log) old new answer
         → Shares words options bound olds news old new answer
 
-  -- if the doors serve: each with what it has of its own, or all with one book
+  -- what serving does: each door with what it has of its own, or all doors with one book
   abbrev pub DoesServe : List (List ℕ) → Options → List (DoorKit A S) → List (DoorKit A S) → SinkView → SinkView → ℕ → Option ℕ → Type 0
   DoesServe words options olds news old new answer None = Serves door station ran goes words options olds news old new answer
   DoesServe words options olds news old new answer (Some bound) = Shares words options bound olds news old new answer
 
-  -- what is done by these words: bad ones are told with their place, and nothing is served
+  -- what is done by these words: for bad ones their place is printed, and nothing is served
   abbrev pub DoesAll : List (List ℕ) → List (DoorKit A S) → List (DoorKit A S) → SinkView → SinkView → ℕ → Result Command ℕ → Type 0
   DoesAll words olds news old new answer (Err place) = (news ≡ olds) × Ends (bad_words_text place) bad_words_status old new answer
   DoesAll words olds news old new answer (Ok Help) = (news ≡ olds) × Ends help 0 old new answer
@@ -125,10 +127,11 @@ module _ {A S : Type 0} (door : A → DoorView) (station : S → StationView) (r
       DoesServe words options olds news old new answer (shared_bound options)
 
 module _ {A S : Type 0} (door : A → DoorView) (station : S → StationView) (ran : S → List Word → List ℕ → Ran → Type 0) where
-  -- Memory was wanting before anything was served; or every connection was answered rightly by stations that tell no runs, and the
-  -- status is 0 or that of want of memory.
+  -- What was done with one book for all doors, if nothing failed.
   pub data CompletedShared (words : List (List ℕ)) (options : Options) (olds news : List (DoorKit A S)) (answer : ℕ) : Type 0 where
+    -- memory ran out before anything was served
     nothing : news ≡ olds → answer ≡ memory_status → CompletedShared words options olds news answer
+    -- every connection was answered rightly by stations that record no runs, and the status is 0 or that of lack of memory
     all : (config : DaemonConfig) (log : List Entry) → IsConfig words options config
         → DoorsRight door (λ s. cached_shows (station s)) ran config.table.rows config.access.rules config.serve 1
         (take (doors_used options olds) olds) (take (doors_used options olds) news) log

@@ -46,7 +46,7 @@ fn move_in<A: Drop, S: Station + Drop>(
     }
 }
 
-// Moves the kits back in front of the kits that stayed, without their books, and adds the counts of these to a list.
+// Moves the kits back before the kits that stayed, without their books, and adds the counts of these to a list.
 fn move_out<A: Drop, S: Station + Drop>(
     mut cached: Vec<DoorKit<A, CachedStation<S>>>,
     doors: &mut Vec<DoorKit<A, S>>,

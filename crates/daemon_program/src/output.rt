@@ -10,10 +10,10 @@ use farm_types::exits::{BAD_WORDS, NO_MEMORY, STOPPED};
 use std::alloc::Global;
 use stream_print::{PrintStop, print};
 
-/// What is printed where memory is wanting outside the log.
+/// What is printed if memory runs out outside the log.
 const NO_MEMORY_TEXT: &[u8] = b"farmd: no memory\n";
 
-/// Tells that memory is wanting.
+/// Prints that memory ran out, and answers the status.
 pub(crate) fn want_memory<O: Sink>(out: &mut O) -> u8
     ensures { WantsAfter [] (O.shows out.old) (O.shows out.new) result }
 {

@@ -58,7 +58,7 @@ fn share_in<'a, A: Drop, S: Station + Drop, P: Sharing, R>(
     }
 }
 
-// Moves the kits back in front of the kits that stayed, without the book, and adds their counts to a list.
+// Moves the kits back before the kits that stayed, without the book, and adds their counts to a list.
 fn share_out<'a, A: Drop, S: Station + Drop, P: Sharing, R>(
     mut shared: Vec<DoorKit<A, SharedStation<'a, S, P, R>>>,
     doors: &mut Vec<DoorKit<A, S>>,
@@ -85,7 +85,7 @@ fn share_out<'a, A: Drop, S: Station + Drop, P: Sharing, R>(
 }
 
 /// Serves the connections of the first doors, each with its station beside one new book of this bound, and leaves the other doors
-/// as they are. The programs of all stations may leave the same. It answers want of memory, too, if the system gives no random
+/// as they are. The programs of all stations may leave the same. It answers lack of memory, too, if the system gives no random
 /// keys for the book's index.
 pub(crate) fn serve_beside_shared<
     P: Sharing + Send + Sync,

@@ -26,8 +26,8 @@ abbrev pub IsUncompiled : Served → Type 0
 IsUncompiled (Answered status) = IsRefused status
 IsUncompiled other = Unit {0}
 
--- The answer is by a run that ended so: with a status it is that of the run, and any other than a fault of the station or want of
--- memory comes of a run that came to something.
+-- The answer is by a run that ended so. An answer with a status has the status of that run. Any other answer but a fault of the station or lack of
+-- memory is by a run that didn't fail.
 abbrev pub IsEnded : Result Ran StationFault → Served → Type 0
 IsEnded ended (Answered status) = (ran : Ran) × (ended ≡ Ok ran) × (ran.status ≡ status)
 IsEnded ended served.StationFault = Unit {0}
@@ -35,7 +35,7 @@ IsEnded ended served.Memory = Unit {0}
 IsEnded ended other = (ran : Ran) × (ended ≡ Ok ran)
 
 module _ {S : Type 0} (goes : S → List Word → List ℕ → Bounds → Result Ran StationFault → S → Type 0) where
-  -- The words that compile a request were run once, by this program, or memory was wanting before.
+  -- The words that compile a request were run once, by this program, or memory ran out before.
   abbrev pub Tries : List ℕ → Request → S → S → Result Ran StationFault → Type 0
   Tries program q before after ended =
       ((after ≡ before) × (ended ≡ Err Memory)) ⊎ goes before (with_program program (placed_words q.words)) q.source compile_bounds

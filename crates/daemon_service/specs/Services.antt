@@ -18,7 +18,7 @@ use Rattle.daemon_service.specs.declared.served.Served.{Served}
 use Rattle.daemon_service.specs.declared.served.Served.TheVariants.{Answered, Refused, Cut, LinkFault, Stopped, StationFault, Memory}
 use Rattle.daemon_service.specs.Replies.{ServiceAnswer}
 
--- where a link tells what passed, nothing did yet, and it is neither ended nor stopped
+-- if a link records what passed, nothing did yet, and it is neither ended nor stopped
 pub record IsUnused (link : LinkView) : Type 0 where
   pub sent : IsTrue link.sent.known → link.sent.value ≡ []
   pub given : IsTrue link.given.known → link.given.value ≡ []
@@ -81,7 +81,7 @@ abbrev pub is_stopped : Served → Bool
 is_stopped Stopped = true
 is_stopped other = false
 
--- The link gave its end exactly where the answer says so, and a send took no byte exactly where the answer says so.
+-- The link gave its end exactly if the answer says so, and a send took no byte exactly if the answer says so.
 pub record EndsBy (answer : Served) (x : Visit) : Type 0 where
   pub ended : x.ended ≡ is_cut answer
   pub stopped : x.stopped ≡ is_stopped answer
@@ -95,8 +95,8 @@ abbrev pub MayRun : (List Word → List ℕ → Ran → Type 0) → List Run →
 MayRun ran [] = Unit {0}
 MayRun ran (run ∷ runs) = ran run.words run.input run.ran × MayRun ran runs
 
--- What passed over the link and what was run show the service by its answer. The link and the station tell it, where they
--- tell anything; a station that doesn't tell its runs made some of which the same holds.
+-- What passed over the link and what was run show the service by its answer. If the link and the station record that, they record exactly this. A
+-- station that doesn't record its runs made some of which the same holds.
 pub record Service (table : List Compiler) (ran : List Word → List ℕ → Ran → Type 0) (old new : LinkView)
     (before after : StationView) (answer : Served) : Type 0 where
   pub given : List ℕ
@@ -109,12 +109,12 @@ pub record Service (table : List Compiler) (ran : List Word → List ℕ → Ran
   pub is : ServedAs table answer runs (visit_of new given sent)
   pub ends : EndsBy answer (visit_of new given sent)
 
--- A fault of the link goes with a rise of its count. With any other answer, want of memory too, it stands still.
+-- A fault of the link goes with a rise of its count. With any other answer, also with lack of memory, the count stays the same.
 abbrev pub LinkCause : Served → ℕ → ℕ → Type 0
 LinkCause LinkFault before now = Rose before now
 LinkCause other before now = Still before now
 
--- A fault of the station goes with a rise of its faults or its overruns. With any other answer, want of memory too, both stand still.
+-- A fault of the station goes with a rise of its faults or its overruns. With any other answer, also with lack of memory, both stay the same.
 abbrev pub StationCause : Served → StationView → StationView → Type 0
 StationCause StationFault before now = Rose before.faults now.faults ⊎ Rose before.overruns now.overruns
 StationCause other before now = StationStill before now

@@ -13,24 +13,24 @@ ghost use Rattle.daemon_service.specs.declared.served.Served.{Served};
 ghost use Rattle.daemon_service.specs.declared.served.Served.TheVariants.{Refused, Cut, Memory};
 ghost use Rattle.daemon_service.specs.Services.{ServedAs, EndsBy, IsAnswered, LinkCause, StationCause};
 
-/// A service answers in one way: what a connection shows decides its answer, up to want of memory. It does nothing.
+/// A service answers in one way: what a connection shows decides its answer, up to lack of memory. It does nothing.
 pub fn one_reading_of_services()
-    // A whole request is answered, where neither the link nor the station failed and no send took nothing.
+    // A whole request is answered if neither the link nor the station failed and no send took nothing.
     ensures whole { (table : List Compiler) (served : Served) (runs : List Run) (x : Visit) (used : ℕ) (q : Request) (old now : ℕ) (before after : StationView)
         → ServedAs table served runs x → EndsBy served x → LinkCause served old now → StationCause served before after
         → BeginsRequest x.given used q → (Rose old now → ⊥) → (Rose before.faults after.faults → ⊥) → (Rose before.overruns after.overruns → ⊥)
         → x.stopped ≡ false → IsAnswered served ⊎ (served ≡ Memory) }
 
-    // Where a fault stands in what was given, it is refused by that fault, and nothing was written or run.
+    // If there is a fault in what was given, it is refused by that fault.
     ensures fault { (table : List Compiler) (served : Served) (runs : List Run) (x : Visit) (at : ℕ) (fault : RequestFault)
         → ServedAs table served runs x → RequestFaultStands x.given at fault → (served ≡ Refused at fault) ⊎ (served ≡ Memory) }
 
-    // Where what was given is short and the link didn't fail, the request was cut.
+    // If what was given is short and the link didn't fail, the request was cut.
     ensures short { (table : List Compiler) (served : Served) (runs : List Run) (x : Visit) (old now : ℕ)
         → ServedAs table served runs x → LinkCause served old now → IsShortRequest x.given → (Rose old now → ⊥)
         → (served ≡ Cut (length x.given)) ⊎ (served ≡ Memory) }
 
-    // Where the link gave its end, the request was cut there.
+    // If the link gave its end, the request was cut there.
     ensures end { (table : List Compiler) (served : Served) (runs : List Run) (x : Visit)
         → ServedAs table served runs x → EndsBy served x → x.ended ≡ true → served ≡ Cut (length x.given) }
 

@@ -67,6 +67,6 @@ pub(crate) fn reply<L: Link>(alloc: Global, link: &mut L, outcome: &Outcome) -> 
     reply_apart(alloc, link, outcome)
 }
 
-/// An object of so many bytes or more is sent from where it is, behind the text before it. Below, a copy of it costs less
-/// than a second send.
+/// An object of this many bytes or more isn't copied: it is sent by itself, after the text before it. A copy of a shorter one costs less than a
+/// second send.
 const SENT_APART: usize = 65_536;

@@ -19,12 +19,11 @@ fn make_room(alloc: Global) -> Result<Vec<u8>, AllocError>
     vec![in alloc; 0; PIECE_MAX]
 }
 
-/// Serves one connection: reads one request, makes at most one run, and writes one reply, all of which is there before the
-/// first of it is sent.
+/// Serves one connection: reads one request, makes at most one run, and writes one reply. The whole reply is there before its first byte is sent.
 ///
-/// Where the table doesn't name the request's first word, or the words aren't a compile of one source, the reply says so
-/// and nothing is run. Otherwise the words that compile what was sent are run on the source, with the table's program in
-/// place of the first word. There are at most 34,615,332 receives. Bytes behind a whole request are ignored.
+/// If the table doesn't name the request's first word, or the words aren't a compile of one source, the reply says so and nothing is run. Otherwise
+/// the words that compile what was sent are run on the source, with the table's program in place of the first word. There are at most 34,615,332
+/// receives. Bytes after a whole request are ignored.
 pub fn serve_connection<L: Link, S: Station>(
     alloc: Global,
     link: &mut L,

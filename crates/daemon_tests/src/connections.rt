@@ -170,7 +170,7 @@ fn kits(alloc: Global, sides: &[Side]) -> Result<Vec<DoorKit<MemDoor, MemStation
     Ok(doors)
 }
 
-// The compiler `scc` alone.
+// The compiler `scc` only.
 fn table(alloc: Global) -> Result<Compilers, AllocError> {
     let name = Bytes::from_slice(alloc, b"scc")?;
     let program = name.copy()?;
@@ -235,7 +235,7 @@ where
     Ok(())
 }
 
-// Serves these doors by so many connections at most and these rules, and compares the log.
+// Serves these doors by that many connections at most and these rules, and compares the log.
 fn expect<R: Abort + Threads + Sync, D: Door + Send + Drop, S: Station + Send + Drop>(
     rt: &R,
     alloc: Global,

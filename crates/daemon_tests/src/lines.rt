@@ -5,7 +5,7 @@ ghost use Rattle.std.specs.List.{slice_split};
 
 use std::alloc::{AllocError, Global};
 
-// What stands between the single blanks of a line.
+// What is between the single blanks of a line.
 fn parts_of(alloc: Global, line: &str) -> Result<Vec<&str>, AllocError>
     ensures { IfOk result (λ parts. map (λ part. part.now) parts.items ≡ slice_split (λ c. c == 32) line.now) }
 {

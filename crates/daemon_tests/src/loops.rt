@@ -117,7 +117,7 @@ const GIVEN: &[Given] = &[
     },
 ];
 
-// What a link of this dialer gives where this is sent.
+// What a link of this dialer gives when this is sent.
 fn given_by<D: Dialer + Drop>(alloc: Global, mut dialer: D, sends: &[u8]) -> Result<Bytes, Fail> {
     let host = host(alloc)?;
     let Ok(mut link) = dialer.dial(alloc, &host, 3632) else {
@@ -161,7 +161,7 @@ fn request(alloc: Global) -> Result<Request, AllocError> {
     Ok(Request { words, source })
 }
 
-// One attempt over this loop, where the request fits and the host is a remote one.
+// One attempt over this loop, with a request that fits and a remote host.
 fn attempt_by<S: Station + Drop>(
     alloc: Global,
     request: &Request,
@@ -176,7 +176,7 @@ fn attempt_by<S: Station + Drop>(
     }
 }
 
-// Why the exchange was broken, where it was.
+// Why the exchange was broken, if it was.
 fn cause_of(answer: Option<Attempt>) -> Result<Option<Cause>, Fail> {
     match answer {
         Some(Attempt::Whole(_)) => Ok(None),

@@ -284,7 +284,7 @@ fn a_call_logs_and_ends_by_its_words(rt: HostRuntime) -> Result<(), Fail> {
     expect_rows(&rt, rt.alloc(), ROWS)
 }
 
-// The second line isn't taken: the first one stands, and the status is 100.
+// The second line isn't taken: the first one stays, and the status is 100.
 const STOPPED: &[Row] = &[
     Row {
         zeros: &[2],

@@ -12,7 +12,7 @@ use std::process::Abort;
 use std::test::Fail;
 use wire_tokens::{RequestFault, Which};
 
-// How a link moves bytes: at most so many by one call, and which of its calls fail or move nothing.
+// How a link moves bytes: at most that many by one call, and which of its calls fail or move nothing.
 #[derive(Clone, Copy)]
 pub(crate) struct Course<'a> {
     pub(crate) most: u32,
@@ -51,7 +51,7 @@ pub(crate) const NOTHING: Left<'static> = Left {
     fails: &[],
 };
 
-// The table names `scc` alone; its program is elsewhere.
+// The table names only `scc`; its program is elsewhere.
 fn table(alloc: Global) -> Result<Compilers, AllocError> {
     let name = Bytes::from_slice(alloc, b"scc")?;
     let program = Bytes::from_slice(alloc, b"/usr/bin/scc")?;
@@ -143,7 +143,7 @@ pub(crate) fn expect<R: Abort>(
     Ok(())
 }
 
-// The same, where the link moves at most 1, 50 and 1,000 bytes by one call.
+// The same with a link that moves at most 1, 50 and 1,000 bytes by one call.
 fn expect_in_pieces<R: Abort>(
     rt: &R,
     alloc: Global,
@@ -291,7 +291,7 @@ fn surplus_is_ignored(rt: HostRuntime) -> Result<(), Fail> {
     )
 }
 
-// The words of a run, with a blank behind each.
+// The words of a run, with a blank after each.
 fn line_of(alloc: Global, words: &[Word]) -> Result<Bytes, AllocError> {
     let mut line = Bytes::new(alloc);
     for word in words {

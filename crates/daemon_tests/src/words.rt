@@ -277,7 +277,7 @@ fn help_and_version(rt: HostRuntime) -> Result<(), Fail> {
     expect_version(&rt, rt.alloc())
 }
 
-// An option that stands over and over, each time with the next number from 0 as its value, between these texts.
+// An option that is given over and over, each time with the next number from 0 as its value, between these texts.
 #[derive(Clone, Copy, Debug)]
 struct Numbered {
     option: &'static str,
@@ -305,13 +305,13 @@ fn numbered_words(alloc: Global, row: &Numbered, count: u8) -> Result<Vec<String
     Ok(words)
 }
 
-// The place of the first bad word where the option stands so often.
+// The place of the first bad word if the option is given that often.
 fn bad_place(alloc: Global, row: &Numbered, count: u8) -> Result<Option<usize>, AllocError> {
     let words = numbered_words(alloc, row, count)?;
     Ok(parse_words(words.as_slice()).err())
 }
 
-// An option may stand this often: once more is a bad word.
+// An option may be given this often: once more is a bad word.
 fn expect_most<R: Abort>(rt: &R, alloc: Global, rows: &[(Numbered, u8)]) -> Result<(), Fail> {
     for (row, most) in rows {
         let place = 2 * usize::from(*most) + 1;

@@ -11,7 +11,7 @@ use Rattle.daemon_words.specs.Options.{Reads}
 abbrev pub asked_by : List ℕ → Option Command
 asked_by word = if bytes_eq word (codes "--help") then Some Help else (if bytes_eq word (codes "--version") then Some Version else None)
 
--- what the first word asks for, where it isn't an option with a value
+-- what the first word asks for, if it isn't an option with a value
 abbrev pub asked : List (List ℕ) → Option Command
 asked [] = None
 asked (word ∷ words) = asked_by word
@@ -20,7 +20,7 @@ abbrev pub served : Result Options ℕ → Result Command ℕ
 served (Ok options) = Ok (Serve options)
 served (Err place) = Err place
 
--- such a word stands alone; all other words are options and their values
+-- such a word has to be the only one; all other words are options and their values
 abbrev pub ByFirst : List (List ℕ) → Result Command ℕ → Option Command → Type 0
 ByFirst words read (Some command) = read ≡ (if length words == 1 then Ok command else Err 1)
 ByFirst words read None = (options : Result Options ℕ) × Reads words options × (read ≡ served options)
@@ -51,7 +51,7 @@ IsCommand words command = ReadWords words (Ok command)
 abbrev pub BadAt : List (List ℕ) → ℕ → Type 0
 BadAt words place = ReadWords words (Err place)
 
--- where the doors are; where `farmd` isn't to serve, there are none
+-- the address, the port and the number of the doors; there are none if `farmd` isn't to serve
 abbrev pub place_of : Command → DoorPlace
 place_of (Serve options) = record {
   addr = unwrap_or options.listen 0;

@@ -31,14 +31,15 @@ tools_max = 16
 abbrev pub shared_cache_max : ℕ
 shared_cache_max = 65536
 
--- the most seconds of a compile that may be given, and the seconds where none are
+-- the most seconds of a compile that may be given
 abbrev pub job_lifetime_max : ℕ
 job_lifetime_max = 1000000
 
+-- the seconds of a compile if none are given
 abbrev pub job_lifetime_default : ℕ
 job_lifetime_default = 600
 
--- it may stand more than once
+-- it may be given more than once
 abbrev pub repeats : OptionName → Bool
 repeats option.Compiler = true
 repeats option.Allow = true
@@ -67,13 +68,15 @@ count_in kind (word ∷ value ∷ more) = (if is_of kind (option_named word) the
 
 -- ---- their values
 
--- the name of a compiler stands before the first `=` of a value, and its program behind it
+-- the place of the first `=` of a value, or its length if there is none
 abbrev pub equals_in : List ℕ → ℕ
 equals_in value = position_or_len (λ c. c == 61) value
 
+-- the name of a compiler: what is before the first `=`
 abbrev pub name_in : List ℕ → List ℕ
 name_in value = take (equals_in value) value
 
+-- its program: what is after the first `=`
 abbrev pub program_in : List ℕ → List ℕ
 program_in value = drop (equals_in value + 1) value
 
@@ -82,7 +85,7 @@ pub record IsCompiler (value : List ℕ) : Type 0 where
   pub name : 0 < equals_in value
   pub program : equals_in value + 1 < length value
 
--- a compiler of this name stands among these options
+-- a compiler of this name is among these options
 abbrev pub named_in : List (List ℕ) → List ℕ → Bool
 named_in [] name = false
 named_in (word ∷ []) name = false
@@ -128,7 +131,7 @@ pub record IsSole (name : OptionName) (other : List ℕ) (before : List (List �
   pub spelled : IsSpelled name value number
   pub sole : given_in before other ≡ false
 
--- a word may be the value of this option, behind these words
+-- a word may be the value of this option after these words
 abbrev pub ValueFits : Option OptionName → List (List ℕ) → List ℕ → Type 0
 ValueFits None before value = ⊥
 ValueFits (Some option.Compiler) before value = AddsCompiler before value
@@ -202,6 +205,6 @@ shared_bound options = mebibytes options.shared
 abbrev pub seconds : ℕ → Option ℕ
 seconds n = if n == 0 then None else Some n
 
--- the most seconds that a compile may take, where there is a limit
+-- the most seconds that a compile may take, if there is a limit
 abbrev pub job_lifetime : Options → Option ℕ
 job_lifetime options = seconds (unwrap_or options.job_lifetime job_lifetime_default)

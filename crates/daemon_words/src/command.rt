@@ -12,16 +12,15 @@ use farm_types::limits::PORT_DEFAULT;
 /// What `farmd` is to do.
 #[derive(Clone, Copy, Debug, PartialEq, Eq)]
 pub enum Command {
-    /// `--help`, alone or behind `--trust-options`.
+    /// `--help`, as the only word or after `--trust-options`.
     Help,
-    /// `--version`, alone or behind `--trust-options`.
+    /// `--version`, as the only word or after `--trust-options`.
     Version,
     /// To serve, as these options say.
     Serve(Options),
 }
 
-/// Where the doors are: at this IPv4 address, as a number, and at this port, and so many. Where `farmd` isn't to serve, there
-/// are none.
+/// Where the doors are: their IPv4 address as a number, their port, and how many they are. If `farmd` isn't to serve, there are none.
 #[derive(Clone, Copy, Debug, PartialEq, Eq)]
 pub struct DoorPlace {
     pub addr: u32,
@@ -39,7 +38,7 @@ fn asked_by(word: &str) -> Option<Command>
     }
 }
 
-// What the first word asks for, where it isn't an option with a value.
+// What the first word asks for, if it isn't an option with a value.
 fn asked(words: &[String]) -> Option<Command>
     ensures { result ≡ commands.asked (map string_bytes words.now) }
 {
@@ -59,7 +58,7 @@ pub fn trusts_options(words: &[String]) -> bool
     }
 }
 
-/// The words without `--trust-options` in front: `--help`, `--version`, or options and their values.
+/// The words without a leading `--trust-options`: `--help`, `--version`, or options and their values.
 pub fn settings_of(words: &[String]) -> &[String]
     ensures { map string_bytes result.now ≡ commands.settings_of (map string_bytes words.now) }
 {
@@ -124,7 +123,7 @@ impl Command {
     }
 }
 
-/// Where the words place the doors. None where they are bad words. It takes no memory.
+/// The place of the doors by these words. None if they are bad words. It takes no memory.
 pub fn door_place(words: &[String]) -> Option<DoorPlace>
     ensures some { IfSome result (λ place. (command : Asked) × IsCommand (map string_bytes words.now) command × (place ≡ commands.place_of command)) }
     ensures none { IfNone result ((at : ℕ) × BadAt (map string_bytes words.now) at) }

@@ -4,7 +4,7 @@ ghost use Rattle.std.specs.Prelude.{◌≡◌};
 ghost use Rattle.daemon_words.specs.Names.{option_named};
 ghost use Rattle.daemon_words.specs.Options.{is_of, repeats};
 
-/// The name of an option of `farmd`. Each has a value, the word behind it.
+/// The name of an option of `farmd`. Each has a value, the word after it.
 #[derive(Clone, Copy, Debug, PartialEq, Eq)]
 pub enum OptionName {
     /// `--compiler`
@@ -40,7 +40,7 @@ pub(crate) enum Kind {
 }
 
 impl OptionName {
-    // Whether the option may stand more than once.
+    // Whether the option may be given more than once.
     pub(crate) fn repeats(self) -> bool
         ensures { result ≡ repeats self }
     {

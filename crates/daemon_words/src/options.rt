@@ -8,7 +8,7 @@ use farm_types::limits::{CONNECTIONS_MAX, PORT_DEFAULT, WORKERS_DEFAULT};
 
 /// The bytes of one MiB.
 const MEBIBYTE: u64 = 1_048_576;
-/// The seconds of a compile where none are given.
+/// The seconds of a compile if none are given.
 const JOB_LIFETIME_DEFAULT: u32 = 600;
 
 /// What the options say; of the compilers, the rules and the folders of tools, how many there are.
@@ -34,35 +34,35 @@ pub struct Options {
 }
 
 impl Options {
-    /// The port: 3632 where none is given.
+    /// The port: 3632 if none is given.
     pub fn port(&self) -> u16
         ensures { result ≡ unwrap_or self.now.port port_default }
     {
         self.port.unwrap_or(PORT_DEFAULT)
     }
 
-    /// The address: 0.0.0.0 where none is given.
+    /// The address: 0.0.0.0 if none is given.
     pub fn listen(&self) -> u32
         ensures { result ≡ unwrap_or self.now.listen 0 }
     {
         self.listen.unwrap_or(0)
     }
 
-    /// The number of doors: 4 where none is given.
+    /// The number of doors: 4 if none is given.
     pub fn jobs(&self) -> u8
         ensures { result ≡ unwrap_or self.now.jobs workers_default }
     {
         self.jobs.unwrap_or(WORKERS_DEFAULT as u8)
     }
 
-    /// The number of connections of each door: 100,000 where none is given.
+    /// The number of connections of each door: 100,000 if none is given.
     pub fn serve(&self) -> u32
         ensures { result ≡ unwrap_or self.now.serve connections_max }
     {
         self.serve.unwrap_or(CONNECTIONS_MAX)
     }
 
-    /// How many bytes the book of each door's station may have; None where there are no books.
+    /// How many bytes the book of each door's station may have; None if there are no books.
     pub fn book_bound(&self) -> Option<u64>
         ensures { result ≡ book_bound self.now }
     {
@@ -83,7 +83,7 @@ impl Options {
         }
     }
 
-    /// The most seconds that a compile may take: 600 where none are given. None for as long as it takes, where 0 is given.
+    /// The most seconds that a compile may take: 600 if none are given. None if 0 is given, which means as long as it takes.
     pub fn job_lifetime(&self) -> Option<u32>
         ensures { result ≡ job_lifetime self.now }
     {

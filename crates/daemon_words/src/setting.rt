@@ -21,7 +21,7 @@ const SHARED_CACHE_MAX: u32 = 65_536;
 /// The most seconds of a compile that may be given.
 const JOB_LIFETIME_MAX: u32 = 1_000_000;
 
-/// The name of a compiler: what stands before the first `=`.
+/// The name of a compiler: what is before the first `=`.
 pub(crate) fn name_in(value: &[u8]) -> &[u8]
     ensures { result.now ≡ says.name_in value.now }
 {
@@ -44,7 +44,7 @@ fn names(word: &str, value: &[u8], name: &[u8]) -> bool
     word == "--compiler" && name_in(value) == name
 }
 
-// Whether a compiler of this name stands among the options.
+// Whether a compiler of this name is among the options.
 fn is_named(before: &[String], name: &[u8]) -> bool
     ensures { result ≡ named_in (map string_bytes before.now) name.now }
 {
@@ -150,7 +150,7 @@ pub(crate) fn read_serve(value: &[u8]) -> Option<u32>
     read_plain_decimal(value, 6, 1, CONNECTIONS_MAX)
 }
 
-/// The number of MiB of each door's book that a value spells, with zeros in front or without.
+/// The number of MiB of each door's book that a value spells, with leading zeros or without.
 pub(crate) fn read_cache(value: &[u8]) -> Option<u8>
     ensures found { IfSome result (IsSpelled names.Cache value.now) }
     ensures none { IfNone result ((n : ℕ) → IsSpelled names.Cache value.now n → ⊥) }
@@ -161,7 +161,7 @@ pub(crate) fn read_cache(value: &[u8]) -> Option<u8>
     }
 }
 
-/// The number of MiB of the book of all doors that a value spells, with zeros in front or without.
+/// The number of MiB of the book of all doors that a value spells, with leading zeros or without.
 pub(crate) fn read_shared(value: &[u8]) -> Option<u32>
     ensures found { IfSome result (IsSpelled names.SharedCache value.now) }
     ensures none { IfNone result ((n : ℕ) → IsSpelled names.SharedCache value.now n → ⊥) }
@@ -169,7 +169,7 @@ pub(crate) fn read_shared(value: &[u8]) -> Option<u32>
     read_decimal(value, 5, 1, SHARED_CACHE_MAX)
 }
 
-// Whether an option of this name stands among the options.
+// Whether an option of this name is among the options.
 fn is_given(before: &[String], name: &str) -> bool
     ensures { result ≡ given_in (map string_bytes before.now) name.now }
 {
@@ -207,7 +207,7 @@ pub(crate) fn read_job_lifetime(value: &[u8]) -> Option<u32>
     read_plain_decimal(value, 7, 0, JOB_LIFETIME_MAX)
 }
 
-/// Whether a word may be the value of an option behind these words.
+/// Whether a word may be the value of an option after these words.
 pub(crate) fn is_value(option: Option<OptionName>, before: &[String], value: &[u8]) -> bool
     ensures yes { result ≡ true → ValueFits option (map string_bytes before.now) value.now }
     ensures no { result ≡ false → ValueFits option (map string_bytes before.now) value.now → ⊥ }

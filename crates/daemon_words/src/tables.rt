@@ -13,7 +13,7 @@ use daemon_service::{Compiler, CompilerVec};
 use farm_types::Bytes;
 use std::alloc::{AllocError, Global};
 
-// What stands behind the first `=` of a value.
+// What is after the first `=` of a value.
 fn program_in(value: &[u8]) -> &[u8]
     ensures { result.now ≡ says.program_in value.now }
 {

@@ -1,4 +1,4 @@
--- One connection of a door: what became of it, and what it added to each told list.
+-- One connection of a door: what became of it, and what it added to each recorded list.
 use Rattle.std.specs.Prelude.{◌≡◌, ℕ, Bool, true, false, List, [], ◌∷◌, Option}
 use Rattle.farm_types.specs.declared.placed.Word.{Word}
 use Rattle.farm_types.specs.declared.ran.Ran.{Ran}
@@ -19,8 +19,7 @@ pub record Connection : Type 0 where
   pub visits : List Visit
   pub runs : List Run
 
--- The peer was let in, and its one visit and its runs show the service by its answer. The visit tells a fault of the link exactly
--- where the answer does.
+-- The peer was let in, and its one visit and its runs show the service by its answer. The visit shows a fault of the link exactly if the answer does.
 pub record IsServed (table : List Compiler) (rules : List Rule) (ran : List Word → List ℕ → Ran → Type 0) (served : Served)
     (c : Connection) : Type 0 where
   pub addr : ℕ

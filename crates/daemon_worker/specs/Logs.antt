@@ -21,7 +21,7 @@ abbrev pub AreConnections : List Compiler → List Rule → (List Word → List 
 AreConnections table rules ran [] = Unit {0}
 AreConnections table rules ran (c ∷ cs) = IsConnection table rules ran c × AreConnections table rules ran cs
 
--- the entries of some connections of a door, where their numbers go on from this one
+-- the entries of some connections of a door, with numbers that go on from this one
 abbrev pub numbered : ℕ → ℕ → List Connection → List Entry
 numbered door number [] = []
 numbered door number (c ∷ cs) = record { door = door; number = number; what = c.what } ∷ numbered door (suc number) cs
@@ -31,7 +31,7 @@ abbrev pub AreGoing : List Connection → Type 0
 AreGoing [] = Unit {0}
 AreGoing (c ∷ cs) = (stops c.what ≡ false) × AreGoing cs
 
--- the last one is the first after which no further connection is served, and there are at most so many
+-- the last one is the first after which no further connection is served, and there are at most that many
 pub record IsStopped (serve : ℕ) (cs : List Connection) : Type 0 where
   pub before : List Connection
   pub last : Connection
@@ -40,7 +40,7 @@ pub record IsStopped (serve : ℕ) (cs : List Connection) : Type 0 where
   pub stopped : stops last.what ≡ true
   pub within : length cs ≤ serve
 
--- there are as many connections as are to be served, unless the last is a fault of the door or want of memory at it
+-- there are as many connections as are to be served, unless the last is a fault of the door or lack of memory at it
 abbrev pub Ends : ℕ → List Connection → Type 0
 Ends serve cs = (AreGoing cs × (length cs ≡ serve)) ⊎ IsStopped serve cs
 
@@ -90,7 +90,7 @@ pub record LogGrew (table : List Compiler) (rules : List Rule) (serve door : ℕ
   pub served : DoorServed table rules serve door ran old new before after entries
   pub grew : log_after ≡ log_before ++ entries
 
--- The log is that of the doors one after the other, where their numbers go on from this one.
+-- The log is that of the doors one after the other, with numbers that go on from this one.
 abbrev pub DoorsServed : {A S : Type 0} → List Compiler → List Rule → ℕ → (A → DoorView) → (S → StationView)
     → (S → List Word → List ℕ → Ran → Type 0) → ℕ → List (DoorKit A S) → List (DoorKit A S) → List Entry → Type 0
 DoorsServed table rules serve door station ran number [] [] log = log ≡ []

@@ -13,14 +13,14 @@ use Rattle.daemon_worker.specs.declared.log.Met.{Met}
 use Rattle.daemon_worker.specs.declared.log.Met.TheVariants as met
 use Rattle.daemon_worker.specs.Connections.{Connection, IsConnection}
 
--- A fault of the door, or of the station, goes with a rise of its counts. With any other answer these stand still.
+-- A fault of the door, or of the station, goes with a rise of its counts. With any other answer these stay the same.
 abbrev pub MetCause : Met → DoorView → DoorView → StationView → StationView → Type 0
 MetCause (met.Served served) old new before after = Still old.faults new.faults × StationCause served before after
 MetCause (met.Denied addr rule) old new before after = Still old.faults new.faults × StationStill before after
 MetCause met.DoorFault old new before after = Rose old.faults new.faults × StationStill before after
 MetCause met.DoorMemory old new before after = Still old.faults new.faults × StationStill before after
 
--- There was one connection, which the answer describes; where the door and the station tell their lists, it is all that they grew by.
+-- There was one connection, which the answer describes. If the door and the station record their lists, these grew by exactly what it added.
 pub record Meets (table : List Compiler) (rules : List Rule) (ran : List Word → List ℕ → Ran → Type 0) (old new : DoorView)
     (before after : StationView) (what : Met) : Type 0 where
   pub c : Connection

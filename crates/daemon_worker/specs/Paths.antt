@@ -12,7 +12,7 @@ use Rattle.daemon_worker.specs.declared.log.Entry.{Entry}
 use Rattle.daemon_worker.specs.declared.log.DoorKit.{DoorKit}
 
 module _ {S : Type 0} (goes : S → List Word → List ℕ → Bounds → Result Ran StationFault → S → Type 0) (table : List Compiler) where
-  -- Where nothing was served, the station is as before.
+  -- What one connection did to the station. If nothing was served, the station is as before.
   abbrev pub MetCalls : S → S → Met → Type 0
   MetCalls before after (met.Served served) = Calls goes table before after served
   MetCalls before after (met.Denied addr rule) = after ≡ before
@@ -35,7 +35,7 @@ module _ {S : Type 0} (goes : S → List Word → List ℕ → Bounds → Result
     pub is : DoorPath door before after entries
     pub grew : log_after ≡ log_before ++ entries
 
-  -- the log is that of the doors one after the other, where their numbers go on from this one
+  -- the log is that of the doors one after the other, with numbers that go on from this one
   abbrev pub DoorsPaths : {A : Type 0} → ℕ → List (DoorKit A S) → List (DoorKit A S) → List Entry → Type 0
   DoorsPaths number [] [] log = log ≡ []
   DoorsPaths number [] (new ∷ news) log = ⊥

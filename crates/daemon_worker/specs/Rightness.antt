@@ -14,11 +14,13 @@ use Rattle.daemon_worker.specs.declared.log.Met.{Met}
 use Rattle.daemon_worker.specs.declared.log.Met.TheVariants as met
 use Rattle.daemon_worker.specs.Connections.{Connection}
 
--- The answer follows from what was given, unless memory was wanting: a whole request is answered, a fault that stands is told,
--- and a short text was cut.
+-- The answer follows from what was given, unless memory ran out.
 pub record IsRightAnswer (given : List ℕ) (served : Served) : Type 0 where
+  -- a whole request is answered
   pub whole : (used : ℕ) (q : Request) → BeginsRequest given used q → IsAnswered served ⊎ (served ≡ Memory)
+  -- a request with a fault is refused by that fault
   pub fault : (at : ℕ) (fault : RequestFault) → RequestFaultStands given at fault → (served ≡ Refused at fault) ⊎ (served ≡ Memory)
+  -- a short text was cut
   pub short : IsShortRequest given → (served ≡ Cut (length given)) ⊎ (served ≡ Memory)
 
 -- the answers of these visits are right
@@ -26,7 +28,7 @@ abbrev pub AreRightAnswers : List Visit → Served → Type 0
 AreRightAnswers [] served = Unit {0}
 AreRightAnswers (visit ∷ visits) served = IsRightAnswer visit.given served × AreRightAnswers visits served
 
--- a connection was answered rightly, or denied, or memory was wanting at the door
+-- a connection was answered rightly, or denied, or memory ran out at the door
 abbrev pub IsRight : Met → List Visit → Type 0
 IsRight (met.Served served) visits = AreRightAnswers visits served
 IsRight (met.Denied addr rule) visits = Unit {0}

@@ -20,16 +20,16 @@ kit_of worker = worker.kit
 abbrev pub log_of : {A S : Type 0} → Worker A S → List Entry
 log_of worker = worker.log.items
 
--- an empty log, with room for so many entries
+-- an empty log, with room for that many entries
 pub record IsRoom (serve : ℕ) (items : List Entry) (len capacity : ℕ) : Type 0 where
   pub empty : items ≡ []
   pub room : len + serve ≤ capacity
 
--- a worker that has done nothing yet, with room for so many entries
+-- a worker that has done nothing yet, with room for that many entries
 abbrev pub IsReady : {A S : Type 0} → ℕ → Worker A S → Type 0
 IsReady serve worker = IsRoom serve worker.log.items (vec_len worker.log) (vec_capacity worker.log)
 
--- A worker served its door, of this number, and its log has just the entries of that; and this was the way of its station.
+-- A worker served its door, of this number, and its log has exactly the entries of that. This was the way of its station.
 abbrev pub Worked : {A S : Type 0} → List Compiler → List Rule → ℕ → (A → DoorView) → (S → StationView)
     → (S → List Word → List ℕ → Ran → Type 0) → (S → List Word → List ℕ → Bounds → Result Ran StationFault → S → Type 0) → ℕ
     → Worker A S → Worker A S → Type 0

@@ -23,8 +23,8 @@ pub(crate) fn note(log: &mut Vec<Entry>, entry: Entry)
     };
 }
 
-/// Serves the connections of one door, one after the other, as many as `config.serve`, or up to a fault of the door or want
-/// of memory at it. Each is added to the log, into room that it has.
+/// Serves the connections of one door, one after the other: `config.serve` of them, or fewer if the door fails or memory runs out at it. Each is
+/// added to the log, into room that it has.
 pub fn serve_door<A: Door, S: Station>(
     alloc: Global,
     door: u32,

@@ -9,7 +9,7 @@ use crate::worker::Worker;
 use crate::{DoorKit, Entry};
 use std::alloc::{AllocError, Global};
 
-/// So many empty logs, each with room for `serve` entries.
+/// That many empty logs, each with room for `serve` entries.
 pub(crate) fn make_logs(
     alloc: Global,
     count: usize,
@@ -53,7 +53,7 @@ pub(crate) fn take_kits<A: Drop, S: Drop>(
     Ok(workers)
 }
 
-/// Moves the kits of the workers back in front of the kits that stayed.
+/// Moves the kits of the workers back before the kits that stayed.
 pub(crate) fn put_back<A: Drop, S: Drop>(
     mut workers: Vec<Worker<A, S>>,
     doors: &mut Vec<DoorKit<A, S>>,

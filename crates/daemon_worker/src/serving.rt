@@ -44,8 +44,8 @@ where
     Ok(Items::from_vec(log))
 }
 
-/// Serves the connections of all doors, each door by a worker of its own, and answers the log. All workers work side by side,
-/// in threads where these can be made. The room for the log is taken first, so `Err` means that nothing was served.
+/// Serves the connections of all doors, each door by a worker of its own, and answers the log. All workers work side by side, in threads if these can
+/// be made. The room for the log is taken first, so `Err` means that nothing was served.
 pub fn serve<R: Threads + Sync, A: Door + Send + Drop, S: Station + Send + Drop>(
     rt: &R,
     alloc: Global,

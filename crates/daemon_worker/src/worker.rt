@@ -18,7 +18,7 @@ pub(crate) struct Worker<A, S> {
     pub(crate) log: Vec<Entry>,
 }
 
-// Serves the door of a worker, which stands at this place from 0.
+// Serves the door of a worker, which is at this place from 0.
 fn work<A: Door, S: Station>(
     alloc: Global,
     at: usize,
@@ -39,7 +39,7 @@ fn work<A: Door, S: Station>(
     );
 }
 
-// Each worker serves its door, in a thread of its own where one can be made.
+// Each worker serves its door, in a thread of its own if one can be made.
 fn work_side_by_side<R: Threads + Sync, A: Door + Send, S: Station + Send>(
     rt: &R,
     alloc: Global,

@@ -1,4 +1,4 @@
--- What a program is given, and what a run of it that came to nothing may answer.
+-- What a program is given, and what a run of it that failed may answer.
 use Rattle.std.specs.Prelude.{◌≡◌, ◌≢◌, ℕ, ◌<◌, ◌==◌, Bool, false, not, ◌&&◌, ◌||◌, nat_eq, List, [], ◌∷◌, ◌++◌, map, Option, None, Some}
 use Rattle.std.specs.Prelude.{Result, Ok, Err, codes, if◌then◌else◌}
 use Rattle.std.specs.List.{list_any, starts_with}
@@ -27,7 +27,7 @@ IsRunFault bounds Failed = Unit {0}
 IsRunFault bounds (TooMuch stream bytes) = bound_of bounds stream < bytes
 IsRunFault bounds Memory = Unit {0}
 
--- where a stream is named it is this one, above this bound
+-- if a stream is named, it is this one, above this bound
 abbrev pub IsStreamFault : Stream → ℕ → StationFault → Type 0
 IsStreamFault one bound Failed = Unit {0}
 IsStreamFault one bound (TooMuch stream bytes) = (stream ≡ one) × (bound < bytes)
@@ -53,7 +53,7 @@ left_by stream (Err (fetch.TooMuch bytes)) = Err (TooMuch stream bytes)
 left_by stream (Err fetch.Failed) = Err Failed
 left_by stream (Err fetch.Memory) = Err Memory
 
--- a word as the program is given it: its text, or the name of the file that it stands for
+-- a word as the program is given it: its text, or the name of the input or of the object in its place
 abbrev pub given_word : List ℕ → List ℕ → Word → List ℕ
 given_word source object (Text bytes) = bytes
 given_word source object (Input ext) = source
@@ -72,7 +72,7 @@ pub record IsCommandOf {A : Type 0} (words : List Word) (source object : List �
   pub variables : (name : List ℕ) → command_var command name ≡ None
   pub folder : command_dir command ≡ None
 
--- a path that begins where this process is: it has a slash, and not at its front
+-- a path from the folder of this process: it has a slash, but not as its first byte
 abbrev pub is_from_here : List ℕ → Bool
 is_from_here program = list_any (λ b. b == 47) program && not (starts_with nat_eq program (codes "/"))
 
@@ -86,14 +86,14 @@ pub record HasFolderForFiles {A : Type 0} (here place : List ℕ) (command : Com
   pub temporary : command_var command (codes "TMPDIR") ≡ Some (Some (named_from here place))
   pub variables : (name : List ℕ) → name ≢ codes "TMPDIR" → command_var command name ≡ None
 
--- a program without arguments, in this folder, where its temporary files are too
+-- a program without arguments, in this folder, in which its temporary files are made too
 pub record IsProgramIn {A : Type 0} (program here place : List ℕ) (command : Command A) : Type 0 where
   pub program_given : command_program command ≡ named_from here program
   pub arguments : command_args command ≡ []
   pub environment : HasFolderForFiles here place command
   pub folder : command_dir command ≡ Some place
 
--- the first of the words that stands for the input
+-- the ending of the first `Input` of the words
 abbrev pub first_input : List Word → Option Ext
 first_input [] = None
 first_input (Text bytes ∷ words) = first_input words
@@ -105,7 +105,7 @@ abbrev pub source_text : Ext → List ℕ
 source_text I = codes "input.i"
 source_text Ii = codes "input.ii"
 
--- its name where it stands in the words, and else nothing
+-- the name of the input if one of the words is `Input`, and else nothing
 abbrev pub source_of : List Word → List ℕ
 source_of words = unwrap_or (option_map source_text (first_input words)) []
 
@@ -113,7 +113,7 @@ source_of words = unwrap_or (option_map source_text (first_input words)) []
 abbrev pub object_text : List ℕ
 object_text = codes "output.o"
 
--- a file stands for one of the words
+-- one of the words is `Input` or `Output`
 abbrev pub needs_folder : List Word → Bool
 needs_folder words = is_some (first_input words) || has_output words
 
@@ -129,9 +129,10 @@ pub record IsCommandIn {A : Type 0} (words : List Word) (here place : List ℕ) 
   pub environment : HasFolderForFiles here place command
   pub folder : command_dir command ≡ Some place
 
--- the path of the file that stands for the input in this folder, if one does, and so of the file that stands for the object
+-- the path of the input in this folder, if one of the words is `Input`
 abbrev pub input_path : List ℕ → List Word → Option (List ℕ)
 input_path folder words = option_map (λ ext. file_in folder (source_text ext)) (first_input words)
 
+-- the path of the object in this folder, if one of the words is `Output`
 abbrev pub output_path : List ℕ → List Word → Option (List ℕ)
 output_path folder words = if has_output words then Some (file_in folder object_text) else None

@@ -8,7 +8,7 @@ use Rattle.edge_traits.specs.declared.faults.StationFault.{StationFault}
 use Rattle.edge_traits.specs.declared.faults.StationFault.TheVariants.{Failed as RunFailed, TooMuch as RunTooMuch, Memory as RunMemory}
 use Rattle.edge_traits.specs.Calls.{one_more}
 
--- one more where the call failed. A call that only wanted memory isn't counted.
+-- One more if the call failed. A call for which memory ran out isn't counted.
 abbrev pub call_faults : {T : Type 0} → Result T EdgeFault → ℕ → ℕ
 call_faults (Ok value) count = count
 call_faults (Err CallFailed) count = one_more count

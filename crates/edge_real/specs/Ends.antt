@@ -24,13 +24,13 @@ abbrev pub is_late : Duration → Option Duration → Bool
 is_late passed None = false
 is_late passed (Some lifetime) = nat_le (as_nanos lifetime) (as_nanos passed)
 
--- A program is ended early where its peer has gone, and else where it has run for its lifetime.
+-- A program is ended early as `Gone` if its peer has gone, and else as `Late` if it has run for its lifetime.
 abbrev pub early_end : Bool → Bool → Option EarlyEnd
 early_end true late = Some Gone
 early_end false true = Some Late
 early_end false false = None
 
--- what the wait for a program gives its run: a status only where the program ended by itself
+-- what the wait for a program gives its run: a status only if the program ended by itself
 abbrev pub status_of : Waited → Result ℕ StationFault
 status_of (Ended status) = Ok status
 status_of (Early end) = Err Failed

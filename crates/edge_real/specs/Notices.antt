@@ -1,4 +1,4 @@
--- What is said of a run that came to nothing, and what is said of exchanges.
+-- What is said of a run that failed, and what is said of exchanges.
 use Rattle.std.specs.Prelude.{ℕ, List, codes, bytes_eq, Option, Some, None, if◌then◌else◌}
 use Rattle.edge_traits.specs.declared.faults.Stream.{Stream}
 use Rattle.edge_traits.specs.declared.faults.Stream.TheVariants.{Out, Err, Object}

@@ -37,6 +37,6 @@ numbered process serial = codes "farm-" ++ decimal process ++ codes "-" ++ decim
 abbrev pub staged_text : NamesView → List ℕ
 staged_text names = numbered names.process names.serial
 
--- this name is the text alone, or has it behind a front of the path and a slash
+-- this name is the text, or some first bytes of the path, a slash and the text
 abbrev pub IsBeside : List ℕ → List ℕ → List ℕ → Type 0
 IsBeside path text name = (name ≡ text) ⊎ ((count : ℕ) × (name ≡ take count path ++ codes "/" ++ text))

@@ -11,7 +11,7 @@ IsReadWithin bound (Whole bytes) = length bytes ≤ bound
 IsReadWithin bound (Over bytes) = bound < bytes
 IsReadWithin bound Failed = Unit {0}
 
--- Where the stream's bytes are known, these are its bytes, or so many are its bytes, up to the greatest u64.
+-- If the stream's bytes are known, these are its bytes, or this is their number, up to the greatest u64.
 abbrev pub IsReadOf : Option (List ℕ) → Reading → Type 0
 IsReadOf known (Whole bytes) = IfSome known (λ all. bytes ≡ all)
 IsReadOf known (Over bytes) = IfSome known (λ all. bytes ≡ min (length all) (2 ^ 64 - 1))
@@ -23,7 +23,7 @@ load_of (Whole bytes) = Ok bytes
 load_of (Over bytes) = Err (TooMuch bytes)
 load_of Failed = Err LoadFailed
 
--- a load that came to nothing for the file's length names one above the bound
+-- a load that failed by the file's length names a length above the bound
 abbrev pub IsLoadFault : ℕ → FetchFault → Type 0
 IsLoadFault bound (TooMuch bytes) = bound < bytes
 IsLoadFault bound LoadFailed = Unit {0}

@@ -14,7 +14,7 @@ pub record IsNamedIn (folder path : List ℕ) : Type 0 where
   pub size : length word ≡ 16
   pub named : path ≡ folder_name folder word
 
--- where the folder of a run is
+-- the path of the folder of a run
 abbrev pub place_of : {R F D : Type 0} → RunFolder R F D → List ℕ
 place_of folder = string_bytes folder.path
 

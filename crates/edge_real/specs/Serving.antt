@@ -43,7 +43,7 @@ shown_word (Some Output) = []
 abbrev pub unserved_message : Option Word → List ℕ
 unserved_message word = (codes "farmd: not let through: " ++ shown_word word) ++ 10 ∷ []
 
--- what stands for a run of words of which the one at this place isn't let through: exit code 111 and a message, within the bound of a message
+-- the reply in place of a run of words of which the one at this place isn't let through: exit code 111 and a message, cut to the bound
 abbrev pub unserved_reply : ℕ → List Word → ℕ → Ran
 unserved_reply bound words place = record {
   status = 28416;
@@ -61,7 +61,7 @@ is_fit (Some policy) words object = is_asked_kind words object
 abbrev pub IsOfKind : Option WordPolicy → List Word → Ran → Type 0
 IsOfKind policy words ran = ran.status ≡ 0 → has_output words ≡ true → is_fit policy words ran.object ≡ true
 
--- the reply that says which word isn't let through, or memory was wanting for it
+-- the reply that says which word isn't let through, or else memory ran out for it
 abbrev pub IsRefusal : ℕ → List Word → Result Ran StationFault → ℕ → Type 0
 IsRefusal bound words (Ok ran) place = ran ≡ unserved_reply bound words place
 IsRefusal bound words (Err fault) place = fault ≡ Memory

@@ -2,11 +2,11 @@
 use Rattle.std.specs.Prelude.{ℕ, Bool, true, false, ◌||◌, List, Option, None, Some, string_bytes}
 use Rattle.edge_real.specs.declared.staging.StagedFile.{StagedFile}
 
--- the name that stands for it
+-- the name that it is written for
 abbrev pub staged_as : StagedFile → List ℕ
 staged_as file = file.name
 
--- where it is
+-- its own path
 abbrev pub staged_at : StagedFile → List ℕ
 staged_at file = string_bytes file.path
 

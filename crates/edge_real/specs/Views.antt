@@ -1,4 +1,4 @@
--- What the devices of the system show: how they stand and their counts, but no content.
+-- What the devices of the system show: their states and their counts, but no content.
 use Rattle.std.specs.Prelude.{ℕ, Bool, List, [], Option, None, Some, string_bytes}
 use Rattle.std.specs.FinMap.{empty}
 use Rattle.std.specs.Option.{is_some, option_map}
@@ -31,7 +31,7 @@ use Rattle.edge_real.specs.declared.disk.DiskFiles.{DiskFiles}
 use Rattle.edge_real.specs.declared.stream.StdSource.{StdSource}
 use Rattle.edge_real.specs.declared.stream.StdSink.{StdSink}
 
--- where a connection came from, and how it stands
+-- a connection's peer and its state
 abbrev pub link_view : {R S : Type 0} → TcpLink R S → LinkView
 link_view link = record {
   origin = record { host = link.host; port = link.port };
@@ -46,7 +46,7 @@ link_view link = record {
 abbrev pub door_link_view : {R S : Type 0} → DoorLink R S → LinkView
 door_link_view link = link_view link.link
 
--- with so many faults
+-- with that many faults
 abbrev pub counted_dialer : ℕ → DialerView
 counted_dialer faults = record { exchanges = untold []; faults = faults }
 
@@ -115,7 +115,7 @@ can_put files = may_be_put files.puts_empty files.staged
 abbrev pub takes_empty : {R : Type 0} → DiskFiles R → Bool
 takes_empty files = files.puts_empty
 
--- a clock doesn't tell what moments it gave
+-- a clock doesn't record what moments it gave
 abbrev pub clock_view : {R : Type 0} → WallClock R → ClockView
 clock_view clock = record { moments = untold [] }
 

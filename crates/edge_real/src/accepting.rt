@@ -1,4 +1,4 @@
-// Accepts that are made again: an error of the connection's own, and a want of the system that may pass.
+// Accepts that are made again: after an error of the connection itself, and while the system lacks something that it may have again.
 ghost use Rattle.std.specs.Prelude.{◌≡◌, ◌≢◌, OnOk, IfErr};
 ghost use Rattle.std.specs.IoError.{error_kind};
 ghost use Rattle.edge_real.specs.Accepting.{trouble_by};
@@ -22,9 +22,9 @@ enum Trouble {
     Lasting,
 }
 
-/// One connection, with the peer's address. An accept that a signal interrupted, or whose connection had failed by then, is made again. So is
-/// one that wants descriptors or memory of the system, at most `WANTS_TRIED` times: where one waits in the room whose request isn't whole, after
-/// that one is left, and otherwise after a pause; and not where one is ready. What came in between is told once.
+/// One connection, with the peer's address. If a signal interrupted an accept, or its connection had failed by then, it is made again.
+/// If the system lacks descriptors or memory, and no connection is ready, it is made again at most `WANTS_TRIED` times: after one connection whose
+/// request isn't whole has left the room, or after a pause if there is none. What came in between is reported once.
 pub fn accept_one<R: Eprint + Clock, L: OpenListener<Stream = S>, S: Drop>(
     rt: &R,
     room: &mut WaitingRoom<L, S>,
@@ -56,7 +56,8 @@ pub fn accept_one<R: Eprint + Clock, L: OpenListener<Stream = S>, S: Drop>(
     Err(io::Error::from(ErrorKind::Other))
 }
 
-/// One connection, with the peer's address, where the system has one at once. One that is not ready is left in the room for it where that is wanted.
+/// One connection, with the peer's address, if the system has one at once. If the system lacks descriptors or memory, one that isn't ready leaves the
+/// room for it.
 pub fn accept_at_once<R: Eprint + Clock, L: OpenListener<Stream = S>, S: Drop>(
     rt: &R,
     room: &mut WaitingRoom<L, S>,

@@ -54,20 +54,10 @@ struct Service<W> {
     watch: W,
 }
 
-/// Runs programs as children of this process, and waits for their ends.
-///
-/// The program is sought as the system seeks it, in `PATH` where its name has no slash. It has the environment of this process and an empty
-/// standard input. The files that stand for `Input` and `Output` are in a folder that this run makes and no other can share: it is new, its
-/// owner alone may look into it, and its name has a random word. It is gone when the run ends, whatever it answers, with all that the program
-/// left there. No file stands for `Output` until the program makes one. What the program says goes to files without a name.
-///
-/// A program runs in the folder of this process, and has its files by their paths. One of a station that serves others runs in the folder of its
-/// run, which is its `TMPDIR` too, and has its files by their names there. It is killed where whoever asked for it has gone, and where it has run for
-/// its lifetime; then its run has failed. What it started itself isn't killed.
-///
-/// Why a run came to nothing stands as a line on the standard error of this process: the program or the file and the system's reason, the
-/// stream that was too long, or the word that isn't let through. So does it where a program ended with status 0 and left no object, and where
-/// the folder couldn't be removed.
+/// Runs programs as children of this process, and waits for their ends. A run with files, and each run for others, has
+/// a new folder, which is removed when the run ends. Only its owner may look into it, and its name has a random word.
+/// A program for others runs in that folder. It is killed if its peer has gone or its lifetime has passed, and its run has failed.
+/// A line on the standard error says why a run failed. docs/real-devices.md has the rest.
 #[derive(Drop)]
 pub struct ChildStation<R, W = Unwatched> {
     rt: R,
@@ -185,7 +175,7 @@ fn note_asked<W>(service: &Option<Service<W>>) {
     }
 }
 
-/// The place of the first word that isn't let through, where the words are tested. It is told.
+/// The place of the first word that isn't let through, if the words are tested. It is reported.
 fn unserved_place<R: Eprint, W>(
     rt: &R,
     service: &Option<Service<W>>,
@@ -212,7 +202,7 @@ struct Task<'a> {
     bounds: &'a Bounds,
 }
 
-/// Runs the words where they are let through. Where one isn't, nothing is run, and the reply says which.
+/// Runs the words if they are let through. Otherwise nothing is run, and the reply says which word isn't.
 fn run_served<R: Processes + rt::Files<File = File> + RandomSource + Eprint + Clock, W: RunWatch>(
     rt: &R,
     folder: &str,
@@ -299,7 +289,7 @@ fn run_for_others<
     })
 }
 
-/// Runs words in the folder of this process, with the files that stand for some of them in the folder of the run.
+/// Runs words in the folder of this process, with the files of `Input` and `Output` in the folder of the run.
 #[tactic(auto, using(crate::proofs::ChildLemmas::unnamed, crate::proofs::ChildLemmas::of_object))]
 fn run_with_files<R: Processes + rt::Files<File = File> + RandomSource + Eprint>(
     rt: &R,
@@ -334,7 +324,7 @@ fn run_with_files<R: Processes + rt::Files<File = File> + RandomSource + Eprint>
     })
 }
 
-/// Runs words in the folder of this process for which no file stands, so that the run needs no folder of its own.
+/// Runs words without `Input` and `Output` in the folder of this process, so that the run needs no folder of its own.
 #[tactic(auto, using(crate::proofs::ChildLemmas::unnamed))]
 fn run_alone<R: Processes + rt::Files<File = File> + RandomSource + Eprint>(
     rt: &R,
@@ -359,7 +349,7 @@ fn run_alone<R: Processes + rt::Files<File = File> + RandomSource + Eprint>(
     })
 }
 
-/// Makes the file that stands for `Input` in the folder, where it stands in the words, and answers its path.
+/// Makes the file of `Input` in the folder, if `Input` is one of the words, and answers its path.
 fn input_file<R: rt::Files + Eprint>(
     folder: &RunFolder<'_, R>,
     words: &[Word],
@@ -376,7 +366,7 @@ fn input_file<R: rt::Files + Eprint>(
     Ok(Some(path))
 }
 
-/// The path in the folder that stands for `Output`, where it stands in the words. The program makes the file.
+/// The path in the folder of the file of `Output`, if `Output` is one of the words. The program makes the file.
 fn output_path<R: rt::Files + Eprint>(
     folder: &RunFolder<'_, R>,
     words: &[Word],

@@ -6,7 +6,7 @@ use edge_traits::Clock;
 use std::time::{Duration, SystemTime, UNIX_EPOCH};
 use std::{io, rt, thread};
 
-/// The system's clock, in seconds since 1970. Where it can't be read, or stands before 1970, it gives 0.
+/// The system's clock, in seconds since 1970. It gives 0 if the clock can't be read or shows a time before 1970.
 #[derive(Drop)]
 pub struct WallClock<R> {
     rt: R,
@@ -21,7 +21,7 @@ impl<R: rt::Clock> WallClock<R> {
         WallClock::pausing(rt, PAUSE_MILLIS)
     }
 
-    /// A clock of this system, of which a pause lasts so many milliseconds.
+    /// A clock of this system whose pause lasts that many milliseconds.
     pub fn pausing(rt: R, pause_millis: u64) -> WallClock<R>
         ensures { runtime_of result ≡ rt }
     {
@@ -41,7 +41,7 @@ impl<R: rt::Clock> Clock for WallClock<R> {
     }
 }
 
-/// The seconds of a time that was read, and 0 where none was.
+/// The seconds of a time that was read, and 0 if none was.
 fn moment_of(read: io::Result<SystemTime>) -> u64
     ensures { MatchResult read (λ time. result ≡ system_time_nanos time / 1_000_000_000) (λ error. result ≡ 0) }
 {
@@ -61,5 +61,5 @@ fn seconds_since_1970(time: SystemTime) -> u64
     }
 }
 
-/// How many milliseconds a pause lasts where nothing else is said.
+/// How many milliseconds a pause lasts if nothing else is said.
 pub const PAUSE_MILLIS: u64 = 5;

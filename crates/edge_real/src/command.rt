@@ -12,7 +12,7 @@ use std::alloc::{AllocError, Global};
 use std::process::Command;
 use std::str;
 
-/// Whether a file stands for one of the words.
+/// Whether one of the words is `Input` or `Output`.
 pub fn needs_folder(words: &[Word]) -> bool
     ensures { result ≡ needs_folder words.now }
 {
@@ -41,7 +41,7 @@ pub fn source_name(ext: Ext) -> &'static str
     }
 }
 
-/// The path, and nothing where there is none.
+/// The path, and nothing if there is none.
 pub fn path_of(path: &Option<String>) -> &str
     ensures { result.now ≡ unwrap_or (bytes_if path.now) [] }
 {
@@ -51,7 +51,7 @@ pub fn path_of(path: &Option<String>) -> &str
     }
 }
 
-/// The command of these words, where files of these paths stand for the input and the object. It runs in the folder of this process.
+/// The command of these words, with these paths for the input and the object. It runs in the folder of this process.
 pub fn command_of(
     alloc: Global,
     words: &[Word],
@@ -71,8 +71,8 @@ pub fn command_of(
     Ok(command)
 }
 
-/// The command of these words in this folder, where the files that stand for the input and the object are. A program that is named by a path
-/// from `here`, the folder of this process, is the one there.
+/// The command of these words in this folder, which holds the input and the object. If the program is named by a path from `here`, the folder of this
+/// process, it is the one there.
 pub fn command_in(
     alloc: Global,
     words: &[Word],
@@ -94,7 +94,7 @@ pub fn command_in(
     Ok(command)
 }
 
-/// The command of a program without arguments, in this folder, where its temporary files are too.
+/// The command of a program without arguments, in this folder. Its temporary files are in this folder too.
 fn program_in(alloc: Global, program: &str, folder: &str, here: &str) -> Result<Command, AllocError>
     ensures { IfOk result (IsProgramIn program.now here.now folder.now) }
 {
@@ -118,14 +118,14 @@ fn named_from(alloc: Global, here: &str, program: &str) -> Result<String, AllocE
     Ok(name)
 }
 
-/// Whether it is a path that begins where this process is. A name without a slash is sought in `PATH`.
+/// Whether it is a path from the folder of this process. A name without a slash is sought in `PATH`.
 fn is_from_here(program: &[u8]) -> bool
     ensures { result ≡ is_from_here program.now }
 {
     program.contains(&b'/') && !program.starts_with(b"/")
 }
 
-/// The name of the input in its folder, which is empty where none stands in the words.
+/// The name of the input in its folder. It is empty if `Input` isn't one of the words.
 fn source_of(words: &[Word]) -> &'static str
     ensures { result.now ≡ source_of words.now }
 {

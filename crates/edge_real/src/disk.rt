@@ -21,12 +21,9 @@ use std::io::{Eprint, ErrorKind};
 use std::{fs, io, rt, str};
 
 /// The files of the system, for a keeper that writes one file at a time. A name that isn't UTF-8 counts as a fault.
-///
-/// The name under which a file is written, its own with `.farm~` added, stands for a new file of a short name of its own
-/// in the same folder, `farm-PROCESS-SERIAL.farm~`. It is opened new, so no two processes write one file, and nothing that is
-/// there is written over. A character device keeps its place: what is for it is written in the folder that this value was
-/// given, and copied into it in the end. Anything else that is no regular file is never replaced. A file without a byte may be refused, as no
-/// compiler leaves an empty object.
+/// A file is written as a new file `farm-PROCESS-SERIAL.farm~` in its folder, and gets its name in the end. A character device gets the bytes in the
+/// end, from such a file in the folder that this value was given.
+/// Anything else that is no regular file is never replaced. A file without a byte may be refused.
 #[derive(Drop)]
 pub struct DiskFiles<R> {
     rt: R,
@@ -175,7 +172,7 @@ fn tell_empty_put<R: Eprint>(rt: &R, name: &Bytes) {
     }
 }
 
-/// A put of this name came to nothing, for the system's reason. A name that isn't UTF-8 has no line.
+/// A put of this name failed, for the system's reason. A name that isn't UTF-8 has no line.
 fn tell_unput_bytes<R: Eprint>(rt: &R, name: &Bytes, error: &io::Error) {
     if let Ok(text) = text_of(name) {
         tell_unput(rt, text.strip_suffix(".farm~").unwrap_or(text), error);
@@ -203,7 +200,7 @@ fn append_piece(staged: &mut Option<StagedFile>, name: &Bytes, piece: &[u8]) -> 
     }
 }
 
-/// Gives the file that is being written its own name. It is being written still where that fails.
+/// Gives the file that is being written its own name. If that fails, it is still being written.
 fn rename_file<R: rt::Files>(
     rt: &R,
     staged: &mut Option<StagedFile>,
@@ -225,7 +222,7 @@ fn rename_file<R: rt::Files>(
     Ok(())
 }
 
-/// Takes the file that is being written away, and does nothing where there is none. It is being written no more, whatever the answer is.
+/// Takes the file that is being written away, and does nothing if there is none. It is being written no more, whatever the answer is.
 fn remove_file<R: rt::Files>(
     rt: &R,
     staged: &mut Option<StagedFile>,
@@ -285,7 +282,7 @@ pub fn load<R: rt::Files + Eprint>(
     }
 }
 
-/// How long the system says that a file is, and 0 where it doesn't say.
+/// How long the system says that a file is, and 0 if it doesn't say.
 fn length_of<F: OpenFile>(file: &F) -> u64 {
     match file.metadata() {
         Ok(metadata) => metadata.len(),

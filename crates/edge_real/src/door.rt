@@ -23,15 +23,10 @@ use std::rt::{Clock, Files};
 use std::sync::{Arc, Mutex, Wait};
 use std::time::Duration;
 
-/// Takes connections in over TCP. Without a listener, each `accept` counts as a fault.
-///
-/// A connection waits in a room that the doors on one listener share, until its request is whole, its peer has ended or failed, its bytes are no
-/// request, or 16,384 bytes of it wait. One idle door waits for all of them, and takes the first that is ready; then the next idle door waits. So
-/// a peer that is slow or silent holds no door. Room is for 512; where it is full or descriptors are wanting the one is left that has waited
-/// longest, and each is left after 10 minutes. A peer that is denied doesn't wait.
-///
-/// One line on the standard error of this process tells of each connection when it is left: when, the peer, the compiler, what became of it, the
-/// length of the source and of the object, and how long it took. Where the system takes no connection any more, a line says so, with the reason.
+/// Takes connections in over TCP. Without a listener, each `accept` counts as a fault. A peer that is denied doesn't wait.
+/// Connections wait in a room of 512 that the doors on one listener share, so that a slow peer holds no door.
+/// One that isn't ready is left after 10 minutes.
+/// When a connection is left, a line on the standard error says what became of it. docs/real-devices.md has the rest.
 #[derive(Drop)]
 pub struct TcpDoor<R, L, S> {
     rt: R,
@@ -90,7 +85,7 @@ impl<R: Eprint, L: OpenListener, S> TcpDoor<R, L, S> {
         }
     }
 
-    /// Another door on the same listener. It has none where this one has none, or where the system refuses another, which is told.
+    /// Another door on the same listener. It has no listener if this one has none, or if the system refuses another handle, which is reported.
     pub fn share(&self) -> TcpDoor<R, L, S>
     where
         R: Copy,
@@ -131,14 +126,14 @@ impl<R: Eprint, L: OpenListener, S> TcpDoor<R, L, S> {
         self.listener.is_some()
     }
 
-    /// Tells on the standard error why there is no listener, where the system said why.
+    /// Says on the standard error why there is no listener, if the system gave a reason.
     pub fn tell_refusal(&self) {
         if let Some(error) = &self.refusal {
             tell_closed(&self.rt, error);
         }
     }
 
-    /// The port of the listener, where the system tells it.
+    /// The port of the listener, if the system says it.
     pub fn port(&self) -> Option<u16>
         ensures { IsSome result → IsTrue (is_listening self.now) }
     {
@@ -160,7 +155,7 @@ impl<R: Net + Copy, L: Drop, S: Drop> TcpDoor<R, L, S> {
     /// A watch for the runs of this door's connections.
     ///
     /// # Errors
-    /// The system gives no descriptor for it, or memory is wanting.
+    /// The system gives no descriptor for it, or memory runs out.
     pub fn watch(&self, alloc: Global) -> io::Result<DoorWatch<R, L, S>> {
         let room = match &self.room {
             Some(room) => Some(Arc::try_clone(room)?),
@@ -249,8 +244,8 @@ fn listen<R: Net>(
     Ok((listener, Arc::new(alloc, room)?))
 }
 
-/// Has the system keep more connections for a listener than the library asks for, as many come at once while all doors compile. Where the system
-/// refuses that, it keeps as many as before.
+/// Has the system keep more connections for a listener than the library asks for, as many come at once while all doors compile. If the system
+/// refuses, it keeps as many as before.
 fn lengthen_queue(listener: RawFd) {
     let _ = libc::net::listen(listener, QUEUE);
 }
@@ -292,7 +287,7 @@ fn next_ready<
     Err(Error::from(ErrorKind::Other))
 }
 
-/// Another handle of the listener, where there is one. That the system refuses it is told.
+/// Another handle of the listener, if there is one. A refusal of the system is reported.
 fn another<R: Eprint, L: OpenListener>(rt: &R, listener: &Option<L>) -> Option<L>
     ensures { IsSome result → IsSome listener.now }
 {

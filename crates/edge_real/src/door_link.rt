@@ -64,10 +64,10 @@ const REQUEST_SECS: u64 = 600;
 const REPLY_SECS: u64 = 600;
 
 impl<R: Drop, S: Read + OpenStream + Drop> DoorLink<R, S> {
-    /// Ends the connection, and tells what passed. A peer that was sent nothing is left at once, with nothing more read.
+    /// Ends the connection, and reports what passed. A peer that was sent nothing is left at once, with nothing more read.
     ///
-    /// A socket that is closed over unread bytes is reset, and what its peer has not read by then is lost. So where bytes were sent the sending
-    /// side is shut, and what the peer still sends is read until its end, for at most `LINGER_MILLIS` in all.
+    /// If bytes were sent, the sending side is shut. Then what the peer still sends is read until its end, for at most `LINGER_MILLIS` in all: a
+    /// socket that is closed over unread bytes is reset, and its peer loses what it has not read by then.
     pub(crate) fn end<Q: Eprint + Clock>(self, rt: &Q, lookup: Option<Lookup>) {
         let exchange = self.link.taken_in();
         let visit = Visit {
@@ -98,7 +98,7 @@ fn linger<R: Clock, S: Read + OpenStream + Drop>(rt: &R, mut stream: S) {
     }
 }
 
-/// The moment of the monotonic clock, and 0 where it can't be read.
+/// The moment of the monotonic clock, and 0 if it can't be read.
 pub fn moment<R: Clock>(rt: &R) -> Duration {
     rt.monotonic().unwrap_or(Duration::ZERO)
 }

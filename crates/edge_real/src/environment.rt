@@ -6,7 +6,7 @@ use std::alloc::{AllocError, Global};
 use std::env::{self, Env, VarError};
 use std::io::ErrorKind;
 
-/// The words of the command line, without the program's name. None where one of them isn't UTF-8.
+/// The words of the command line, without the program's name. None if one of them isn't UTF-8.
 pub fn command_words<R: Env + AllocGlobal>(rt: &R) -> Result<Option<Vec<String>>, AllocError> {
     match env::args(rt) {
         Ok(given) => {
@@ -25,8 +25,8 @@ pub fn command_words<R: Env + AllocGlobal>(rt: &R) -> Result<Option<Vec<String>>
     }
 }
 
-/// The value of a variable, None where it isn't set. One that isn't UTF-8 is the replacement character, which is no
-/// number, no host and no switch, so that such a value is refused where it matters and not passed over.
+/// The value of a variable, None if it isn't set. One that isn't UTF-8 is the replacement character. That is no number, no host and no switch, so
+/// such a value is refused if it matters.
 pub fn variable<R: Env + AllocGlobal>(rt: &R, name: &str) -> Result<Option<String>, AllocError> {
     value_of(rt.alloc(), env::var(rt, name))
 }
@@ -42,12 +42,12 @@ fn value_of(alloc: Global, found: Result<String, VarError>) -> Result<Option<Str
     }
 }
 
-/// The folder for files of a process's own: `TMPDIR`, or `/tmp` where that isn't set, is empty or isn't UTF-8.
+/// The folder for files of a process's own: `TMPDIR`, or `/tmp` if that isn't set, is empty or isn't UTF-8.
 pub fn own_folder<R: Env + AllocGlobal>(rt: &R) -> Result<String, AllocError> {
     folder_of(rt.alloc(), env::var(rt, "TMPDIR"))
 }
 
-/// The folder of this process, which is empty where the system doesn't tell it or where it isn't UTF-8.
+/// The folder of this process. It is empty if the system doesn't say it or if it isn't UTF-8.
 pub fn current_folder<R: Env + AllocGlobal>(rt: &R) -> Result<String, AllocError> {
     match env::current_dir(rt) {
         Ok(folder) => match folder.to_str() {

@@ -1,4 +1,4 @@
-// Lines on the standard error that nobody waits for: where its reader has stopped, they are dropped and counted.
+// Lines on the standard error that nobody waits for: if its reader has stopped, they are dropped and counted.
 use mio::unix::SourceFd;
 use mio::{Events, Interest, Poll, Token};
 use std::alloc::{AllocError, Allocator, Global};
@@ -18,7 +18,7 @@ use std::time::Duration;
 /// The standard error, as threads share it that may not be held up by who reads it.
 #[derive(Drop)]
 pub struct ErrorLines {
-    /// What tells whether a line can be written at once. None for a file, which takes each line.
+    /// Says whether a line can be written at once. None for a file, which takes each line.
     stream: Mutex<Option<Watched>>,
     dropped: AtomicU64,
 }
@@ -39,7 +39,7 @@ impl ErrorLines {
     /// No line was dropped yet.
     ///
     /// # Errors
-    /// Memory is wanting.
+    /// Memory ran out.
     pub fn new<R: Net>(rt: &R, alloc: Global) -> Result<ErrorLines, AllocError> {
         let events = Events::with_capacity(alloc, 1)?;
         Ok(ErrorLines {
@@ -48,7 +48,7 @@ impl ErrorLines {
         })
     }
 
-    /// Writes a line where that can be done at once, behind one that says how many were dropped before.
+    /// Writes a line if that can be done at once, after one that says how many were dropped before.
     fn tell<R: Eprint, D: Display + Drop>(&self, rt: &R, line: D) -> io::Result<()> {
         for _ in 0..TURNS {
             let Some(mut stream) = self.stream.try_lock() else {
@@ -68,7 +68,7 @@ impl ErrorLines {
         Ok(())
     }
 
-    /// Writes a line behind one that says how many were dropped before. Those are counted until that line is written.
+    /// Writes a line after one that says how many were dropped before. Those are counted until that line is written.
     fn write<R: Eprint, D: Display + Drop>(&self, rt: &R, line: D) -> io::Result<()> {
         let dropped = self.dropped.load(Ordering::SeqCst);
         if dropped > 0 {

@@ -3,12 +3,12 @@ use crate::notices::Shown;
 use std::fmt::{self, Display, Formatter};
 use std::str;
 
-/// What was seen of the tokens of one side. It is no reader of the protocol: behind what isn't a token nothing more is seen.
+/// What was seen of the tokens of one side. It is no reader of the protocol: after what isn't a token nothing more is seen.
 #[derive(Drop)]
 pub struct Tokens {
     head: [u8; HEAD],
     filled: usize,
-    /// How much of the body of the last token is to come, or all that comes, behind what isn't a token.
+    /// How many bytes of the body of the last token are to come. After what isn't a token, all bytes that come.
     body: u64,
     compiler: [u8; NAME],
     named: usize,
@@ -50,7 +50,7 @@ impl Tokens {
         }
     }
 
-    /// So many bytes pass, at the front of the piece.
+    /// That many bytes pass, at the front of the piece.
     pub fn pass(&mut self, piece: &[u8], count: usize) {
         if let Some(front) = piece.get(..count) {
             self.bytes = self.bytes.saturating_add(count as u64);
@@ -63,8 +63,8 @@ impl Tokens {
         self.object.is_some() && self.body == 0
     }
 
-    /// Whether the tokens that were seen are those of a right reply, as far as their heads tell: in their order, of this version, and an object only with
-    /// status 0.
+    /// Whether the tokens that were seen are those of a right reply, as far as their heads show: in their order, of this version, and an object only
+    /// with status 0.
     pub fn is_right_reply(&self) -> bool {
         !self.is_odd && (self.status == Some(0) || self.object.unwrap_or(0) == 0)
     }

@@ -1,4 +1,4 @@
-// Where an output goes. What stands at its path is treated as gcc's assembler treats it.
+// Where an output goes. What is at its path is treated as gcc's assembler treats it.
 use crate::notices::tell_unput;
 use edge_traits::EdgeFault;
 use std::alloc::{AllocError, Global};
@@ -7,7 +7,7 @@ use std::io::{self, Eprint, ErrorKind};
 use std::os::unix::fs::{OpenOptionsExt, PermissionsExt};
 use std::rt;
 
-/// Where an output goes: the path, and the mode where an empty file there is to keep its own.
+/// Where an output goes: the path, and the mode if an empty file there is to keep its own.
 #[derive(Drop)]
 pub struct Goal {
     pub path: String,
@@ -15,7 +15,7 @@ pub struct Goal {
 }
 
 impl Goal {
-    /// A new file at this path, with the mode of the empty file whose place it takes, where it takes one's place.
+    /// A new file at this path. If it takes the place of an empty file, it has that file's mode.
     pub fn open_new<R: rt::Files<File = File>>(&self, rt: &R, path: &str) -> io::Result<File> {
         let mut options = OpenOptions::new();
         if let Some(mode) = self.mode {
@@ -30,8 +30,8 @@ impl Goal {
     }
 }
 
-/// Where an output of this path goes. A link to nothing or to an empty file is followed, and an empty file keeps its mode; anything else is
-/// left as it is, and its name is taken.
+/// Where an output of this path goes. A link to nothing or to an empty file is followed, and an empty file keeps its mode. Anything else is left as
+/// it is, and its name is taken.
 pub fn goal_of<R: rt::Files + Eprint>(
     rt: &R,
     alloc: Global,
@@ -56,9 +56,9 @@ pub fn goal_of<R: rt::Files + Eprint>(
 /// What is to be done at a path.
 #[derive(Clone, Copy)]
 enum Step {
-    /// The output goes here, with this mode where it is to keep one.
+    /// The output goes here, with this mode if it is to keep one.
     Ends(Option<u32>),
-    /// A link stands here that is to be followed.
+    /// There is a link here that is to be followed.
     Follows,
 }
 
@@ -102,7 +102,7 @@ fn mode_to_keep(found: &Metadata) -> Option<u32> {
     None
 }
 
-/// What the link at this path stands for.
+/// The path to which the link at this path leads.
 fn follow<R: rt::Files + Eprint>(
     rt: &R,
     alloc: Global,
@@ -124,7 +124,7 @@ fn follow<R: rt::Files + Eprint>(
     }
 }
 
-/// The path that a link at this path stands for by its text: the text, behind the folder of the link where it isn't a path from the root.
+/// The path to which a link at this path leads: its text, after the folder of the link if the text isn't a path from the root.
 fn linked_from(alloc: Global, path: &str, text: &str) -> Result<String, AllocError> {
     if text.starts_with('/') {
         return String::from_str(alloc, text);

@@ -1,4 +1,4 @@
-// The places of the standard streams, where this process was begun without them.
+// The places of the standard streams, if this process was begun without them.
 ghost use Rattle.std.specs.Prelude.{IfOk, IfSome};
 ghost use Rattle.edge_real.specs.Streams.{StandsInPlace};
 
@@ -9,11 +9,9 @@ use std::{io, rt};
 /// The number of the standard error, the last of the three.
 const LAST: RawFd = 2;
 
-/// Files in the places of the standard streams that this process was begun without.
-///
+/// Files in the places of the standard streams that this process was begun without. They can be neither read nor written.
 /// What is opened gets the lowest number that is free. So without these a file or a socket would be the standard output or error, and what is printed
-/// would go into an object, or to a peer. They can be neither read nor written, as streams that are closed, and a program that is started has streams of
-/// its own.
+/// would go into an object, or to a peer. A program that is started has streams of its own.
 #[derive(Drop)]
 pub struct HeldStreams {
     first: Option<File>,
@@ -39,7 +37,7 @@ impl HeldStreams {
     }
 }
 
-/// A file in the first place that is free, where that is a standard stream's.
+/// A file in the first place that is free, if that is a standard stream's.
 fn first_free<R: rt::Files<File = File>>(rt: &R) -> io::Result<Option<File>>
     ensures { IfOk result (λ place. IfSome place StandsInPlace) }
 {

@@ -29,7 +29,7 @@ pub struct KitSettings<'a> {
     pub puts_empty: bool,
 }
 
-/// A worker's devices. A pause of the clock lasts so many milliseconds.
+/// A worker's devices. A pause of the clock lasts that many milliseconds.
 pub fn system_kit<
     R: Net + Processes + RandomSource + rt::Files<File = File> + rt::Clock + Eprint + Copy,
 >(
@@ -49,7 +49,7 @@ pub fn system_kit<
     })
 }
 
-/// So many kits.
+/// That many kits.
 pub fn system_kits<
     R: Net + Processes + RandomSource + rt::Files<File = File> + rt::Clock + Eprint + Copy,
 >(
@@ -68,7 +68,7 @@ pub fn system_kits<
     Ok(kits)
 }
 
-/// So many kits, and one more behind them, which may lend its clock: a pause of it lasts so many milliseconds.
+/// That many kits, and after them one more, which may lend its clock: a pause of it lasts that many milliseconds.
 pub fn watch_kits<
     R: Net + Processes + RandomSource + rt::Files<File = File> + rt::Clock + Eprint + Copy,
 >(

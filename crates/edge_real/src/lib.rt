@@ -1,5 +1,5 @@
 //! The devices of a real system: sockets, programs, files, the clock and the standard streams.
-//! Each counts the calls that came to nothing, and tells no content.
+//! Each counts the calls that failed, and shows no content.
 #![tactic(auto)]
 
 mod accepting;

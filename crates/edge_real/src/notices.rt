@@ -1,4 +1,4 @@
-// Lines on the standard error that say what came to nothing and why, and what became of a connection. One that can't be written is dropped.
+// Lines on the standard error that say what failed and why, and what became of a connection. One that can't be written is dropped.
 ghost use Rattle.std.specs.Prelude.{◌≡◌};
 ghost use Rattle.std.specs.Option.{option_copied};
 ghost use Rattle.edge_real.specs.Notices.{notices_by, stream_text};
@@ -30,12 +30,12 @@ pub fn tell_unremoved<R: Eprint>(rt: &R, path: &str, error: &Error) {
     let _ = eprintln!(rt; "{path}: cannot be removed: {error}");
 }
 
-/// A file couldn't be put where it was to be, for the system's reason.
+/// A file couldn't be put in its place, for the system's reason.
 pub fn tell_unput<R: Eprint>(rt: &R, path: &str, error: &Error) {
     let _ = eprintln!(rt; "{path}: cannot be written: {error}");
 }
 
-/// An empty object isn't put where it was to be.
+/// An empty object isn't put in its place.
 pub fn tell_empty_file<R: Eprint>(rt: &R, path: &str) {
     let _ = eprintln!(rt; "{path}: an empty object isn't put");
 }
@@ -99,7 +99,7 @@ pub fn tell_lost<R: Eprint>(rt: &R, error: &Error) {
     };
 }
 
-/// The program ended with status 0, and no file stands where its object was to be.
+/// The program ended with status 0, and there is no file at the path of its object.
 pub fn tell_missing<R: Eprint>(rt: &R, words: &[Word]) {
     let _ = eprintln!(rt; "{}: left no object", program_of(words));
 }
@@ -150,7 +150,7 @@ pub struct Visit<'a> {
     pub leaving: Leaving,
     /// Whether a byte of the peer's was seen.
     pub was_given: bool,
-    /// What passed, where a door read it.
+    /// What passed, if a door read it.
     pub exchange: Option<Exchange<'a>>,
     /// What the look into the cache came to, if the door has one.
     pub lookup: Option<Lookup>,
@@ -206,7 +206,7 @@ fn millis_since<R: Clock>(rt: &R, begun: Duration) -> u128 {
     now.saturating_sub(begun).as_millis()
 }
 
-/// What is told of exchanges with hosts.
+/// What is reported of exchanges with hosts.
 #[derive(Clone, Copy, Debug, PartialEq, Eq)]
 pub enum Notices {
     /// Nothing.
@@ -243,7 +243,7 @@ pub struct Parting<'a> {
     pub host: &'a HostName,
     pub port: u16,
     pub exchange: Exchange<'a>,
-    /// The system's reason, where a send or a receive failed.
+    /// The system's reason, if a send or a receive failed.
     pub failure: Option<&'a Error>,
     /// Whether the host ended the connection.
     pub ended: bool,
@@ -251,7 +251,7 @@ pub struct Parting<'a> {
     pub begun: Duration,
 }
 
-/// An exchange ends: why it isn't whole, where it isn't, and by all notices what became of it and how long it took.
+/// An exchange ends: why it isn't whole, if it isn't. With all notices also what became of it and how long it took.
 pub fn tell_parting<R: Eprint + Clock>(rt: &R, notices: Notices, parting: &Parting<'_>) {
     if matches!(notices, Notices::Never) {
         return;
@@ -339,7 +339,7 @@ impl Display for Shown<'_> {
     }
 }
 
-// The first word, where it is a text.
+// The first word, if it is a text.
 fn program_of(words: &[Word]) -> &str {
     match words.first() {
         Some(Word::Text(bytes)) => str::from_utf8(bytes.as_slice()).unwrap_or("a program"),

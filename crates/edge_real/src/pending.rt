@@ -45,7 +45,7 @@ impl<S: OpenStream + AsRawFd> Pending<S> {
         }
     }
 
-    /// Has what comes told under this token. Where the system refuses that, it is ready, and its door waits for it.
+    /// Has the system report what comes under this token. If the system refuses that, it is ready, and its door waits for it.
     pub fn watch(&mut self, poll: &Poll, token: Token) {
         if !self.is_ready && self.register(poll, token).is_err() {
             self.is_ready = true;
@@ -66,7 +66,7 @@ impl<S: OpenStream + AsRawFd> Pending<S> {
         let _ = self.stream.set_nonblocking(false);
     }
 
-    /// Looks at what came. It is ready where the peer has ended or failed, where the scratch is full, and where no door could wait for more.
+    /// Looks at what came. It is ready if the peer has ended or failed, if the scratch is full, or if a door could answer it without more.
     pub fn look(&mut self, alloc: Global, scratch: &mut [u8]) {
         if self.is_ready || !self.has_news {
             return;
@@ -91,7 +91,7 @@ impl<S> Pending<S> {
         self.is_ready
     }
 
-    /// The system tells that something came.
+    /// The system says that something came.
     pub fn notice(&mut self, event: &Event) {
         self.has_news = true;
         self.has_ended |= event.is_read_closed() || event.is_error();
@@ -112,8 +112,8 @@ impl<S> Pending<S> {
     }
 }
 
-/// Whether a door could answer these first bytes of a connection without more: they spell a request, or a fault stands in them. So it is said
-/// where memory is wanting to tell.
+/// Whether a door could answer these first bytes of a connection without more: they are a whole request, or there is a fault in them. True too if
+/// memory runs out.
 fn is_settled(alloc: Global, text: &[u8]) -> bool
     ensures waits { result ≡ false → IsShortRequest text.now }
 {

@@ -13,14 +13,14 @@ use std::io::Read;
 pub enum Reading {
     /// All its bytes.
     Whole(Bytes),
-    /// More bytes than the bound: so many.
+    /// The stream has more bytes than the bound: this many.
     Over(u64),
     /// A read failed.
     Failed,
 }
 
-/// How much room a stream is given at first of which so many bytes are expected. A long one has room for as many as the bound allows, of which no
-/// more is touched than is read: a block of such a size is one that the C library gives back to the system at once, and doesn't keep for the next.
+/// How many bytes of room a stream is given at first if it is expected to have that many. A long one has room for as many as the bound allows: the C
+/// library gives a block of such a size back to the system at once, and only what is read of it is touched.
 pub fn first_room(expected: u64, bound: u32) -> usize
     ensures none { bound < expected → result ≡ 0 }
     ensures some { expected ≤ bound → expected ≤ result }

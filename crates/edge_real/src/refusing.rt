@@ -14,7 +14,7 @@ const NOT_LET_THROUGH: u32 = 111 * 256;
 /// The most bytes of a word that a message has.
 const SHOWN_WORD_MAX: usize = 64;
 
-/// What stands for the run of words of which the one at this place isn't let through. Nothing is run.
+/// The reply in place of a run of these words, of which the one at this place isn't let through. Nothing is run.
 pub fn refusal_of(
     alloc: Global,
     words: &[Word],

@@ -110,7 +110,7 @@ pub fn write_by<R: Clock, S: Write + OpenStream>(
     Err(io::Error::from(ErrorKind::Other))
 }
 
-/// What is left at this moment of the time to an end, where something is left.
+/// The time from this moment to an end, if the end is still to come.
 fn time_left(now: Duration, end: Duration) -> Option<Duration>
     ensures none { as_nanos end ≤ as_nanos now → result ≡ None }
     ensures left { IfSome result (λ left. as_nanos left ≡ as_nanos end - as_nanos now) }

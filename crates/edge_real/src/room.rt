@@ -5,7 +5,7 @@ use std::alloc::Global;
 use std::sync::atomic::{AtomicU64, Ordering};
 use std::sync::{Arc, Mutex};
 
-/// The room of all doors on one listener, and what those who don't lead it want of the one who does.
+/// The room of all doors on one listener, and what the others ask of the one that leads it.
 #[derive(Drop)]
 pub struct Room<L, S> {
     pub inside: Mutex<WaitingRoom<L, S>>,

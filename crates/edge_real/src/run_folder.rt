@@ -96,10 +96,10 @@ fn word_of(first: u64, second: u64) -> [u8; WORD_LENGTH] {
     (u128::from(first) << 64 | u128::from(second)).to_be_bytes()
 }
 
-/// A folder that this value made, which goes away with it, and with all that is in it then.
+/// A folder that this value made, which is removed with all that is in it when this value goes.
 ///
-/// Its owner alone may look into it or write there, and nobody can foresee its name, so neither another station, thread or process nor a peer can
-/// name a file of the run.
+/// Only its owner may look into it or write there, and nobody can foresee its name. So neither another station, thread or process nor a peer can name
+/// a file of the run.
 pub struct RunFolder<'a, R: rt::Files + Eprint> {
     rt: &'a R,
     alloc: Global,
@@ -146,14 +146,14 @@ impl<R: rt::Files + Eprint> RunFolder<'_, R> {
         self.path.as_str()
     }
 
-    /// Where a file of this name is in the folder.
+    /// The path of a file of this name in the folder.
     pub fn name_of(&self, name: &str) -> Result<String, AllocError>
         ensures { IfOk result (λ path. string_bytes path ≡ file_in (place_of self.now) name.now) }
     {
         file_in(self.alloc, self.path.as_str(), name)
     }
 
-    /// Makes a file at this path that its owner alone may read, and writes these bytes.
+    /// Makes a file at this path that only its owner may read, and writes these bytes.
     pub fn write_file(&self, path: &str, bytes: &[u8]) -> Result<(), StationFault>
         ensures fault { IfErr result NamesNoStream }
         ensures memory { result ≢ Err StationFault.Memory }
@@ -186,7 +186,7 @@ impl<R: rt::Files + Eprint> Drop for RunFolder<'_, R> {
     }
 }
 
-/// Where a file of this name is in this folder.
+/// The path of a file of this name in this folder.
 fn file_in(alloc: Global, folder: &str, name: &str) -> Result<String, AllocError>
     ensures { IfOk result (λ path. string_bytes path ≡ file_in folder.now name.now) }
 {
@@ -213,7 +213,7 @@ pub fn nameless_file<R: rt::Files + RandomSource + Eprint>(
     Ok(file)
 }
 
-/// A new empty file at this path that its owner alone may read, opened for reading and writing.
+/// A new empty file at this path that only its owner may read, opened for reading and writing.
 fn open_new<R: rt::Files + Eprint>(rt: &R, path: &str) -> Result<R::File, StationFault>
     ensures fault { IfErr result NamesNoStream }
     ensures memory { result ≢ Err StationFault.Memory }
@@ -239,7 +239,7 @@ fn remove_folder<R: rt::Files + Eprint>(rt: &R, alloc: Global, path: &str) {
     }
 }
 
-/// Removes a folder and all that is in it. Where something was put there meanwhile, as by a child of the program that outlived it, it is tried again.
+/// Removes a folder and all that is in it. If something was put there meanwhile, as by a child of the program that outlived it, it is tried again.
 fn remove_whole<R: rt::Files + Eprint>(rt: &R, alloc: Global, path: &str) {
     for _ in 1..REMOVALS_TRIED {
         match rt.remove_dir_all(alloc, path) {
@@ -297,7 +297,7 @@ fn folder_name(alloc: Global, folder: &str, word: &[u8; WORD_LENGTH]) -> Result<
     Ok(name)
 }
 
-/// How a file of a run is opened: it is new, it is written and read, and its owner alone may do so.
+/// How a file of a run is opened: it is new, and only its owner may read and write it.
 fn for_owner_alone() -> OpenOptions
     ensures read { asks_read result ≡ true }
     ensures written { asks_write result ≡ true }
@@ -309,7 +309,7 @@ fn for_owner_alone() -> OpenOptions
     options
 }
 
-/// The names of the files that stand for words.
+/// The names of the files of `Input` and `Output`.
 const FILES_OF_WORDS: [&str; 3] = ["input.i", "input.ii", "output.o"];
 
 /// How often the removal of a folder is tried that isn't empty when all in it was removed.

@@ -23,7 +23,7 @@ pub trait RunWatch {
     /// Whether the one who asked for the run has gone. Each call also sees to those who wait for a door meanwhile.
     fn has_gone(&self) -> bool;
 
-    /// Has those who wait for a door give descriptors back, where the system has none left for a run. It answers at once.
+    /// Has those who wait for a door give descriptors back, if the system has none left for a run. It answers at once.
     fn want_descriptors(&self);
 }
 
@@ -39,17 +39,16 @@ impl RunWatch for Unwatched {
     fn want_descriptors(&self) {}
 }
 
-/// The watch of one door's runs: it looks at the peer of the connection that the door has, and leads the room of all doors where no door is idle
-/// that leads it.
+/// The watch of one door's runs: it looks at the peer of the connection that the door has. It leads the room of all doors if no idle door leads it.
 ///
-/// A peer that resets its connection has gone. So has one that ended its sending side `GONE_MILLIS` ago: that can't be told from one that closed its
-/// connection.
+/// A peer that resets its connection has gone. A peer that ended its sending side `GONE_MILLIS` ago has gone too, as it can't be distinguished from
+/// one that closed its connection.
 #[derive(Drop)]
 pub struct DoorWatch<R, L, S> {
     rt: R,
     alloc: Global,
     room: Option<SharedRoom<L, S>>,
-    /// It is used by the door's thread alone.
+    /// Only the door's thread uses it.
     peer: Mutex<Peer>,
 }
 
@@ -68,7 +67,7 @@ struct Peer {
     ended: Option<Duration>,
 }
 
-/// How many events of a connection are told at once.
+/// How many events of a connection are read at once.
 const EVENTS: usize = 4;
 
 /// How long a peer that sends no more is taken to be there.
@@ -78,7 +77,7 @@ impl<R: Net + Drop, L: Drop, S: Drop> DoorWatch<R, L, S> {
     /// The watch of a door with this room.
     ///
     /// # Errors
-    /// The system gives no descriptor for it, or memory is wanting.
+    /// The system gives no descriptor for it, or memory runs out.
     pub(crate) fn new(
         rt: R,
         alloc: Global,
@@ -174,7 +173,7 @@ impl Peer {
         );
     }
 
-    /// Takes in what the system tells of it, without waiting.
+    /// Takes in what the system reports of it, without waiting.
     fn look(&mut self, now: Duration) {
         if self
             .poll
@@ -214,7 +213,7 @@ const WANTS_TRIED: u32 = 40;
 /// How many milliseconds they are given for that.
 const WANT_PAUSE_MILLIS: u64 = 5;
 
-/// Has as many descriptors free as a run needs, where those who wait for a door can give them back.
+/// Has as many descriptors free as a run needs, if those who wait for a door can give them back.
 pub fn have_descriptors<R: Files<File = File> + Clock, W: RunWatch>(rt: &R, watch: &W) {
     for _ in 0..WANTS_TRIED {
         if are_free(rt) {
@@ -230,7 +229,7 @@ const ENFILE: i32 = 23;
 
 const EMFILE: i32 = 24;
 
-/// Whether the system gives as many at this moment. What fails for another reason isn't a want of them.
+/// Whether the system gives as many at this moment. A failure for another reason isn't a lack of descriptors.
 fn are_free<R: Files<File = File>>(rt: &R) -> bool {
     let mut held: [Option<File>; DESCRIPTORS] = [None, None, None, None, None, None];
     for place in held.iter_mut() {

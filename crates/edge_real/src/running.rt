@@ -87,7 +87,7 @@ pub fn run_watched<
     Ok(Ended { status, out, err })
 }
 
-/// The object that a program left where it was to, if it was to leave one. Where it ended with status 0 and left none, that is told.
+/// The object that a program left at this path, if it was to leave one. If it ended with status 0 and left none, that is reported.
 pub fn object_left<R: rt::Files + Eprint>(
     rt: &R,
     alloc: Global,
@@ -110,7 +110,7 @@ pub fn object_left<R: rt::Files + Eprint>(
     left_by(alloc, loaded, Stream::Object)
 }
 
-/// The object, if it is of the kind that the words ask for. One of another kind, of a program that ended with status 0, is a fault, which is told.
+/// The object, if it is of the kind that the words ask for. One of another kind is a fault if its program ended with status 0; the fault is reported.
 pub fn of_asked_kind<R: Eprint>(
     rt: &R,
     words: &[Word],
@@ -128,8 +128,8 @@ pub fn of_asked_kind<R: Eprint>(
     Ok(object)
 }
 
-/// The object, if it is more than nothing or no driver of gcc or clang was to leave it. An empty one, of a driver that ended with status 0, is a fault, which is
-/// told.
+/// The object, if it is more than nothing or no driver of gcc or clang was to leave it. An empty one is a fault if its driver ended with status 0;
+/// the fault is reported.
 pub fn of_any_kind<R: Eprint>(
     rt: &R,
     words: &[Word],
@@ -196,7 +196,7 @@ fn run_to_end<R: Eprint, P: OpenProcess + Drop>(
     Ok((status, out?))
 }
 
-/// The wait status of a program, once it has ended. Where the system doesn't say how it ended, that is told.
+/// The wait status of a program, once it has ended. If the system doesn't say how it ended, that is reported.
 fn wait_for<R: Eprint, P: OpenProcess + Drop>(
     rt: &R,
     child: &mut Child<P>,

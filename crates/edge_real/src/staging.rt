@@ -19,7 +19,7 @@ use std::io::{Eprint, ErrorKind};
 use std::os::unix::fs::FileTypeExt;
 use std::{fs, io, rt};
 
-/// A file that is being written: the name that stands for it, where it is, and the open file.
+/// A file that is being written: the name that it is written for, its own path, and the open file.
 #[derive(Drop)]
 pub struct StagedFile {
     name: Bytes,
@@ -40,7 +40,7 @@ impl StagedFile {
         self.has_bytes
     }
 
-    /// Whether this name stands for it.
+    /// Whether it is written for this name.
     pub fn stands_for(&self, name: &Bytes) -> bool
         ensures { result ≡ bytes_eq (staged_as self.now) name.now }
     {
@@ -54,7 +54,7 @@ impl StagedFile {
         self.path.as_str()
     }
 
-    /// Where it goes, where it is to have this path: what a link there stands for, as when it was begun, or else the path.
+    /// The path that it goes to if it is to have this one: the end of a link there as it was when it was begun, or else this path.
     pub fn goal_for<'a>(&'a self, path: &'a str) -> &'a str {
         if path == self.target.as_str() {
             return self.goal.as_str();
@@ -72,7 +72,7 @@ impl StagedFile {
     }
 }
 
-/// What stands at a path.
+/// What is at a path.
 #[derive(Drop)]
 enum Standing {
     /// Nothing, or a regular file.
@@ -83,7 +83,7 @@ enum Standing {
     Other,
 }
 
-/// What stands there by its kind. Only a regular file may be replaced.
+/// What is there, by its kind. Only a regular file may be replaced.
 fn standing_of(kind: FileType) -> Standing
     ensures file { IsFile kind → result ≡ Standing.Free }
     ensures kept { ¬ (IsFile kind) → result ≢ Standing.Free }
@@ -97,7 +97,7 @@ fn standing_of(kind: FileType) -> Standing
     Standing::Other
 }
 
-/// What stands at the path. Nothing does where the system says that it isn't there.
+/// What is at the path: nothing if the system says that it isn't there.
 fn look_at<R: rt::Files>(rt: &R, path: &str) -> io::Result<Standing>
     ensures { IfErr result (λ error. error_kind error ≢ ErrorKind.NotFound) }
 {
@@ -113,7 +113,7 @@ fn look_at<R: rt::Files>(rt: &R, path: &str) -> io::Result<Standing>
     }
 }
 
-/// A new empty file for what the name stands for.
+/// A new empty file that is written for this name.
 pub fn stage<R: rt::Files<File = File> + Eprint>(
     rt: &R,
     names: &mut OwnNames,
@@ -138,7 +138,7 @@ pub fn stage<R: rt::Files<File = File> + Eprint>(
         }
         Err(error) => return Err(told(rt, target, &error)),
     };
-    // All other memory is had before the file is made, so that none is left behind for want of it.
+    // All other memory is had before the file is made, so that none is left if memory runs out.
     let name = name.copy()?;
     let target = String::from_str(alloc, target)?;
     let (path, file) = new_file(rt, names, alloc, beside, &goal)?;
@@ -152,7 +152,7 @@ pub fn stage<R: rt::Files<File = File> + Eprint>(
     })
 }
 
-/// The fault of a put that came to nothing, which is told with the system's reason.
+/// The fault of a put that failed. It is reported with the system's reason.
 fn told<R: Eprint>(rt: &R, target: &str, error: &io::Error) -> EdgeFault
     ensures { result ≡ EdgeFault.Failed }
 {
@@ -200,7 +200,7 @@ fn next_name(
 /// How many names are tried before a file is given up.
 const NAMES_TRIED: u32 = 1000;
 
-/// Gives a file the name of what it was written for, or copies it into the device that stands there.
+/// Gives a file the name of what it was written for, or copies it into the device that is there.
 pub fn move_to<R: rt::Files>(rt: &R, from: &str, to: &str) -> io::Result<()> {
     match look_at(rt, to)? {
         Standing::Free => fs::rename(rt, from, to),

@@ -41,7 +41,7 @@ pub struct TcpLink<R, S> {
 }
 
 impl<R, S: OpenStream> TcpLink<R, S> {
-    /// A link on which nothing has happened yet, at this moment of the monotonic clock. Small pieces are sent at once, where the system allows it.
+    /// A link on which nothing has happened yet, at this moment of the monotonic clock. Small pieces are sent at once, if the system allows it.
     pub(crate) fn new(rt: R, stream: S, host: HostName, port: u16, begun: Duration) -> TcpLink<R, S>
         ensures fresh { IsFresh host port (link_view result) }
         ensures stream { stream_of result ≡ stream }
@@ -76,7 +76,7 @@ impl<R: Drop, S> TcpLink<R, S> {
         self.sent.bytes > 0
     }
 
-    /// The exchange, where the peer asked.
+    /// The exchange, if the peer asked.
     pub(crate) fn taken_in(&self) -> Exchange<'_> {
         Exchange {
             asked: &self.given,
@@ -84,7 +84,7 @@ impl<R: Drop, S> TcpLink<R, S> {
         }
     }
 
-    /// How the exchange ends, where the peer was asked.
+    /// How the exchange ends, if the peer was asked.
     fn parting(&self) -> Parting<'_> {
         Parting {
             host: &self.host,
@@ -228,9 +228,9 @@ const DIAL_SECS: u64 = 5;
 /// How long a receive may wait, and how long the sends of one piece may take in all: 10 minutes.
 pub const IDLE_SECS: u64 = 600;
 
-/// Dials over TCP. A name is resolved by the system, and each of its addresses is tried in turn, each for at most `DIAL_SECS`. On a link that it
-/// gives, a receive that waits for `IDLE_SECS` is a fault, and so is a piece that isn't sent whole by then. Why a host isn't reached, and why an exchange breaks off, stands as a line on the
-/// standard error of this process, where the notices have it.
+/// Dials over TCP. A name is resolved by the system, and each of its addresses is tried in turn, each for at most `DIAL_SECS`. A receive that waits
+/// for `IDLE_SECS` is a fault, and so is a piece that isn't sent whole by then. If the notices include it, a line on the standard error says why a
+/// host isn't reached or why an exchange breaks off.
 #[derive(Drop)]
 pub struct TcpDialer<R> {
     rt: R,

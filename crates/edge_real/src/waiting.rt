@@ -32,12 +32,12 @@ enum Waited {
     Ended(u32),
     /// It was killed.
     Early(EarlyEnd),
-    /// The system doesn't tell how it ended.
+    /// The system doesn't say how it ended.
     Unknown,
 }
 
-/// The wait status of a program, once it has ended by itself. Where its peer has gone, or it has run for so long, it is killed, and its run has
-/// failed, which is told. So it is where the system doesn't say whether it has ended.
+/// The wait status of a program that ended by itself. If its peer has gone or its lifetime has passed, it is killed, and its run has failed, which is
+/// reported. If the system doesn't say whether it has ended, it is killed, and its run has failed.
 pub fn wait_watched<R: Clock + Eprint, P: OpenProcess, W: RunWatch>(
     rt: &R,
     child: &mut Child<P>,

@@ -18,28 +18,28 @@ use std::os::fd::AsRawFd;
 use std::rt::Clock;
 use std::time::Duration;
 
-/// The connections that wait, and what tells of them and of the listener.
+/// The connections that wait, and the poll that reports on them and on the listener.
 #[derive(Drop)]
 pub struct WaitingRoom<L, S> {
-    /// A handle of the listener that the system tells of.
+    /// A handle of the listener, on which the system reports.
     listener: L,
     poll: Poll,
     events: Events,
     places: Vec<Option<Pending<S>>>,
-    /// Where the bytes of one connection are looked at.
+    /// The place where the bytes of one connection are looked at.
     scratch: Vec<u8>,
     access: AccessList,
-    /// Whether the system told of a connection at the listener.
+    /// Whether the system reported a connection at the listener.
     is_called: bool,
 }
 
 /// How many connections wait at most.
 const PLACES: usize = 512;
 
-/// How many bytes of a connection are looked at. A connection of which so many wait is ready.
+/// How many bytes of a connection are looked at. If that many wait, it is ready.
 const SCRATCH: usize = 16_384;
 
-/// How many events are told at once.
+/// How many events are read at once.
 const EVENTS: usize = 128;
 
 /// The token of the listener. Those of the connections are their places.
@@ -84,7 +84,7 @@ impl<L: OpenListener, S> WaitingRoom<L, S> {
 }
 
 impl<L: AsRawFd, S> WaitingRoom<L, S> {
-    /// Has the system tell again whether the listener has a connection.
+    /// Asks the system again whether the listener has a connection.
     pub fn ask_again(&mut self) -> io::Result<()> {
         self.is_called = false;
         let descriptor = self.listener.as_raw_fd();
@@ -105,7 +105,7 @@ impl<L, S> WaitingRoom<L, S> {
         self.is_called && !(self.free_place().is_none() && self.has_ready())
     }
 
-    /// The listener has no connection, until the system tells of one.
+    /// The listener has no connection, until the system reports one.
     pub fn forget_call(&mut self) {
         self.is_called = false;
     }
@@ -159,7 +159,7 @@ impl<L, S> WaitingRoom<L, S> {
 }
 
 impl<L, S: OpenStream + AsRawFd + Drop> WaitingRoom<L, S> {
-    /// Takes in a connection of the peer with this IPv4 address. Where there is no place, the one that has waited longest is left.
+    /// Takes in a connection of the peer with this IPv4 address. If there is no place, the one that has waited longest is left.
     pub fn take_in<R: Eprint + Clock>(
         &mut self,
         rt: &R,
@@ -199,7 +199,7 @@ impl<L, S: OpenStream + AsRawFd + Drop> WaitingRoom<L, S> {
 }
 
 impl<L: OpenListener<Stream = S> + AsRawFd, S: OpenStream + AsRawFd + Drop> WaitingRoom<L, S> {
-    /// Takes in the next connection of the listener, and answers whether it had one. Where one is ready, that the system refuses the next is no error.
+    /// Takes in the next connection of the listener, and answers whether it had one. If one is ready, a refusal of the next is no error.
     pub fn take_next_in<R: Eprint + Clock>(&mut self, rt: &R) -> io::Result<bool> {
         match accept_one(rt, self) {
             Ok((stream, peer)) => {
@@ -249,7 +249,7 @@ impl<L, S: Drop> WaitingRoom<L, S> {
         }
     }
 
-    /// Leaves the one that has waited longest of those that aren't ready, where there is one.
+    /// Leaves the one that has waited longest of those that aren't ready, if there is one.
     pub fn leave_oldest<R: Eprint + Clock>(&mut self, rt: &R) -> bool {
         match self.oldest(false) {
             Some(at) => {

@@ -10,9 +10,9 @@ use std::io::{ErrorKind, Read, Write};
 use std::time::Duration;
 use std::{io, rt, thread};
 
-/// A stream that waits where the one beneath has nothing, or can take nothing, at the moment.
+/// A stream that waits if the one beneath has nothing, or can take nothing, at the moment.
 ///
-/// A standard stream is shared with other processes, and each of them can make it non-blocking: then a pipe or a terminal that is full answers with a fault,
+/// A standard stream is shared with other processes, and each of them can make it non-blocking. Then a full pipe or terminal answers with a fault,
 /// and what a compiler said would be lost.
 #[derive(Drop)]
 pub struct WaitingStream<R, S> {

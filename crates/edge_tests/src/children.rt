@@ -86,7 +86,7 @@ fn run_script<S: Station>(
     station.run(alloc, words.as_slice(), input, &BOUNDS)
 }
 
-/// The status alone of what was run.
+/// Only the status of what was run.
 fn status_of(ended: Result<Ran, StationFault>) -> Result<u32, StationFault> {
     Ok(ended?.status)
 }
@@ -133,7 +133,7 @@ fn expect_run<R: Abort, S: Station>(
     Ok(())
 }
 
-/// Runs the script of a row, which leaves no folder behind.
+/// Runs the script of a row, after which no folder is left.
 fn expect_clean_run<R: Abort + Files + AllocGlobal + Clone + Drop, S: Station>(
     rt: &R,
     station: &mut S,

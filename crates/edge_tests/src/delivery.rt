@@ -124,7 +124,7 @@ fn a_fetch_gives_the_whole_file(rt: HostRuntime) -> Result<(), Fail> {
     Ok(())
 }
 
-/// Renames a file to its own name, then to that of another, then again, where it isn't there.
+/// Renames a file to its own name, then to that of another, then again, when it isn't there.
 fn rename_thrice<F: Files>(
     alloc: Global,
     files: &mut F,

@@ -101,7 +101,7 @@ fn play<F: FileCalls>(alloc: Global, files: &mut F, step: Step) -> Result<usize,
     }
 }
 
-/// How many bytes a step moves where it goes well.
+/// How many bytes a step moves if it goes well.
 fn wanted(step: Step) -> usize {
     match step {
         Step::Append(_, _, count) => count,
@@ -109,7 +109,7 @@ fn wanted(step: Step) -> usize {
     }
 }
 
-/// What a step answers where it goes well, or else fails.
+/// What a step answers if it goes well, or else fails.
 fn answer_of(step: Step, good: bool) -> Result<usize, EdgeFault> {
     if good {
         Ok(wanted(step))
@@ -118,7 +118,7 @@ fn answer_of(step: Step, good: bool) -> Result<usize, EdgeFault> {
     }
 }
 
-/// Each step goes well where `true` stands beside it, and else fails.
+/// Each step goes well if `true` is beside it, and else fails.
 fn expect_steps<R: Abort, F: FileCalls>(
     rt: &R,
     alloc: Global,
@@ -168,7 +168,7 @@ const WRITTEN: &[(Step, bool)] = &[
     (Step::Append(b"./x.o", b"c", 1), false),
 ];
 
-/// It gets its name, and the next is taken away. Where none is being written, there is nothing to take away.
+/// It gets its name, and the next is taken away. If none is being written, there is nothing to take away.
 const NAMED: &[(Step, bool)] = &[
     (Step::Rename(b"./x.o.farm~", b"./x.o"), true),
     (Step::Create(b"./x.o.farm~"), true),
@@ -235,7 +235,7 @@ const KEPT: &[Put] = &[
 /// A name as long as a system of files allows.
 const LONGEST: &[u8] = &[b'l'; 255];
 
-/// What stood under those names is as it was, and the file is there.
+/// What was there under those names is as it was, and the file is there.
 fn expect_unreplaced<R: Abort + Files + AllocGlobal>(rt: &R) -> Result<(), Fail> {
     let device = fs::metadata(rt, "/dev/null")?;
     holds(rt, device.file_type().is_char_device(), &"/dev/null");

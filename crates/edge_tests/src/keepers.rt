@@ -13,7 +13,7 @@ pub(crate) type Put = (&'static [u8], &'static [u8], Result<(), EdgeFault>);
 /// A name, a bound, and what the fetch gives.
 pub(crate) type Fetch = (&'static [u8], u32, Result<&'static [u8], FetchFault>);
 
-/// Puts these bytes under a name, where that may be done.
+/// Puts these bytes under a name, if that may be done.
 pub(crate) fn put_file<K: Keeper>(
     alloc: Global,
     keeper: &mut K,
@@ -27,7 +27,7 @@ pub(crate) fn put_file<K: Keeper>(
     keeper.put(alloc, &path, bytes)
 }
 
-/// What a fetch of at most so many bytes gives, which is `?` where none may be made.
+/// What a fetch of at most that many bytes gives, which is `?` if none may be made.
 pub(crate) fn fetch_file<K: Keeper>(
     alloc: Global,
     keeper: &mut K,

@@ -70,7 +70,7 @@ const STEPS: &[(Step, Moved)] = &[
     (Step::Recv, Ok(0)),
 ];
 
-/// The same steps where no call fails.
+/// The same steps if no call fails.
 const STEPS_WITHOUT_FAULT: &[(Step, Moved)] = &[
     (Step::Recv, Ok(3)),
     (Step::Recv, Ok(0)),

@@ -19,7 +19,7 @@ fn host(alloc: Global, name: &[u8]) -> Result<HostName, AllocError> {
     })
 }
 
-/// Sends one byte, and answers the one that comes back and whether the link ended behind it.
+/// Sends one byte, and answers the one that comes back and whether the link ended after it.
 fn ask<D: Dialer>(alloc: Global, dialer: &mut D, host: &HostName, port: u16) -> (u8, bool) {
     let Ok(mut link) = dialer.dial(alloc, host, port) else {
         return (0, false);
@@ -32,7 +32,7 @@ fn ask<D: Dialer>(alloc: Global, dialer: &mut D, host: &HostName, port: u16) -> 
     (room[0], ended)
 }
 
-/// Answers one byte by another, and tells the one that came and whose it is.
+/// Answers one byte by another, and returns the one that came and whose it is.
 fn answer<D: Door>(alloc: Global, door: &mut D) -> (u8, u32) {
     let Ok((mut link, peer)) = door.accept(alloc) else {
         return (0, 0);
@@ -119,7 +119,7 @@ fn a_client_that_sends_too_much_gets_the_whole_reply(rt: HostRuntime) -> Result<
     Ok(())
 }
 
-/// Leaves a client that sends nothing behind its first byte and doesn't end, and answers how long that took. The client was sent these bytes.
+/// Leaves a client that sends nothing after its first byte and doesn't end, and answers how long that took. The client was sent these bytes.
 fn leave_silent<D: Door>(
     rt: HostRuntime,
     door: &mut D,
@@ -286,7 +286,7 @@ fn time_to_fail(rt: HostRuntime, dialer: &mut Tcp, name: &HostName, port: u16) -
     if failed { Some(waited) } else { None }
 }
 
-/// Starts programs one after the other, of which each tells this process by a signal that it has ended.
+/// Starts programs one after the other. The end of each comes to this process as a signal.
 fn start_often(rt: HostRuntime, times: u32) -> u32 {
     let mut started = 0u32;
     for _ in 0..times {

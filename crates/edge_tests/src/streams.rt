@@ -30,7 +30,7 @@ fn write_two<S: Sink>(sink: &mut S) -> Result<usize, EdgeFault> {
     sink.write(b"ab")
 }
 
-/// Reads at most this many bytes, and answers them behind their number.
+/// Reads at most this many bytes, and answers their number and the bytes.
 fn read_some<S: Source>(source: &mut S) -> (Result<usize, EdgeFault>, [u8; 2]) {
     let mut room = *b"--";
     let count = source.read(&mut room);

@@ -56,7 +56,7 @@ pub fn tell_folder<R: Eprint + Files>(rt: &R, folder: &str) {
     }
 }
 
-/// Whether the user of this process is root. Where there is no `/proc` that isn't known.
+/// Whether the user of this process is root. If there is no `/proc`, that isn't known.
 pub fn is_root<R: Files>(rt: &R) -> bool {
     fs::metadata(rt, "/proc/self").is_ok_and(|found| found.uid() == 0)
 }

@@ -38,7 +38,7 @@ type System<'a> = Unhindered<'a, HostRuntime>;
 
 type ListeningDoor<'a> = TcpDoor<System<'a>, TcpListener, TcpStream>;
 
-// The words of the command line. Where one isn't UTF-8, they are one word that is no option.
+// The words of the command line. If one isn't UTF-8, they are one word that is no option.
 fn words_of(rt: &HostRuntime) -> Result<Vec<String>, AllocError> {
     if let Some(words) = command_words(rt)? {
         return Ok(words);
@@ -48,7 +48,7 @@ fn words_of(rt: &HostRuntime) -> Result<Vec<String>, AllocError> {
     Ok(words)
 }
 
-// What the words say, where they are to serve.
+// What the words say, if they are to serve.
 fn options_of(words: &[String]) -> Option<Options> {
     match parse_words(words) {
         Ok(Command::Serve(options)) => Some(options),
@@ -107,7 +107,7 @@ fn lets_all_in(options: &Option<Options>) -> bool {
 /// The first number of the addresses by which a machine reaches itself.
 const LOOPBACK: u32 = 127;
 
-// A door, and the watch for the runs of its connections. Where the system gives none, they go on without.
+// A door, and the watch for the runs of its connections. If the system gives none, they go on without.
 fn watched<'a>(
     rt: &HostRuntime,
     door: ListeningDoor<'a>,
@@ -142,7 +142,7 @@ fn kit_of<'a>(
     })
 }
 
-// So many doors on one listener.
+// That many doors on one listener.
 fn open_doors<'a>(
     rt: &HostRuntime,
     system: System<'a>,
@@ -161,7 +161,7 @@ fn open_doors<'a>(
     Ok(doors)
 }
 
-// The doors at a place. Where `farmd` isn't to serve, there is one that is closed.
+// The doors at a place. If `farmd` isn't to serve, there is one that is closed.
 fn doors_at<'a>(
     rt: &HostRuntime,
     system: System<'a>,
@@ -220,7 +220,7 @@ fn doors_of<'a>(
     Ok((words, doors))
 }
 
-// Says that memory is wanting before anything is served.
+// Says that memory ran out before anything was served.
 fn no_memory(rt: &HostRuntime) -> ExitCode {
     let _ = println!(rt; "farmd: no memory");
     ExitCode::from(NO_MEMORY)

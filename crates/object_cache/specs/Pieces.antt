@@ -7,28 +7,28 @@ use Rattle.std.specs.List.{concat}
 abbrev pub in_order : List (List ℕ) → List ℕ → List (List ℕ)
 in_order block order = map (λ place. slice_index_or block place []) order
 
--- how often a number stands in a list
+-- how often a number is in a list
 abbrev pub times : ℕ → List ℕ → ℕ
 times n [] = 0
 times n (x ∷ xs) = cond (nat_eq x n) 1 0 + times n xs
 
--- each place of a block of so many pieces, once
+-- each place of a block of that many pieces, once
 pub record IsOrder (count : ℕ) (order : List ℕ) : Type 0 where
   pub len : length order ≡ count
   pub once : (n : ℕ) → times n order ≤ 1
   pub within : (n : ℕ) → count ≤ n → times n order ≡ 0
 
--- the items from `mid` up to `end` in front of those from `from` up to `mid`
+-- the items from `mid` up to `end` before those from `from` up to `mid`
 abbrev pub turned : {X : Type 0} → ℕ → ℕ → ℕ → List X → List X
 turned from mid end xs = take from xs ++ ((slice_range xs mid end ++ slice_range xs from mid) ++ drop end xs)
 
--- the pieces in use, the text behind them, and how many pieces there is memory for
+-- the pieces in use, the text after them, and how many pieces there is memory for
 pub record PiecesView : Type 0 where
   pub used : List (List ℕ)
   pub text : List ℕ
   pub room : ℕ
 
--- the bytes of the full pieces behind those in use, and of the one that is being filled
+-- the bytes of the full pieces after those in use, and of the one that is being filled
 abbrev pub text_behind : ℕ → ℕ → ℕ → List ℕ → List (List ℕ) → List ℕ
 text_behind used at len last pieces = concat (drop used (take at pieces)) ++ take len last
 

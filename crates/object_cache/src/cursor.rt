@@ -29,7 +29,7 @@ impl<'a> Model for Cursor<'a> {
     ghost view = { λ c. take c.left (c.front.now ++ concat (in_order c.block.now c.rest.now)) };
 }
 
-// The first of these that has bytes, and those behind it.
+// The first of these that has bytes, and those after it.
 fn first_piece<'a>(front: &'a [u8], rest: &'a [u32], block: &'a [Piece]) -> (&'a [u8], &'a [u32])
     ensures whole { result.0.now ++ concat (in_order block.now result.1.now) ≡ front.now ++ concat (in_order block.now rest.now) }
     ensures some { 0 < length (front.now ++ concat (in_order block.now rest.now)) → 0 < length result.0.now }
@@ -52,7 +52,7 @@ impl<'a> Cursor<'a> {
     ghost use Rattle.std.specs.Str.{bytes_eq};
     ghost use Rattle.object_cache.specs.Pieces.{in_order};
 
-    /// So many bytes of the pieces at these places of a block, or all of them.
+    /// That many bytes of the pieces at these places of a block, or all of them.
     pub(crate) fn new(block: &'a [Piece], places: &'a [u32], len: usize) -> Cursor<'a>
         ensures { result ≡ take len (concat (in_order block.now places.now)) }
     {
@@ -64,7 +64,7 @@ impl<'a> Cursor<'a> {
         }
     }
 
-    // The next bytes, at most so many, and none only at the end.
+    // The next bytes, at most that many, and none only at the end.
     fn next(&mut self, most: usize) -> &'a [u8]
         requires { 0 < most }
         ensures whole { self.old ≡ result.now ++ self.new }
@@ -107,7 +107,7 @@ impl<'a> Cursor<'a> {
         self.matches(bytes) && self.next(1).is_empty()
     }
 
-    /// Leaves out so many bytes, or all that are left.
+    /// Leaves out that many bytes, or all that are left.
     pub(crate) fn skip(&mut self, len: usize)
         ensures { self.new ≡ drop len self.old }
     {
@@ -121,7 +121,7 @@ impl<'a> Cursor<'a> {
         }
     }
 
-    /// A copy of the next bytes, of so many or all that are left.
+    /// A copy of the next bytes, of that many or all that are left.
     #[tactic(auto, using(crate::proofs::Reading::take_piece, crate::proofs::Reading::drop_piece))]
     pub(crate) fn read(&mut self, alloc: Global, len: usize) -> Result<Bytes, AllocError>
         ensures bytes { IfOk result (λ bytes. bytes ≡ take len self.old) }

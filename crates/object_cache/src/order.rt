@@ -20,7 +20,7 @@ pub(crate) fn piece_at<'a>(block: &'a [Piece], place: u32) -> &'a [u8]
     }
 }
 
-/// Puts a piece into the order, over the one that is there or behind the last.
+/// Puts a piece into the order, over the one that is there or after the last.
 pub(crate) fn put_piece(block: &mut Vec<Piece>, order: &mut Vec<u32>, at: usize, piece: &Piece)
     requires order { IsOrder (length block.old.items) order.old.items }
     requires at { (at ≤ length order.old.items) × (at < 4294967296) }
@@ -39,7 +39,7 @@ pub(crate) fn put_piece(block: &mut Vec<Piece>, order: &mut Vec<u32>, at: usize,
     }
 }
 
-/// Puts the items from `mid` up to `end` in front of those from `from` up to `mid`.
+/// Puts the items from `mid` up to `end` before those from `from` up to `mid`.
 pub(crate) fn turn<T>(items: &mut [T], from: usize, mid: usize, end: usize)
     requires from { from ≤ mid }
     requires mid { mid ≤ end }
@@ -49,11 +49,10 @@ pub(crate) fn turn<T>(items: &mut [T], from: usize, mid: usize, end: usize)
     items[from..end].rotate_left(mid - from);
 }
 
-/// So many numbers are moved by way of the stack.
+/// At most this many numbers are moved by way of the stack.
 const FEW: usize = 1_024;
 
-/// Puts the numbers from `mid` up to `end` in front of those from `from` up to `mid`, which are moved at once where the others
-/// are few.
+/// Puts the numbers from `mid` up to `end` before those from `from` up to `mid`. It is quicker if the former are at most `FEW`.
 pub(crate) fn turn_numbers(numbers: &mut [u32], from: usize, mid: usize, end: usize)
     requires from { from ≤ mid }
     requires mid { mid ≤ end }
@@ -71,7 +70,7 @@ pub(crate) fn turn_numbers(numbers: &mut [u32], from: usize, mid: usize, end: us
     numbers[from..from + count].copy_from_slice(&few[..count]);
 }
 
-/// Whether there is memory for so many more items. Where there isn't, it is taken for as many as are expected in all.
+/// Whether there is memory for that many more items. If there isn't, memory is taken for as many as are expected in all.
 pub(crate) fn make_room<T>(items: &mut Vec<T>, more: usize, expected: usize) -> bool
     ensures items { items.new.items ≡ items.old.items }
     ensures grown { vec_capacity items.old ≤ vec_capacity items.new }

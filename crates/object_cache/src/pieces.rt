@@ -8,11 +8,10 @@ use std::marker::Model;
 /// The most pieces that there are.
 const MOST: usize = 4_294_967_295;
 
-/// So many numbers are at least reserved: memory of its own, of which only what is written is taken.
+/// At least this many numbers are reserved: memory of its own, of which only what is written is taken.
 const NUMBERS: usize = 262_144;
 
-/// Pieces of one size in one block. Those in front are in use, and a text is written behind them. What is freed is used
-/// again, and none is ever moved.
+/// Pieces of one size in one block. The first ones are in use, and a text is written after them. What is freed is used again, and none is ever moved.
 #[derive(Drop)]
 pub(crate) struct Pieces {
     block: Vec<Piece>,
@@ -42,7 +41,7 @@ impl Pieces {
     ghost use Rattle.std.specs.List.{concat};
     ghost use Rattle.object_cache.specs.Pieces.{PiecesView, turned};
 
-    /// None, of which so many are expected. It takes no memory.
+    /// None, of which that many are expected. It takes no memory.
     pub(crate) fn new(alloc: Global, expected: usize) -> Pieces
         ensures { result ≡ record { used = []; text = []; room = 0 } }
     {
@@ -65,7 +64,7 @@ impl Pieces {
         self.used
     }
 
-    /// Whether there is memory for so many more.
+    /// Whether there is memory for that many more.
     pub(crate) fn make_room(&mut self, more: usize) -> bool
         ensures used { self.new.used ≡ self.old.used }
         ensures room { IsTrue result → length self.old.used + more ≤ self.new.room }
@@ -89,7 +88,7 @@ impl Pieces {
         true
     }
 
-    /// Begins a text behind those in use.
+    /// Begins a text after those in use.
     pub(crate) fn begin(&mut self)
         ensures { self.new ≡ record self.old { text = [] } }
     {
@@ -166,7 +165,7 @@ impl Pieces {
         self.len = 0;
     }
 
-    /// Puts those from `mid` up to `end` in front of those from `from` up to `mid`.
+    /// Puts those from `mid` up to `end` before those from `from` up to `mid`.
     pub(crate) fn turn(&mut self, from: usize, mid: usize, end: usize)
         requires from { from ≤ mid }
         requires mid { mid ≤ end }
@@ -179,7 +178,7 @@ impl Pieces {
         turn_numbers(self.order.as_mut_slice(), from, mid, end);
     }
 
-    /// The first bytes of so many pieces.
+    /// The first bytes of that many pieces.
     pub(crate) fn read(&self, first: usize, count: usize, len: usize) -> Cursor<'_>
         requires { first + count ≤ length self.now.used }
         ensures { result ≡ take len (concat (take count (drop first self.now.used))) }

@@ -9,8 +9,8 @@ use farm_types::{Ran, Word};
 use std::alloc::Global;
 use std::marker::Model;
 
-/// A station, and a book of what compiles on it left. It is made only where each entry of the book is of a run that the
-/// station's programs may make, as in a new book, and each run keeps that.
+/// A station, and a book of what compiles on it left. It is made only if each entry of the book is of a run that the station's programs may make, as
+/// in a new book. Each run keeps that.
 #[derive(Drop)]
 pub struct CachedStation<S: Station> {
     pub station: S,

@@ -9,15 +9,15 @@ drivers = codes "gcc" ∷ codes "cc" ∷ codes "g++" ∷ codes "c++" ∷ codes "
 abbrev pub is_version_byte : ℕ → Bool
 is_version_byte b = (nat_le 48 b && nat_le b 57) || (b == 45) || (b == 46)
 
--- a driver's name, and behind it a version or nothing
+-- a driver's name, and after it a version or nothing
 unfoldable pub is_driver_tail : List ℕ → Bool
 is_driver_tail tail = list_any (λ name. starts_with nat_eq tail name && list_all is_version_byte (drop (length name) tail)) drivers
 
--- it begins behind a `/` or a `-`
+-- it begins after a `/` or a `-`
 abbrev pub has_driver_tail : List ℕ → Bool
 has_driver_tail [] = false
 has_driver_tail (b ∷ bs) = (((b == 47) || (b == 45)) && is_driver_tail bs) || has_driver_tail bs
 
--- Its last part is such a name, with or without a target's name and a dash in front.
+-- Its last part is such a name, with or without a target's name and a dash before it.
 abbrev pub is_driver : List ℕ → Bool
 is_driver program = is_driver_tail program || has_driver_tail program

@@ -61,12 +61,9 @@ fn runs_driver(words: &[Word]) -> bool
     }
 }
 
-/// Whether the bytes are what the words ask for, where the first word names the program.
-///
-/// A driver of gcc or clang gives text with `-S`: at least one byte, and no zero. Without it, it gives an object: relocatable ELF, Mach-O,
-/// COFF or WebAssembly, or LLVM's bitcode with `-flto` or `-emit-llvm`. A driver is known by its name: `gcc`, `cc`, `g++`, `c++`, `clang`
-/// or `clang++`, with a target and `-` before it or not, and a version after it or not. Of any other program nothing is asked: its objects
-/// are its own.
+/// Whether the bytes are what the words ask for. The first word names the program. A driver of gcc or clang gives text with `-S`: at least one byte,
+/// and no zero. Else it gives an object: relocatable ELF, Mach-O, COFF or WebAssembly, or LLVM's bitcode with `-flto` or `-emit-llvm`.
+/// A driver is `gcc`, `cc`, `g++`, `c++`, `clang` or `clang++`, also with a target before and a version after it. Of others nothing is asked.
 pub fn is_asked_kind(words: &[Word], object: &[u8]) -> bool
     ensures { result ≡ is_asked_kind words.now object.now }
 {
@@ -79,7 +76,7 @@ pub fn is_asked_kind(words: &[Word], object: &[u8]) -> bool
     }
 }
 
-/// Whether the bytes are more than nothing, where the first word names a driver of gcc or clang: what it leaves is never empty. Of any other program
+/// Whether the bytes are more than nothing, if the first word names a driver of gcc or clang: what it leaves is never empty. Of any other program
 /// nothing is asked.
 pub fn is_filled(words: &[Word], object: &[u8]) -> bool
     ensures { result ≡ is_filled words.now object.now }

@@ -4,7 +4,7 @@ ghost use Rattle.std.specs.Prelude.{◌≡◌, ◌&&◌, nat_eq, length, drop};
 ghost use Rattle.std.specs.List.{list_any, list_all, starts_with};
 ghost use Rattle.object_kind.specs.Drivers.{is_version_byte, is_driver_tail, has_driver_tail, is_driver};
 
-/// The names of the drivers, without a target in front and a version behind.
+/// The names of the drivers, without the target before and the version after them.
 const DRIVERS: [&str; 6] = ["gcc", "cc", "g++", "c++", "clang", "clang++"];
 
 /// A digit, a point or a dash.

@@ -12,7 +12,7 @@ is_part_end (b ∷ bs) = b == 47
 unfoldable pub begins_parent : List ℕ → Bool
 begins_parent path = starts_with nat_eq path (codes "..") && is_part_end (drop 2 path)
 
--- no part behind a `/` is `..`
+-- no part after a `/` is `..`
 abbrev pub stays_below : List ℕ → Bool
 stays_below [] = true
 stays_below (b ∷ bs) = (not (b == 47) || not (begins_parent bs)) && stays_below bs

@@ -74,7 +74,7 @@ is_plain_byte b =
     (nat_le 97 b && nat_le b 122) || (nat_le 65 b && nat_le b 90) || (nat_le 48 b && nat_le b 57)
     || (b == 35) || (b == 43) || (b == 44) || (b == 45) || (b == 46) || (b == 58) || (b == 61) || (b == 95)
 
--- Plain bytes alone: such a word names no file outside the current folder, no file of words, and no command.
+-- Only plain bytes: such a word names no file outside the current folder, no file of words, and no command.
 abbrev pub is_plain : List ℕ → Bool
 is_plain word = list_all is_plain_byte word
 
@@ -85,24 +85,25 @@ is_path_byte b = not ((b == 64) || (b == 124))
 abbrev pub is_path : List ℕ → Bool
 is_path word = list_all is_path_byte word
 
--- what stands before the first of these bytes, or all
+-- what is before the first of these bytes, or all
 unfoldable pub before : ℕ → List ℕ → List ℕ
 before byte word = take (position_or_len (λ b. b == byte) word) word
 
--- A word for the assembler is known by the bytes up to the next comma, if it stands in the table of words, or by what it begins with.
+-- A word for the assembler is known if the bytes up to the next comma are in the table of words, or if it begins with a known front and with none
+-- that reaches out.
 unfoldable pub is_known_piece : List ℕ → Bool
 is_known_piece rest = is_piece_word (before 44 rest) || (has_piece_front rest && not (reaches_out rest))
 
--- each word for the assembler is known: each that stands behind a comma
+-- each word for the assembler is known, after each comma
 abbrev pub are_pieces_known : List ℕ → Bool
 are_pieces_known [] = true
 are_pieces_known (b ∷ bs) = (not (b == 44) || is_known_piece bs) && are_pieces_known bs
 
--- messages of gcc about its optimisations, to standard error: what stands behind a `=` is a file
+-- a word for gcc's messages about its optimisations, to standard error: it has no `=`, after which gcc takes the name of a file
 abbrev pub is_report : List ℕ → Bool
 is_report word = begins_with (codes "-fopt-info") word && is_plain word && not (list_any (λ b. b == 61) word)
 
--- a word by itself: an option without an operand, or with one that stands in the same word
+-- a word by itself: an option without an operand, or with one that is in the same word
 abbrev pub is_option_served : List (List ℕ) → List ℕ → Bool
 is_option_served tools word =
     if begins_with (codes "-Wa,") word then is_plain word && are_pieces_known word else
@@ -123,7 +124,7 @@ operand_of word =
 abbrev pub undashed : List ℕ → List ℕ
 undashed word = if begins_with (codes "--") word then drop 2 word else drop 1 word
 
--- one dash or two, a name of the table, and no value or one behind a `=`
+-- one dash or two, a name of the table, and no value or one after a `=`
 abbrev pub is_flag_served : List ℕ → Bool
 is_flag_served word = begins_with (codes "-") word && is_plain word && is_flag_name (before 61 (undashed word))
 
@@ -132,7 +133,7 @@ is_operand_served tools Folder word = is_in_tools tools word
 is_operand_served tools Flag word = is_flag_served word
 is_operand_served tools Setting word = not (begins_with (codes "-") word) && is_plain word
 
--- a word of this use; one that stands for a file of the station's own is let through where it is no operand
+-- A word of this use is let through. A word for a file of the station's own is, if it is no operand.
 abbrev pub is_word_served : List (List ℕ) → Option Operand → Word → Bool
 is_word_served tools None (Text bytes) = is_some (operand_of bytes) || is_option_served tools bytes
 is_word_served tools None other = true
@@ -158,8 +159,7 @@ abbrev pub unserved_below : List (List ℕ) → List Word → ℕ → Option ℕ
 unserved_below tools words zero = None
 unserved_below tools words (suc n) = option_or (unserved_below tools words n) (if is_served_at tools words n then None else Some n)
 
--- The place of the first word that isn't let through, where these are the folders of tools. The first of all words names the program,
--- and is let through.
+-- The place of the first word that isn't let through, with these folders of tools. The first of all words names the program, and is let through.
 abbrev pub first_unserved : List Word → List (List ℕ) → Option ℕ
 first_unserved [] tools = None
 first_unserved (program ∷ words) tools = option_map suc (unserved_below tools words (length words))

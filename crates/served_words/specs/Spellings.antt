@@ -1,7 +1,7 @@
--- The spellings that tell which words of a command are let through.
+-- The spellings by which the words of a command are let through.
 use Rattle.std.specs.Prelude.{ℕ, List, [], ◌∷◌, codes}
 
--- The words that are let through as they stand.
+-- The words that are let through as they are.
 abbrev pub option_words : List (List ℕ)
 option_words = codes "-c" ∷ codes "-S" ∷ codes "-o" ∷ codes "-pipe" ∷ codes "-pthread" ∷ codes "-ansi" ∷ codes "-pedantic"
     ∷ codes "-pedantic-errors" ∷ codes "-w" ∷ codes "-v" ∷ codes "-p" ∷ codes "-pg" ∷ codes "-no-canonical-prefixes"
@@ -23,7 +23,7 @@ link_words = codes "-s" ∷ codes "-static" ∷ codes "-shared" ∷ codes "-rdyn
     ∷ codes "-shared-libgcc" ∷ codes "-shared-libasan" ∷ codes "-shared-libsan" ∷ codes "-static-libasan" ∷ codes "-static-liblsan"
     ∷ codes "-static-libsan" ∷ codes "-static-libtsan" ∷ codes "-static-libubsan" ∷ []
 
--- The words with two dashes that are let through as they stand.
+-- The words with two dashes that are let through as they are.
 abbrev pub long_words : List (List ℕ)
 long_words = codes "--pedantic" ∷ codes "--pedantic-errors" ∷ codes "--ansi" ∷ codes "--pipe" ∷ codes "--verbose" ∷ codes "--static"
     ∷ codes "--shared" ∷ codes "--signed-char" ∷ codes "--unsigned-char" ∷ codes "--all-warnings" ∷ codes "--extra-warnings"
@@ -51,7 +51,7 @@ path_fronts = codes "-fdebug-prefix-map=" ∷ codes "-ffile-prefix-map=" ∷ cod
 abbrev pub folder_fronts : List (List ℕ)
 folder_fronts = codes "-B" ∷ codes "--sysroot=" ∷ codes "--gcc-toolchain=" ∷ codes "--gcc-install-dir=" ∷ codes "-resource-dir=" ∷ []
 
--- The words for the assembler that are let through as they stand, after `-Wa,` or a later comma.
+-- The words for the assembler that are let through as they are, after `-Wa,` or a later comma.
 abbrev pub piece_words : List (List ℕ)
 piece_words = codes "-L" ∷ codes "-W" ∷ codes "-K" ∷ codes "-J" ∷ codes "-R" ∷ codes "-Z" ∷ codes "-n" ∷ codes "-q" ∷ codes "-EL"
     ∷ codes "-EB" ∷ []

@@ -5,7 +5,7 @@ ghost use Rattle.served_words.specs.Served.{is_piece_word, has_piece_front};
 
 use crate::lists::{begins, is_one};
 
-/// The words for the assembler that are let through as they stand, after `-Wa,` or a later comma.
+/// The words for the assembler that are let through as they are, after `-Wa,` or a later comma.
 const PIECE_WORDS: [&str; 10] = ["-L", "-W", "-K", "-J", "-R", "-Z", "-n", "-q", "-EL", "-EB"];
 
 /// What another word for the assembler begins with.

@@ -5,7 +5,7 @@ ghost use Rattle.served_words.specs.Served.{is_option_word, is_level, is_link_wo
 
 use crate::lists::{begins, is_one};
 
-/// The words that are let through as they stand.
+/// The words that are let through as they are.
 const OPTION_WORDS: [&str; 33] = [
     "-c",
     "-S",
@@ -76,7 +76,7 @@ const LINK_WORDS: [&str; 24] = [
     "-static-libubsan",
 ];
 
-/// The words with two dashes that are let through as they stand.
+/// The words with two dashes that are let through as they are.
 const LONG_WORDS: [&str; 14] = [
     "--pedantic",
     "--pedantic-errors",

@@ -12,7 +12,7 @@ fn is_plain_byte(byte: u8) -> bool
     matches!(byte, b'a'..=b'z' | b'A'..=b'Z' | b'0'..=b'9' | b'#' | b'+' | b',' | b'-' | b'.' | b':' | b'=' | b'_')
 }
 
-/// Whether the word has plain bytes alone.
+/// Whether the word has only plain bytes.
 pub fn is_plain(word: &[u8]) -> bool
     ensures { result ≡ is_plain word.now }
 {
@@ -33,7 +33,7 @@ pub fn is_path(word: &[u8]) -> bool
     word.iter().all(|&byte| is_path_byte(byte))
 }
 
-/// What stands before the first of these bytes, or all.
+/// What is before the first of these bytes, or all.
 pub fn before(byte: u8, word: &[u8]) -> &[u8]
     ensures { result.now ≡ before byte word.now }
 {

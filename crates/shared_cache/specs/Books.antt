@@ -30,7 +30,7 @@ abbrev pub after_keep : List ℕ → Entry → SharedView → SharedView
 after_keep digest entry book =
     with_items book (front_within size_of book.order.bound (put_front same_name digest entry book.order.items))
 
--- an entry was left out, since memory was wanting
+-- an entry was left out, since memory ran out
 abbrev pub after_unkept : SharedView → SharedView
 after_unkept book = record { order = book.order; unkept = one_more book.unkept }
 

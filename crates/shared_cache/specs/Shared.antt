@@ -32,7 +32,7 @@ pub record IsHit (bounds : Bounds) (words : List Word) (input : List ℕ) (entry
   pub same : is_of words input entry ≡ true
   pub within : IsWithin bounds entry.ran
 
--- an entry answers just that
+-- an entry answers exactly that
 abbrev pub Answers : Bounds → List Word → List ℕ → Entry → Option Ran → Type 0
 Answers bounds words input entry (Some ran) = IsHit bounds words input entry × (ran ≡ entry.ran)
 Answers bounds words input entry None = IsHit bounds words input entry → ⊥

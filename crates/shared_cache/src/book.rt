@@ -29,7 +29,7 @@ impl<P: Sharing> Model for SharedBook<P> {
     ghost invariant = { λ s. s.order.bound ≡ P.bound };
 }
 
-/// How many runs a book couldn't keep for want of memory, and how many bytes its entries have together. The count stays at the
+/// How many runs a book couldn't keep for lack of memory, and how many bytes its entries have together. The count stays at the
 /// greatest u64.
 #[derive(Clone, Copy, Debug, PartialEq, Eq)]
 pub struct SharedStats {
@@ -43,7 +43,7 @@ impl<P: Sharing> SharedBook<P> {
     ghost use Rattle.use_order.specs.Orders.{sizes};
     ghost use Rattle.shared_cache.specs.Books.{new_book, entry_named, after_use, after_unkept, after_forget, Keeps};
 
-    /// A book without entries, of at most so many bytes. The digests are hashed with these keys. It takes memory.
+    /// A book without entries, of at most that many bytes. The digests are hashed with these keys. It takes memory.
     pub fn new(alloc: Global, bound: u64, keys: RandomState) -> Result<SharedBook<P>, AllocError>
         requires same { bound ≡ P.bound }
         requires small { bound < 2 ^ 63 }

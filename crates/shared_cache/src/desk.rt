@@ -1,4 +1,4 @@
-//! The book behind its lock. The lock is held while an entry is found or put, and for nothing else.
+//! The book and its lock. The lock is held while an entry is found or put, and for nothing else.
 
 ghost use Rattle.std.specs.Prelude.{◌≡◌};
 ghost use Rattle.object_cache.specs.Keys.{digest_of};

@@ -65,7 +65,7 @@ pub fn compile_words(alloc: Global) -> Result<PlacedWords, AllocError> {
     Ok(words)
 }
 
-/// A station that makes so many runs of this object and this status, and then some without an object.
+/// A station that makes that many runs of this object and this status, and then some without an object.
 pub fn station(
     alloc: Global,
     count: usize,

@@ -32,11 +32,11 @@ module _ {V : Type 0} (size : V → ℕ) where
   front_within room (item ∷ items) = if nat_le (size item.1) room then item ∷ front_within (room - size item.1) items else []
 
 module _ {V : Type 0} where
-  -- the item of a name is in front
+  -- the item of a name is made the first
   abbrev pub used : (List ℕ → Bool) → Items V → Items V
   used test items = option_map_or (λ item. item ∷ remove_entry test items) (lookup_entry test items) items
 
-  -- an item in front, in place of one of its name
+  -- an item is put first, in place of one of its name
   abbrev pub put_front : (List ℕ → List ℕ → Bool) → List ℕ → V → Items V → Items V
   put_front same name item items =
       option_map_or (λ old. (old.0, item) ∷ remove_entry (same name) items) (lookup_entry (same name) items) ((name, item) ∷ items)

@@ -89,7 +89,7 @@ impl<V: Weighed + Drop> UseOrder<V> {
         self.cache.peek(name)
     }
 
-    /// Puts the item of a name in front, and answers whether there is one.
+    /// Makes the item of a name the first, and answers whether there is one.
     pub fn touch(&mut self, name: &Name) -> bool
         ensures there { result ≡ is_some (lookup (same_name name.now) self.old.items) }
         ensures items { self.new ≡ record { bound = self.old.bound; items = used (same_name name.now) self.old.items } }
@@ -131,9 +131,8 @@ impl<V: Weighed + Drop> UseOrder<V> {
         left
     }
 
-    /// Puts an item in front, in place of one of its name, and drops items from the end until all are within the bound. The
-    /// items that leave the order go to `dropped`, so that the caller frees them. If there is no memory for the item, it
-    /// answers false, and nothing changes.
+    /// Puts an item first, in place of one of its name, and drops items from the end until all are within the bound. The items that leave the order
+    /// go to `dropped`, so that the caller frees them. If there is no memory for the item, it answers false, and nothing changes.
     pub fn put(&mut self, name: Name, item: V, dropped: &mut Vec<V>) -> bool
         requires { V.bytes item ≤ self.old.bound }
         ensures { MatchBool result (self.new ≡ record { bound = self.old.bound; items = front_within V.bytes self.old.bound (put_front same_name name item self.old.items) }) (self.new ≡ self.old) }
