@@ -7,7 +7,7 @@ use Rattle.edge_traits.specs.declared.faults.Bounds.{Bounds}
 use Rattle.arg_scan.specs.declared.class.Scan.{Scan}
 use Rattle.arg_scan.specs.declared.class.Scan.TheVariants.{Remote}
 
--- each word as it stands
+-- each word unchanged
 abbrev pub texts : List (List ℕ) → List Word
 texts words = map Text words
 

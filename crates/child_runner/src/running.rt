@@ -14,8 +14,8 @@ use std::alloc::Global;
 
 /// Runs the preprocessor of a command that may be sent and whose source isn't preprocessed.
 ///
-/// It is one run of the words that preprocess, each as it stands, with no input. `Failed` and `TooMuch` come only
-/// where the station's count of faults or overruns rose. Where memory runs out before the run, there is no run.
+/// It is one run of the words that preprocess, each unchanged, with no input. `Failed` and `TooMuch` come only if the station's count of
+/// faults or overruns rose. If memory runs out before the run, there is no run.
 pub fn preprocess<S: Station>(
     alloc: Global,
     words: &Words,
@@ -41,9 +41,8 @@ pub fn preprocess<S: Station>(
 
 /// Compiles a preprocessed source by the words of a command that may be sent.
 ///
-/// It is one run of the words that are sent, with the station's own names for the source and the output, on this
-/// source. `Failed` and `TooMuch` come only where the station's count of faults or overruns rose. Where memory runs
-/// out before the run, there is no run.
+/// It is one run of the words that are sent, with the station's own names for the source and the output, on this source. `Failed` and
+/// `TooMuch` come only if the station's count of faults or overruns rose. If memory runs out before the run, there is no run.
 pub fn compile<S: Station>(
     alloc: Global,
     words: &Words,
@@ -66,10 +65,10 @@ pub fn compile<S: Station>(
     station.run(alloc, words.as_slice(), source.as_slice(), &COMPILE_BOUNDS)
 }
 
-/// Runs a whole command as it stands, for a job that isn't sent.
+/// Runs a whole command unchanged, for a job that isn't sent.
 ///
-/// It is one run of all its words, with no input; the files are the command's own. `Failed` and `TooMuch` come only
-/// where the station's count of faults or overruns rose. Where memory runs out before the run, there is no run.
+/// It is one run of all its words, with no input; the files are the command's own. `Failed` and `TooMuch` come only if the station's count
+/// of faults or overruns rose. If memory runs out before the run, there is no run.
 pub fn in_place<S: Station>(
     alloc: Global,
     words: &Words,

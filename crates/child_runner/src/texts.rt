@@ -4,7 +4,7 @@ ghost use Rattle.child_runner.specs.Runs;
 use farm_types::{Bytes, PlacedWords, Word};
 use std::alloc::{AllocError, Global};
 
-/// Each word as it stands.
+/// Each word unchanged.
 pub(crate) fn texts(alloc: Global, words: &[Bytes]) -> Result<PlacedWords, AllocError>
     ensures { IfOk result (λ made. made ≡ Runs.texts words.now) }
 {

@@ -23,7 +23,7 @@ AllGiven peers [] = Unit {0}
 AllGiven peers (Did (exchanged x) ∷ acts) = (x.dialed ≡ true → peers x.sent x.given) × AllGiven peers acts
 AllGiven peers (act ∷ acts) = AllGiven peers acts
 
--- Peers are fully honest to a job: where they were sent its own request, and begin what they give with an outcome of any status, it is
+-- Peers are fully honest to a job: if they were sent its own request, and begin what they give with an outcome of any status, it is
 -- one that a compiler may answer. Of other requests nothing is asked.
 abbrev pub IsFullyHonestTo : Peers → Programs → Job → Type 0
 IsFullyHonestTo peers programs j = (source sent given : List ℕ) (o : Outcome) (used : ℕ)
@@ -33,8 +33,8 @@ IsFullyHonestTo peers programs j = (source sent given : List ℕ) (o : Outcome) 
 abbrev pub FullyHonestLaw : Peers → Programs → Type 0
 FullyHonestLaw peers programs = (j : Job) → IsFullyHonest peers programs → IsFullyHonestTo peers programs j
 
--- A whole exchange over honest peers has an outcome that a compiler may answer to the job's request, where its status
--- is 0, and over peers that are fully honest to the job in any case.
+-- A whole exchange over honest peers has an outcome that a compiler may answer to the job's request, if its status is 0. Over peers that
+-- are fully honest to the job it has one with any status.
 abbrev pub WholeAnswerLaw : Peers → Programs → Type 0
 WholeAnswerLaw peers programs = (j : Job) (source : List ℕ) (x : Exchange) (host : ℕ) (o : Outcome)
     → CanRequest j source → (x.dialed ≡ true → peers x.sent x.given) → IsWholeWith j x source host o
@@ -74,7 +74,7 @@ IsAnswered programs j acts (Done status note err out (Remote host)) = HasOutcome
 IsAnswered programs j acts (Done status note err out Here) = HasOutcome programs j acts status err out
 IsAnswered programs j acts end = Unit {0}
 
--- peers are honest where a host's failure is compiled here once more, or fully honest to the job
+-- peers are honest and a host's failure is compiled here once more, or peers are fully honest to the job
 abbrev pub AreHonestFor : Peers → Programs → Job → Type 0
 AreHonestFor peers programs j = (IsHonest peers programs × (j.config.fallback ≡ true) × (j.config.retry ≡ true))
     ⊎ IsFullyHonestTo peers programs j
@@ -84,8 +84,8 @@ abbrev pub EndAnswerLaw : Peers → Programs → Type 0
 EndAnswerLaw peers programs = (j : Job) (acts : List Act) (end : End)
     → AreHonestFor peers programs j → AllGiven peers acts → AllRan programs acts → Course j acts end → IsAnswered programs j acts end
 
--- Where the exchanges are told and a host's failure is compiled here once more over honest peers, or over peers fully honest to the
--- job: a job that was compiled ends with an outcome that a compiler may answer.
+-- If the exchanges are told, and peers are honest as `AreHonestFor` asks, a job that was compiled ends with an outcome that a compiler may
+-- answer.
 abbrev pub AnswersBy : Peers → Programs → KitView → Job → List Act → End → Type 0
 AnswersBy peers programs kit job acts end = IsTrue kit.dialer.exchanges.known → AreHonestFor peers programs job
     → IsAnswered programs job acts end

@@ -19,7 +19,7 @@ use Rattle.farm_machine.specs.Numbered.{untimed}
 abbrev pub OrderLaw : Type 0
 OrderLaw = (j : Job) (acts : List Act) (end : End) → Course j acts end → IsOrderly (is_local_host j) None (slots_of acts)
 
--- Where a job may find all hosts down, it may take a slot of any host that it has not taken one of before.
+-- If a job may find all hosts down, it may take a slot of any host that it has not taken one of before.
 abbrev pub DownLaw : Type 0
 DownLaw = (j : Job) (host : ℕ) (acts rest : List Act) (end : End) → host < host_count j → took host (slots_of acts) ≡ false
     → Course j (acts ++ Met FindsDown ∷ rest) end → Course j (acts ++ Met (Takes host) ∷ Met (Gives host) ∷ []) (Failed Memory)

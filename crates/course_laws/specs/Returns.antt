@@ -22,14 +22,13 @@ pub record IsCalm (old new : KitView) : Type 0 where
   pub keeper : ¬ (Rose old.keeper.faults new.keeper.faults)
   pub keeper_overruns : ¬ (Rose old.keeper.overruns new.keeper.overruns)
 
--- a job was done, or memory was wanting
+-- a job was done, or memory ran out
 abbrev pub is_done_or_wanted : End → Bool
 is_done_or_wanted (Done status note err out by) = true
 is_done_or_wanted (Failed Memory) = true
 is_done_or_wanted end = false
 
--- An end that is no host's fault, of a job whose station and keeper did nothing wrong, is that of a job that was done, or memory
--- was wanting.
+-- If an end is no host's fault, and the job's station and keeper did nothing wrong, the job was done, or memory ran out.
 abbrev pub OwnEndLaw : Type 0
 OwnEndLaw = (end : End) (old new : KitView) → HasEndCause end old new → IsCalm old new → is_own_end end ≡ true
     → is_done_or_wanted end ≡ true
@@ -45,15 +44,15 @@ finds_down [] = false
 finds_down (FindsDown ∷ events) = true
 finds_down (e ∷ events) = finds_down events
 
--- no host is left alone, and hosts aren't found down after one was taken
+-- no host gets a back-off, and hosts aren't found down after one was taken
 abbrev pub asks_once : List SlotEvent → Bool
 asks_once [] = true
 asks_once (Takes host ∷ events) = not (finds_down events) && asks_once events
 asks_once (GivesBad host until ∷ events) = false
 asks_once (e ∷ events) = asks_once events
 
--- What a job does and how it ends where none of its exchanges broke: it leaves no host alone, and finds hosts down, if at all, before
--- it took one; and where it didn't find them down, no host is the cause of its end, whether fallback is on or off.
+-- What a job does and how it ends if none of its exchanges broke. It gives no host a back-off, and finds hosts down, if at all, before it
+-- took one. If it didn't find them down, no host is the cause of its end, whether fallback is on or off.
 pub record IsUnbroken (acts : List Act) (end : End) : Type 0 where
   pub asks : asks_once (slots_of acts) ≡ true
   pub own : finds_down (slots_of acts) ≡ false → is_own_end end ≡ true

@@ -10,7 +10,7 @@ greatest = 18446744073709551615
 abbrev pub is_in : ℕ → List ℕ → Bool
 is_in n numbers = list_any (λ m. nat_eq m n) numbers
 
--- The list has the number of the call after so many. Calls are numbered from 1, and those past the greatest u64 have no number.
+-- The list has the number of the call after that many. Calls are numbered from 1, and those past the greatest u64 have no number.
 abbrev pub names_next : List ℕ → ℕ → Bool
 names_next numbers made = nat_lt made greatest && is_in (made + 1) numbers
 

@@ -1,4 +1,4 @@
--- What a clock tells.
+-- What a clock shows of its past.
 use Rattle.std.specs.Prelude.{ℕ, List}
 use Rattle.edge_traits.specs.Told.{Told}
 

@@ -10,7 +10,7 @@ use Rattle.edge_traits.specs.Told.{Grew, Became}
 use Rattle.file_map.specs.FileMaps.{Files}
 use Rattle.edge_traits.specs.Kits.{KitView}
 
--- one thing that was done: an entry of one of the lists that a kit tells, or a look at its clock
+-- one thing that was done: an entry of one of the lists that a kit shows, or a look at its clock
 pub data Deed : Type 0 where
   ran : Run → Deed
   fetched : Fetch → Deed
@@ -60,7 +60,7 @@ abbrev pub files_put : Files → List Put → Files
 files_put files [] = files
 files_put files (file ∷ puts) = files_put (insert files file.path file.bytes) puts
 
--- Each new entry of a kit's lists is one of these deeds, in order, and each deed is a new entry; the files are changed by the puts alone.
+-- Each new entry of a kit's lists is one of these deeds, in order, and each deed is a new entry; only the puts change the files.
 pub record DidIn (old new : KitView) (deeds : List Deed) : Type 0 where
   pub runs : Grew old.station.runs new.station.runs (runs_in deeds)
   pub fetches : Grew old.keeper.fetches new.keeper.fetches (fetches_in deeds)
@@ -69,7 +69,7 @@ pub record DidIn (old new : KitView) (deeds : List Deed) : Type 0 where
   pub moments : Grew old.clock.moments new.clock.moments (moments_in deeds)
   pub files : Became old.keeper.files new.keeper.files (files_put old.keeper.files.value (puts_in deeds))
 
--- where the exchanges are told, each that was dialed is one that the dialer may have been given
+-- if the exchanges are told, each that was dialed is one that the dialer may have been given
 abbrev pub MayAll : (List ℕ → List ℕ → Type 0) → List Exchange → Type 0
 MayAll may [] = Unit {0}
 MayAll may (x ∷ xs) = (x.dialed ≡ true → may x.sent x.given) × MayAll may xs

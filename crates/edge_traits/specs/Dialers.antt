@@ -1,4 +1,4 @@
--- What a dialer tells, and what its calls do to it.
+-- What a dialer shows of its past, and what its calls do to it.
 use Rattle.std.specs.Prelude.{ℕ, true, false, IsTrue, List, [], ◌∷◌, Result, Ok, Err}
 use Rattle.farm_types.specs.declared.hosts.HostName.{HostName}
 use Rattle.edge_traits.specs.declared.faults.EdgeFault.{EdgeFault}
@@ -29,13 +29,13 @@ hung link = record {
   faults = link.faults;
 }
 
--- the entries that a dial adds: one where it failed, and else none
+-- the entries that a dial adds: one if it failed, and else none
 abbrev pub dial_entries : {L : Type 0} → HostName → ℕ → Result L EdgeFault → List Exchange
 dial_entries host port (Ok link) = []
 dial_entries host port (Err Failed) = undialed host port ∷ []
 dial_entries host port (Err Memory) = []
 
--- Where the exchanges are told, so was all that the link's entry says, and the dialer may have been given it.
+-- If the exchanges are told, so was all that the link's entry says, and the dialer may have been given it.
 pub record IsToldOf (may_give : List ℕ → List ℕ → Type 0) (exchanges : Told (List Exchange)) (link : LinkView) : Type 0 where
   pub sent : IsTrue exchanges.known → IsTrue link.sent.known
   pub given : IsTrue exchanges.known → IsTrue link.given.known

@@ -1,4 +1,4 @@
--- What a door tells, and what its calls do to it.
+-- What a door shows of its past, and what its calls do to it.
 use Rattle.std.specs.Prelude.{ℕ, IsTrue, List, [], ◌∷◌, Result, Ok, Err}
 use Rattle.edge_traits.specs.declared.faults.EdgeFault.{EdgeFault}
 use Rattle.edge_traits.specs.declared.entries.Visit.{Visit}
@@ -20,7 +20,7 @@ abbrev pub accepted_peers : {L : Type 0} → Result (L × ℕ) EdgeFault → Lis
 accepted_peers (Ok accepted) = accepted.1 ∷ []
 accepted_peers (Err fault) = []
 
--- Where the visits are told, so was all that the link's entry says.
+-- If the visits are told, so was all that the link's entry says.
 pub record IsVisitTold (visits : Told (List Visit)) (link : LinkView) : Type 0 where
   pub sent : IsTrue visits.known → IsTrue link.sent.known
   pub given : IsTrue visits.known → IsTrue link.given.known

@@ -1,4 +1,4 @@
--- What a keeper of files tells, and what its calls do to it.
+-- What a keeper of files shows of its past, and what its calls do to it.
 use Rattle.std.specs.Prelude.{◌≡◌, ℕ, List, [], ◌∷◌, Result, Ok, Err, Option, Some, None, IsSome, IsTrue, ◌<◌, ◌≤◌, length}
 use Rattle.std.specs.FinMap.{get}
 use Rattle.edge_traits.specs.declared.entries.Put.{Put}
@@ -32,7 +32,7 @@ IsIdle view = view.pending ≡ None
 abbrev pub IsPending : KeeperView → Type 0
 IsPending view = IsSome view.pending
 
--- The put is of this path, and where its bytes so far are told, they are these.
+-- The put is of this path, and if its bytes so far are told, they are these.
 abbrev pub IsPutOf : List ℕ → List ℕ → Option PendingPut → Type 0
 IsPutOf path bytes (Some put) = (put.path ≡ path) × (IsTrue put.bytes.known → put.bytes.value ≡ bytes)
 IsPutOf path bytes None = ⊥
@@ -51,7 +51,7 @@ pub record Fetched (path : List ℕ) (bound : ℕ) (now : KeeperView) (bytes : L
   pub within : length bytes ≤ bound
   pub whole : IsTrue now.files.known → get now.files.value path ≡ Some bytes
 
--- the file at this path has so many bytes
+-- the file at this path has that many bytes
 pub record HasLength (files : Files) (path : List ℕ) (bytes : ℕ) : Type 0 where
   pub content : List ℕ
   pub there : get files path ≡ Some content
@@ -68,7 +68,7 @@ pub record IsAbsent (path : List ℕ) (old now : KeeperView) : Type 0 where
   pub calm : Still old.faults now.faults
   pub absent : IsTrue now.files.known → get now.files.value path ≡ None
 
--- the file has so many bytes, above the bound, which is one overrun and no fault
+-- the file has that many bytes, above the bound, which is one overrun and no fault
 pub record IsTooLong (path : List ℕ) (bound : ℕ) (old now : KeeperView) (bytes : ℕ) : Type 0 where
   pub rose : RoseOnce old.overruns now.overruns
   pub calm : Still old.faults now.faults
@@ -80,7 +80,7 @@ pub record KeeperStill (old new : KeeperView) : Type 0 where
   pub faults : Still old.faults new.faults
   pub overruns : Still old.overruns new.overruns
 
--- when a fetch that came to nothing may answer so
+-- when a failed fetch may return this fault
 abbrev pub FetchCause : List ℕ → ℕ → KeeperView → KeeperView → FetchFault → Type 0
 FetchCause path bound old now Failed = IsFailedFetch old now
 FetchCause path bound old now Absent = IsAbsent path old now

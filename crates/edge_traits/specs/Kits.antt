@@ -1,4 +1,4 @@
--- What the devices of a kit tell together.
+-- What the devices of a kit show together.
 use Rattle.edge_traits.specs.declared.kit.Kit.{Kit}
 use Rattle.edge_traits.specs.Dialers.{DialerView}
 use Rattle.edge_traits.specs.Stations.{StationView}

@@ -1,9 +1,9 @@
--- What a link tells, and what its calls do to it.
+-- What a link shows of its past, and what its calls do to it.
 use Rattle.std.specs.Prelude.{◌≡◌, ℕ, ◌==◌, Bool, false, IsTrue, List, [], take, Result, Ok, Err}
 use Rattle.farm_types.specs.declared.hosts.HostName.{HostName}
 use Rattle.edge_traits.specs.Told.{Told}
 
--- Where a link came from: the host and port that were dialed. Of a link that a door gave it says nothing.
+-- The host and port that a link was dialed to. For a link that a door gave it says nothing.
 pub record Origin : Type 0 where
   pub host : HostName
   pub port : ℕ

@@ -1,4 +1,4 @@
--- What a sink tells.
+-- What a sink shows of its past.
 use Rattle.std.specs.Prelude.{ℕ, Bool, List}
 use Rattle.edge_traits.specs.Told.{Told}
 

@@ -1,4 +1,4 @@
--- What a station tells, and what a run does to it.
+-- What a station shows of its past, and what a run does to it.
 use Rattle.std.specs.Prelude.{ℕ, ◌<◌, ◌≤◌, Bool, true, false, List, [], ◌∷◌, length, Result, Ok, Err}
 use Rattle.std.specs.List.{list_any}
 use Rattle.farm_types.specs.Limits.{object_max, child_err_max, compile_out_max}
@@ -31,7 +31,7 @@ is_output (Text bytes) = false
 is_output (Input ext) = false
 is_output Output = true
 
--- one of the words stands for the object
+-- one of the words is the placeholder of the object
 abbrev pub has_output : List Word → Bool
 has_output words = list_any is_output words
 
@@ -60,13 +60,13 @@ pub record IsFailedRun (old new : StationView) : Type 0 where
   pub rose : RoseOnce old.faults new.faults
   pub calm : Still old.overruns new.overruns
 
--- the stream has so many bytes, above its bound, which is one overrun and no fault
+-- the stream has that many bytes, above its bound, which is one overrun and no fault
 pub record IsTooMuch (bounds : Bounds) (stream : Stream) (bytes : ℕ) (old new : StationView) : Type 0 where
   pub rose : RoseOnce old.overruns new.overruns
   pub calm : Still old.faults new.faults
   pub above : bound_of bounds stream < bytes
 
--- when a run that came to nothing may answer so
+-- when a failed run may return this fault
 abbrev pub RunFault : Bounds → StationView → StationView → StationFault → Type 0
 RunFault bounds old new Failed = IsFailedRun old new
 RunFault bounds old new (TooMuch stream bytes) = IsTooMuch bounds stream bytes old new

@@ -11,7 +11,7 @@ pub enum Cause {
     Recv,
     /// The link ended after this many bytes, before the reply was whole.
     Truncated { have: u64 },
-    /// This fault stands in what was given, at this place, counted in bytes from 0.
+    /// This fault is in what was given, at this place, counted in bytes from 0.
     BadReply { at: u64, fault: ReplyFault },
     /// A send took no byte.
     Stopped,

@@ -2,7 +2,7 @@ ghost use Rattle.std.specs.Prelude.{[], ◌∷◌};
 ghost use Rattle.edge_traits.specs.Told.{Grew};
 ghost use Rattle.edge_traits.specs.Clocks.{ClockView};
 
-/// Tells the time in whole seconds, and waits a little.
+/// Gives the time in whole seconds, and waits a little.
 pub trait Clock {
     /// What it shows of its past.
     ghost shows: { Self → ClockView };

@@ -1,4 +1,4 @@
-// The entries of the lists that devices tell.
+// The entries of the lists that devices show of their past.
 use farm_types::{Bytes, HostName, PlacedWords, Ran};
 
 /// One connection with a host, from its dial to its end. `faults` counts those of its link; a dial that failed is an entry with `dialed` false.

@@ -34,7 +34,7 @@ pub trait Keeper {
         ensures overruns { Still (shows self.old).overruns (shows self.new).overruns }
         ensures cause { HasPutCause (shows self.old).faults (shows self.new).faults result };
 
-    /// Gives the pending put these bytes, behind those that it has. After an `Err` none is pending.
+    /// Adds these bytes to the end of the pending put. After an `Err` none is pending.
     fn add(&mut self, alloc: Global, piece: &[u8]) -> Result<(), EdgeFault>
         requires pending { IsPending (shows self.old) }
         requires some { 0 < length piece.now }

@@ -11,7 +11,7 @@ pub trait Source {
     /// What it shows of its past.
     ghost shows: { Self → SourceView };
 
-    /// Puts bytes in front of the room, and answers how many. 0 is the end, where nothing is left.
+    /// Puts bytes at the start of the room, and answers how many. 0 is the end: nothing is left.
     fn read(&mut self, room: &mut [u8]) -> Result<usize, EdgeFault>
         requires { 0 < length room.old }
         ensures bound { IfOk result (λ n. n ≤ length room.old) }

@@ -18,11 +18,11 @@ pub trait Station {
     /// A program run by these words on this input may leave this.
     ghost ran: { Self → List Word → List ℕ → Ran → Type 0 };
 
-    /// A run of these words on this input within these bounds, which ended so, may do this to the station. Where a station says
-    /// nothing of it, it is anything.
+    /// A run of these words on this input within these bounds, which ended so, may do this to the station. A station that defines nothing
+    /// here allows anything.
     ghost goes: { Self → List Word → List ℕ → RunBounds → Result Ran RunStop → Self → Type 0 } = { λ _ _ _ _ _ _. Unit {0} };
 
-    /// Runs the program that the first word names. The object is empty where no word stands for it.
+    /// Runs the program that the first word names. The object is empty if no word is its placeholder.
     fn run(
         &mut self,
         alloc: Global,
@@ -42,7 +42,7 @@ pub trait Station {
         ensures goes { goes self.old words.now input.now bounds.now result self.new };
 }
 
-/// Whether one of the words stands for the object. It takes no memory.
+/// Whether one of the words is the placeholder of the object. It takes no memory.
 pub fn has_output(words: &[Word]) -> bool
     ensures { result ≡ has_output words.now }
 {

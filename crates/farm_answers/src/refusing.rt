@@ -16,7 +16,7 @@ use stream_print::{complain, no_memory};
 /// What is printed if memory runs out outside a job.
 pub const NO_MEMORY_TEXT: &[u8] = b"farm: no memory\n";
 
-/// Tells that memory runs out.
+/// Prints that memory runs out.
 pub fn want_memory<O: Sink, E: Sink>(out: &mut O, err: &mut E) -> u8
     ensures { WantOf no_memory_text [] (sinks_view O.shows E.shows out.old err.old)
         (sinks_view O.shows E.shows out.new err.new) result }

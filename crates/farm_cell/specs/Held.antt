@@ -11,11 +11,11 @@ cell_of h = h.cell.now
 abbrev pub pass_of : {R : Type 0} → Held R → Pass
 pass_of h = h.pass.now
 
--- where the pass is kept, as long as it is lent
+-- the place of the pass, as long as it is lent
 abbrev pub place_of : {R : Type 0} → Held R → ℕ
 place_of h = h.pass.ghost_name
 
--- by calls of it the cell stays, where the pass is kept, and whose it is
+-- its calls change neither the cell, nor the place of the pass, nor whose it is
 pub record Stays {R : Type 0} (a b : Held R) : Type 0 where
   pub cell : cell_of b ≡ cell_of a
   pub place : place_of b ≡ place_of a

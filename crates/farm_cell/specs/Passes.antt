@@ -21,7 +21,7 @@ limits_of c = c.limits
 abbrev pub callers_of : Cell 16 34 → ℕ
 callers_of c = c.callers
 
--- the cell's name, which tells it from every other cell
+-- the cell's name, which distinguishes it from every other cell
 abbrev pub name_of : Cell 16 34 → TableId
 name_of c = c.words.table.shared.table_id
 
@@ -41,7 +41,7 @@ seen_of p = (view_of p).seen
 abbrev pub mine_of : Pass → List CallEntry
 mine_of p = (view_of p).mine
 
--- The pass is that of one caller of the cell of this name, with these limits and so many callers. Its own calls are the caller's
+-- The pass is that of one caller of the cell of this name, with these limits and that many callers. Its own calls are the caller's
 pub record IsPassAt (name : TableId) (l : Limits 16) (callers : ℕ) (p : Pass) : Type 0 where
   pub cell : p.seat.table_id ≡ name
   pub limits : (view_of p).limits ≡ Some l
@@ -54,9 +54,9 @@ pub record IsPassAt (name : TableId) (l : Limits 16) (callers : ℕ) (p : Pass) 
 abbrev pub IsPassOf : Cell 16 34 → Pass → Type 0
 IsPassOf c p = IsPassAt (name_of c) (limits_of c) (callers_of c) p
 
--- The call was made, with this reply, at one point of one legal history. The history begins with all that the pass had seen, and ends
--- with the call, whose reply is the one that `slot_step` gives there. The call is one more of the caller's own, and of the caller's
--- calls the history has just these
+-- The call was made, with this reply, at one point of one legal history. The history begins with all that the pass had seen, and ends with
+-- the call, whose reply is the one that `slot_step` gives there. The call is one more of the caller's own, and of the caller's calls the
+-- history has exactly these.
 pub record Made (c : Cell 16 34) (p : Pass) (call : SlotCall) (reply : SlotReply) (q : Pass) : Type 0 where
   pub between : List CallEntry
   pub seen : seen_of q ≡ (seen_of p ++ between) ++ entry (number_of p) call reply ∷ []
@@ -65,8 +65,8 @@ pub record Made (c : Cell 16 34) (p : Pass) (call : SlotCall) (reply : SlotReply
   pub mine : mine_of q ≡ mine_of p ++ entry (number_of p) call reply ∷ []
   pub own : calls_by (number_of p) (seen_of q) ≡ mine_of q
 
--- The state is the one that one legal history leaves. The history begins with all that the pass had seen, and of the caller's calls it
--- has just those that the caller made
+-- The state is the one that one legal history leaves. The history begins with all that the pass had seen, and of the caller's calls it has
+-- exactly those that the caller made.
 pub record Saw (c : Cell 16 34) (p : Pass) (state : SlotState 16) (q : Pass) : Type 0 where
   pub more : List CallEntry
   pub seen : seen_of q ≡ seen_of p ++ more

@@ -31,7 +31,7 @@ impl Cell<16, 34> {
         }
     }
 
-    /// The next job's number, from 0, or None where all jobs are drawn.
+    /// The next job's number, from 0, or None if all jobs are drawn.
     pub fn draw<R: Wait>(&self, rt: &R, pass: &mut Pass) -> Option<u32>
         requires pass { IsPassOf self.now pass.old }
         ensures pass { IsPassOf self.now pass.new }
@@ -43,9 +43,8 @@ impl Cell<16, 34> {
         slots.draw(pass.number)
     }
 
-    /// A slot of the first entry, in the order of the job's search, that is in the mask, has a free slot and
-    /// isn't left alone at the moment `now`, in seconds. Down exactly where every entry of the mask is left
-    /// alone or there is none, and Full in all other cases.
+    /// A slot of the first entry, in the order of the job's search, that is in the mask, has a free slot and isn't in back-off at the
+    /// moment `now`, in seconds. Down exactly if every entry of the mask is in back-off or there is none, and Full in all other cases.
     pub fn take<R: Wait>(&self, rt: &R, pass: &mut Pass, job: u32, mask: Mask, now: u64) -> Take
         requires pass { IsPassOf self.now pass.old }
         ensures pass { IsPassOf self.now pass.new }
@@ -73,8 +72,8 @@ impl Cell<16, 34> {
         slots.give(grant);
     }
 
-    /// Gives a slot of a host that isn't local back. The host is left alone until the moment `until`, in
-    /// seconds, or longer where it already was.
+    /// Gives back a slot of a host that isn't local. The host is in back-off until the moment `until`, in seconds, or longer if it already
+    /// was.
     pub fn give_bad<R: Wait>(&self, rt: &R, pass: &mut Pass, grant: Grant, until: u64)
         requires pass { IsPassOf self.now pass.old }
         requires out { has (holding (number_of pass.old) (job_of grant) (Some (host_of grant))) (outstanding (mine_of pass.old)) ≡ true }
@@ -89,7 +88,7 @@ impl Cell<16, 34> {
         slots.give_bad(grant, until);
     }
 
-    /// A local slot, or None where all of them are given out.
+    /// A local slot, or None if all of them are given out.
     pub fn take_local<R: Wait>(&self, rt: &R, pass: &mut Pass, job: u32) -> Option<LocalGrant>
         requires pass { IsPassOf self.now pass.old }
         ensures pass { IsPassOf self.now pass.new }

@@ -17,7 +17,7 @@ use std::alloc::{AllocError, Global};
 use std::marker::Brand;
 use std::sync::Wait;
 
-/// Tells the first pass the limits.
+/// Gives the first pass the limits.
 fn open<C: Tell, R: Wait>(rt: &R, words: &SharedWords, seat: &mut Seat, _limits: &Limits<16>)
     requires cell { seat.old.table_id ≡ words.now.table.shared.table_id }
     requires fresh { cell_view seat.old ≡ unopened }
@@ -28,7 +28,7 @@ fn open<C: Tell, R: Wait>(rt: &R, words: &SharedWords, seat: &mut Seat, _limits:
     let _current = words.load_as::<Opening<C>, R>(rt, seat);
 }
 
-/// The words of the opening state, and the first pass, which is told the limits.
+/// The words of the opening state, and the first pass, which is given the limits.
 fn begin<R: Wait>(
     rt: &R,
     alloc: Global,
@@ -57,8 +57,8 @@ fn join(words: &SharedWords, first: &mut Seat, mut next: Seat)
 }
 
 impl Cell<16, 34> {
-    /// A cell with nothing called yet, and a pass for each of so many callers, 1 to 16, by number. It alone
-    /// takes memory, and answers an error where that is wanting.
+    /// A cell with nothing called yet, and a pass for each of that many callers, 1 to 16, by number. Only this call takes memory. It
+    /// returns an error if memory runs out.
     pub fn new<R: Wait>(
         rt: &R,
         alloc: Global,

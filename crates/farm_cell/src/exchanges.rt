@@ -19,8 +19,7 @@ pub type SharedWords = RuledSeqCell<SlotWords<16>, View<16>, InOneOrder, 34>;
 /// What one pass knows of the words.
 pub type Seat = SeqPass<SlotWords<16>, View<16>>;
 
-/// Puts the new state in place of the current one, which makes the call. Where another state is there,
-/// nothing changes, and it is answered.
+/// Puts the new state in place of the current one, which makes the call. If another state is there, nothing changes, and it is returned.
 fn ask<C: Ask, R: Wait>(
     rt: &R,
     words: &SharedWords,

@@ -12,7 +12,7 @@ use Rattle.farm_laws.specs.Example.{all_hosts, preprocessed, not_preprocessed, a
 abbrev pub reports : Reports
 reports = record { worker = worker_of; acts = acts_of; ends = end_of }
 
--- each job's deeds stand behind its draw and behind its slot events, and its return behind the last of them
+-- each job's deeds come after its draw and after its slot events, and its return after the last of them
 abbrev pub steps : List FarmStep
 steps =
     Calls (entry 0 Draw (Drawn (Some 0))) ∷ Does 0 (ran preprocessed)

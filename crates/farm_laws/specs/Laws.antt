@@ -7,7 +7,7 @@ use Rattle.farm_machine.specs.Farm.{wanted}
 use Rattle.farm_machine.specs.Weave.{Reports, Agrees}
 use Rattle.course_laws.specs.Returns.{finds_down, asks_once}
 
--- Where there is a host, and no job leaves one alone or asks for another after it took one, no job finds the hosts down: in any history
+-- If there is a host, and no job gives one a back-off or asks for another after it took one, no job finds the hosts down: in any history
 -- that agrees with the reports.
 abbrev pub UpLaw : Type 0
 UpLaw = (h : ℕ) (l : Limits h) (r : Reports) (calls : List CallEntry)

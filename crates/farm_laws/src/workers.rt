@@ -10,15 +10,15 @@ ghost use Rattle.farm_machine.specs.Weave.{Agrees, weave};
 ghost use Rattle.farm_laws.specs.Example.{calls, jobs, limits};
 ghost use Rattle.farm_laws.specs.ExampleRun.{done_by, reports, steps};
 
-/// One worker: where its calls are its jobs, one after another until a draw answers none, they agree with its
+/// One worker: if its calls are its jobs, one after another until a draw answers none, they agree with its
 /// reports. `more` lets a job's calls grow one slot event at a time, the refused takes before it included.
 pub fn worker_law()
     ensures worker { WorkerLaw }
     ensures more { ServesMoreLaw }
 {}
 
-/// All workers: where each did one job after another until a draw answered none, and no one else called, each
-/// job was done by a worker, and the calls agree with the reports of what the workers did. Where what they did
+/// All workers: if each did one job after another until a draw answered none, and no one else called, each
+/// job was done by a worker, and the calls agree with the reports of what the workers did. If what they did
 /// were courses, there are such reports, one for each job, and what is woven of them and the calls is a run.
 pub fn driver_law()
     ensures agree { DriverLaw }

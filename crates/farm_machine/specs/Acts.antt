@@ -9,9 +9,8 @@ use Rattle.farm_machine.specs.declared.reports.Event.{Event}
 use Rattle.farm_machine.specs.declared.reports.Event.TheVariants.{Ran, Fetched, Exchanged, Put as PutAt, Took, Gave, GaveBad, Down}
 use Rattle.farm_machine.specs.declared.reports.Event.TheVariants.{TookLocal, GaveLocal}
 
--- One call on the slots that was answered for good: a slot of a host was taken, given back, or given back with the
--- moment until which the host is left alone; all hosts were found down; a local slot was taken or given back. Answers
--- that say to try again are no events.
+-- One call on the slots with its final answer. A slot of a host was taken, given back, or given back with the moment until which the host
+-- is not used. Or all hosts were found down, or a local slot was taken or given back. An answer that says to try again is no event.
 pub data SlotEvent : Type 0 where
   Takes : ℕ → SlotEvent
   Gives : ℕ → SlotEvent
@@ -70,7 +69,7 @@ next_met [] = None
 next_met (Did d ∷ acts) = next_met acts
 next_met (Met e ∷ acts) = Some e
 
--- the acts behind the first slot event
+-- the acts after the first slot event
 abbrev pub after_met : List Act → List Act
 after_met [] = []
 after_met (Did d ∷ acts) = after_met acts
@@ -100,7 +99,7 @@ abbrev pub loan_of : Loan → List SlotEvent → Loan
 loan_of loan [] = loan
 loan_of loan (e ∷ events) = loan_of (loan_after loan e) events
 
--- a job takes where it has nothing out, and gives what it has out; a local entry is never left alone
+-- a job takes only if it has nothing out, and gives what it has out; a local entry never gets a back-off
 abbrev pub IsTurn : (ℕ → Bool) → Loan → SlotEvent → Type 0
 IsTurn local loan (Takes host) = loan ≡ None
 IsTurn local loan TakesLocal = loan ≡ None

@@ -16,7 +16,7 @@ HasEndCause (Failed Fetch) old new = Rose old.keeper.faults new.keeper.faults �
 HasEndCause (Failed (Broke host Dial)) old new = Rose old.dialer.faults new.dialer.faults
 HasEndCause other old new = Unit {0}
 
--- At an end by a failed run, which failed or gave too much, just one count of the station rose, by one. At any other end none rose.
+-- At an end by a failed run, which failed or gave too much, exactly one count of the station rose, by one. At any other end none rose.
 abbrev pub StationStands : End → StationView → StationView → Type 0
 StationStands (Failed Station) old new = OneRose old.faults new.faults old.overruns new.overruns
 StationStands end old new = StationStill old new

@@ -54,7 +54,7 @@ kind_of (Waits job mask HostSlot) = kind.Waits job mask false
 kind_of (Waits job mask LocalSlot) = kind.Waits job mask true
 kind_of Mismatched = kind.Mismatched
 
--- the acts behind so many slot events
+-- the acts after that many slot events
 abbrev pub behind : ℕ → List Act → List Act
 behind zero acts = acts
 behind (suc n) acts = after_met (behind n acts)

@@ -1,4 +1,4 @@
--- The course of one job, one act at a time: where it stands, what may come next there, and how it may end there. The
+-- The course of one job, one act at a time: its place, what may come next there, and how it may end there. The
 -- same courses as a table, row by row, are in Table.
 use Rattle.std.specs.Prelude.{◌≡◌, ◌≢◌, ◌⊎◌, ℕ, ◌+◌, ◌<◌, ◌^◌, Bool, true, false, ◌&&◌, ◌||◌, cond, List, [], ◌∷◌, length, nat_eq, nat_lt}
 use Rattle.farm_types.specs.declared.placed.Word.{Word}
@@ -44,11 +44,11 @@ abbrev pub is_tried : ℕ → List Tried → Bool
 is_tried host [] = false
 is_tried host (t ∷ tried) = nat_eq t.host host || is_tried host tried
 
--- the hosts that were tried, the latest in front
+-- the hosts that were tried, the latest first
 abbrev pub tried_too : ℕ → Cause → List Tried → List Tried
 tried_too host cause tried = record { host = host; cause = cause } ∷ tried
 
--- Where a job stands. From `Send` on it has a preprocessed source, and the note, which is what the preprocessor wrote
+-- The place of a job in its course. From `Send` on it has a preprocessed source, and the note, which is what the preprocessor wrote
 -- to standard error.
 pub data At : Type 0 where
   -- nothing was done yet
@@ -58,7 +58,7 @@ pub data At : Type 0 where
   RanInPlace : Ran → At
   -- source, note, hosts tried: it is to be compiled
   Send : List ℕ → List ℕ → List Tried → At
-  -- it has a slot of this host, which compiled it where the host is local, and else was sent the request
+  -- it has a slot of this host, which compiled it if the host is local, and else was sent the request
   Lent : ℕ → List ℕ → List ℕ → List Tried → At
   RanThere : ℕ → List ℕ → Ran → At
   Sent : ℕ → List ℕ → List ℕ → List Tried → Exchange → At
@@ -101,7 +101,7 @@ after_whole j host source note o =
     cond (nat_eq o.status 0) (Finish (Remote host) note o)
     (cond (j.config.fallback && j.config.retry) (Locally source note) (Over (Done o.status note o.err o.out (Remote host))))
 
--- the moment until which a host is left alone: a moment and the period together
+-- the moment until which a host is not used: a moment and the period together
 abbrev pub IsBackOff : Job → ℕ → Type 0
 IsBackOff j until = (moment : ℕ) × (moment < 2 ^ 64) × (until ≡ bad_until moment j.config.period)
 
@@ -144,7 +144,7 @@ Next j (Finish by note o) (Did (put x)) c = (o.status ≡ 0) × (x.path ≡ outp
     × (c ≡ Over (Done 0 note o.err o.out by))
 Next j at act c = ⊥
 
--- A job may end here so. A run, a fetch or a put that could not be made is told by the end alone.
+-- A job may end here so. A run, a fetch or a put that could not be made is reported only by the end.
 abbrev pub Ends : Job → At → End → Type 0
 Ends j Start end =
     (end ≡ Failed Memory)

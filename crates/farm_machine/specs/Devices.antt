@@ -7,7 +7,7 @@ use Rattle.edge_traits.specs.Stations.{StationView}
 use Rattle.edge_traits.specs.Kits.{KitView, kit_view}
 use Rattle.farm_machine.specs.Honest.{Peers, Programs}
 
--- what is seen of kits: what they tell, what their peers may give, and what their programs may leave
+-- what is seen of kits: what they show of their past, what their peers may give, and what their programs may leave
 pub record Devices (K : Type 0) : Type 1 where
   pub shows : K → KitView
   pub peers : K → Peers

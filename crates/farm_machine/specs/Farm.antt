@@ -17,12 +17,12 @@ use Rattle.farm_machine.specs.Machine.{JobState, NotBegun, Begun, Returned, Farm
 use Rattle.farm_machine.specs.Machine.{IsAllowed, FarmRun}
 use Rattle.farm_machine.specs.Weave.{Reports, Agrees, weave}
 
--- the entry at this place is in the mask exactly where the job took no slot of it before
+-- the entry at this place is in the mask exactly if the job took no slot of it before
 abbrev pub is_as_wanted : List SlotEvent → Mask → ℕ → Bool
 is_as_wanted past mask host = cond (took host past) (not (in_mask mask host)) (in_mask mask host)
 
 -- Of the entries a take has in its mask all but those that the job took before. With one try that is all of them. What a mask says of
--- places behind the last entry doesn't matter.
+-- places after the last entry doesn't matter.
 abbrev pub wanted : {h : ℕ} → Limits h → List SlotEvent → Mask → Bool
 wanted l past mask = list_all (is_as_wanted past mask) (entries l)
 
@@ -35,7 +35,7 @@ pub record IsOf {h : ℕ} (l : Limits h) (jobs : ℕ → Job) : Type 0 where
   pub count : (j : ℕ) → j < l.jobs → host_count (jobs j) ≡ l.count
   pub local : (j host : ℕ) → j < l.jobs → host < l.count → is_local_host (jobs j) host ≡ is_local l host
 
--- The law of the weave: where calls agree with reports that are courses, what is woven of them is a run.
+-- The law of the weave: if calls agree with reports that are courses, what is woven of them is a run.
 abbrev pub WeaveLaw : Type 0
 WeaveLaw = (h : ℕ) (l : Limits h) (jobs : ℕ → Job) (r : Reports) (calls : List CallEntry)
     → IsOf l jobs → ((j : ℕ) → j < l.jobs → Course (jobs j) (r.acts j) (r.ends j))
@@ -52,21 +52,21 @@ abbrev pub times : Holding → List Holding → ℕ
 times x [] = 0
 times x (y ∷ ys) = cond (holding_eq x y) (times x ys + 1) (times x ys)
 
--- a loan is a slot of this host, or a local one where there is none
+-- a loan is a slot of this host, or a local one if there is none
 abbrev pub is_loan : Loan → Option ℕ → Bool
 is_loan None host = false
 is_loan (Some slot) host = host_eq host slot
 
--- how often a job that stands so has this grant: once where it is begun by the grant's caller, and its slot events have taken the grant and
+-- how often a job in this state has this grant: once if it is begun by the grant's caller, and its slot events have taken the grant and
 -- not given it back
 abbrev pub lent : JobState → Holding → ℕ
 lent NotBegun x = 0
 lent (Begun worker acts) x = cond (nat_eq x.caller worker && is_loan (loan_of None (slots_of acts)) x.host) 1 0
 lent (Returned end) x = 0
 
--- What each step of the machine keeps: no job from the next number on is begun, and each below it is begun or has returned; a worker has
--- at most one begun job; a begun job's acts are the front of a course of it; and the grants that are outstanding are exactly those that
--- begun jobs took and have not given.
+-- What each step of the machine keeps. No job from the next number on is begun, and each below it is begun or has returned. A worker has at
+-- most one begun job. A begun job's acts are the front of a course of it. The outstanding grants are exactly those that begun jobs took and
+-- have not given back.
 pub record Kept {h : ℕ} (f : Farm) (l : Limits h) (out : List Holding) (s : FarmState h) : Type 0 where
   pub ahead : (j : ℕ) → s.slots.next ≤ j → s.jobs j ≡ NotBegun
   pub drawn : (j : ℕ) → j < s.slots.next → s.jobs j ≢ NotBegun

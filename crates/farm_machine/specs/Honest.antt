@@ -40,7 +40,7 @@ pub record Compiles (programs : Programs) (q : Request) (o : Outcome) : Type 0 w
   pub out : o.out ≡ run.out
   pub object : o.object ≡ object_of run
 
--- Peers are honest: where they were sent a request, and begin what they give with an outcome of status 0, it is one
+-- Peers are honest: if they were sent a request, and begin what they give with an outcome of status 0, it is one
 -- that a compiler may answer. They may be silent, fail, or give what is no outcome.
 abbrev pub IsHonest : Peers → Programs → Type 0
 IsHonest peers programs = (sent given : List ℕ) (q : Request) (o : Outcome) (used : ℕ)

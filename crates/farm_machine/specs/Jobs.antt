@@ -22,8 +22,7 @@ pub record Job : Type 0 where
 abbrev pub job_of : List (List ℕ) → JobConfig → Job
 job_of words config = record { words = words; config = config }
 
--- The command may be sent. Any other is run here as it stands; so would be one without words, which no list of jobs
--- has.
+-- The command may be sent. Any other is run here unchanged. So would be one without words, which no list of jobs has.
 abbrev pub may_be_sent : Job → Bool
 may_be_sent j = is_remote_verdict (verdict_of j.words)
 
@@ -39,7 +38,7 @@ source_name j = word_at j.words (input_place j.words)
 abbrev pub output_name : Job → List ℕ
 output_name j = output_of j.words
 
--- the command as it stands
+-- the whole command, unchanged
 abbrev pub whole_command : Job → List Word
 whole_command j = map Text j.words
 
@@ -63,7 +62,7 @@ CanRequest j source = RequestFits (stripped j.words) source
 abbrev pub host_count : Job → ℕ
 host_count j = length j.config.hosts.list
 
--- what is looked up behind the end of a host list, where no course looks
+-- what a look-up after the end of a host list gives; no course looks there
 abbrev pub no_host_entry : Host
 no_host_entry = record { name = record { text = [] }; port = 0; limit = 0; local = false }
 

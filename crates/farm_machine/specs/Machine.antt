@@ -45,7 +45,7 @@ job_call_of e = job_call e.call e.reply
 abbrev pub Wants : Type 0
 Wants = List SlotEvent → Mask → Bool
 
--- a mask, where there is one, passes the test
+-- a mask, if there is one, passes the test
 abbrev pub MaskIs : Option Mask → (Mask → Bool) → Type 0
 MaskIs None wanted = Unit {0}
 MaskIs (Some mask) wanted = wanted mask ≡ true
@@ -54,13 +54,13 @@ MaskIs (Some mask) wanted = wanted mask ≡ true
 abbrev pub set_at : {A : Type 0} → (ℕ → A) → ℕ → A → ℕ → A
 set_at f k a n = cond (nat_eq n k) a (f n)
 
--- where a job stands: not begun, begun by a worker with its acts so far, or returned with an end
+-- the state of a job: not begun, begun by a worker with its acts so far, or returned with an end
 pub data JobState : Type 0 where
   NotBegun : JobState
   Begun : ℕ → List Act → JobState
   Returned : End → JobState
 
--- the state of the farm: that of its slots, and where each job stands
+-- the state of the farm: that of its slots, and that of each job
 pub record FarmState (h : ℕ) : Type 0 where
   pub slots : SlotState h
   pub jobs : ℕ → JobState
@@ -82,7 +82,7 @@ calls_in (Calls e ∷ steps) = e ∷ calls_in steps
 calls_in (Does j d ∷ steps) = calls_in steps
 calls_in (Returns j end ∷ steps) = calls_in steps
 
--- the slot event that a call is, where it is one of this job
+-- the slot event that a call is, if it is one of this job
 abbrev pub met_by : ℕ → JobCall → List Act
 met_by j (Adds i mask x) = cond (nat_eq i j) (Met x ∷ []) []
 met_by j other = []
@@ -135,8 +135,8 @@ abbrev pub MayWait : Farm → ℕ → List Act → SlotKind → Type 0
 MayWait f j acts HostSlot = (host : ℕ) × MayBeNext f j acts (Met (Takes host))
 MayWait f j acts LocalSlot = MayBeNext f j acts (Met TakesLocal)
 
--- Which calls a worker may make: a draw where it has no begun job; any other call for its begun job, a slot event where it may come next,
--- a refused take where a taken slot may come next. A take has the mask that is wanted.
+-- Which calls a worker may make: a draw if it has no begun job; any other call for its begun job. That is a slot event if it may come next,
+-- or a refused take if a taken slot may come next. A take has the mask that is wanted.
 abbrev pub MayCall : Farm → (ℕ → JobState) → ℕ → JobCall → Type 0
 MayCall f jobs worker (Draws job) = (j : ℕ) (acts : List Act) → jobs j ≢ Begun worker acts
 MayCall f jobs worker (Adds j mask x) =

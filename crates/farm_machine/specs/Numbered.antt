@@ -7,7 +7,7 @@ use Rattle.farm_machine.specs.declared.reports.Event.TheVariants.{Ran, Fetched, 
 use Rattle.farm_machine.specs.declared.reports.Event.TheVariants.{GaveLocal}
 use Rattle.farm_machine.specs.Acts.{Takes, Gives, GivesBad, FindsDown, TakesLocal, GivesLocal, Act, Did, Met, Entries, ReadsAll}
 
--- where the counting begins
+-- the start of the counting
 abbrev pub no_places : Places
 no_places = record { runs = 0; fetches = 0; exchanges = 0; puts = 0 }
 

@@ -10,7 +10,7 @@ use Rattle.farm_machine.specs.Acts.{SlotEvent, Act, slots_of}
 use Rattle.farm_machine.specs.Machine.{JobCall, Draws, Adds, Waits, Mismatched, job_call_of, Wants, MaskIs}
 use Rattle.farm_machine.specs.Weave.{Reports, IsWaitedFor, OwnAgrees}
 
--- A call of job j is its slot event x, and then this holds of the calls behind it; or it is a refused take before x, and then that does.
+-- A call of job j is its slot event x, and then this holds of the calls after it; or it is a refused take before x, and then that does.
 abbrev pub ServedBy : Wants → ℕ → List SlotEvent → SlotEvent → JobCall → Type 0 → Type 0 → Type 0
 ServedBy wants j past x (Adds i mask y) IsMet IsRefused = (i ≡ j) × MaskIs mask (wants past) × (y ≡ x) × IsMet
 ServedBy wants j past x (Waits i mask kind) IsMet IsRefused = (i ≡ j) × MaskIs mask (wants past) × IsWaitedFor kind x × IsRefused
@@ -65,16 +65,16 @@ abbrev pub HasNumber : ℕ → List DoneJob → Type 0
 HasNumber j [] = ⊥
 HasNumber j (job ∷ jobs) = (job.number ≡ j) ⊎ HasNumber j jobs
 
--- The law of one worker: its own calls agree with the reports, where they are its jobs, one after another, and at last a draw that answered
--- none, and the reports have these jobs of it and no others.
+-- The law of one worker: its own calls agree with the reports, if they do its jobs one after another, with a last draw that answered none,
+-- and the reports have exactly these jobs of it.
 abbrev pub WorkerLaw : Type 0
 WorkerLaw = (h : ℕ) (l : Limits h) (r : Reports) (wants : Wants) (worker : ℕ) (jobs : List DoneJob) (es : List CallEntry)
     → DoesJobs wants worker jobs es → AreApart jobs → Each (IsReported r worker) jobs
     → ((j : ℕ) → j < l.jobs → r.worker j ≡ worker → HasNumber j jobs)
     → OwnAgrees l r wants worker (es ++ entry worker Draw (Drawn None) ∷ [])
 
--- The law of one call more: where the calls so far serve a job's slot events so far, they do so with one event more, and with the refused
--- takes before it and the call that is it.
+-- The law of one more call. If the calls so far serve a job's slot events so far, they do so with one more event, the refused takes before
+-- it and the call that is it.
 abbrev pub ServesMoreLaw : Type 0
 ServesMoreLaw = (wants : Wants) (worker j : ℕ) (past xs : List SlotEvent) (x : SlotEvent) (es refused : List CallEntry) (e : CallEntry)
     → Serves wants worker j past xs es

@@ -23,7 +23,7 @@ slots_in (TookLocal ∷ events) = TakesLocal ∷ slots_in events
 slots_in (GaveLocal ∷ events) = GivesLocal ∷ slots_in events
 slots_in (other ∷ events) = slots_in events
 
--- the report of job j is read as it stands in the reports, its places among the entries of its worker
+-- the report of job j is read as it is in the reports, its places among the entries of its worker
 pub record IsReadAs (entries : ℕ → Entries) (report : Report) (j : ℕ) (r : Reports) : Type 0 where
   pub number : report.number ≡ j
   pub worker : report.worker ≡ r.worker j

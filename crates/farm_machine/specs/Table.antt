@@ -51,9 +51,9 @@ WholeThen j host source note o acts end =
     ⊎ ((o.status ≢ 0) × ((j.config.fallback ≡ false) ⊎ (j.config.retry ≡ false)) × (acts ≡ [])
     × (end ≡ Done o.status note o.err o.out (Remote host))))
 
--- The compile elsewhere, of a request within its limits, after these tries: all hosts are down; or a local host
--- compiled it, or could not run it; or the exchange with a host was whole; or it broke, the host is left alone for the
--- period if there is one, and another host is asked where there are tries left.
+-- The compile elsewhere, of a request within its limits, after these tries. All hosts are down; or a local host compiled it, or could not
+-- run it; or the exchange with a host was whole; or it broke. After a broken one the host is not used for the period, if there is one, and
+-- another host is asked if there are tries left.
 abbrev pub SendPart : Job → List ℕ → List ℕ → List Tried → List Act → End → Type 0
 SendPart j source note tried (Met FindsDown ∷ acts) end = CanRequest j source × HereOr j source note (Failed (no_host tried)) acts end
 SendPart j source note tried (Met (Takes host) ∷ Did (ran x) ∷ Met (Gives k) ∷ acts) end =
@@ -80,7 +80,7 @@ CompilePart j source note acts end =
     ((¬ (CanRequest j source)) × HerePart j source note acts end)
     ⊎ SendPart j source note [] acts end
 
--- A whole course, want of memory aside: a command that stays here is run as it stands; a preprocessed source is
+-- A whole course, lack of memory aside: a command that stays here is run unchanged; a preprocessed source is
 -- fetched; any other source is preprocessed, and a preprocessor that fails ends the job.
 abbrev pub Finished : Job → List Act → End → Type 0
 Finished j (Met TakesLocal ∷ Did (ran x) ∷ Met GivesLocal ∷ []) end = (may_be_sent j ≡ false) × IsRunOf x (whole_command j) []
@@ -97,7 +97,7 @@ Finished j [] end =
     ⊎ ((may_be_sent j ≡ true) × (is_source_ready j ≡ false) × (end ≡ Failed Station))
 Finished j acts end = ⊥
 
--- the courses that don't end for want of memory are those of the table
+-- the courses that don't end for lack of memory are those of the table
 abbrev pub TableLaw : Type 0
 TableLaw = (j : Job) (acts : List Act) (end : End) → end ≢ Failed Memory → Course j acts end ↔ Finished j acts end
 
@@ -122,8 +122,8 @@ pub record IsCut (j : Job) (acts : List Act) : Type 0 where
   pub finished : Finished j (front ++ next ∷ rest) end
   pub is : acts ≡ front ++ gives_back (loan_of None (slots_of front))
 
--- The first acts of a whole course up to an exchange, in whose place stands one that need only be begun, and the give
--- of the host's slot.
+-- The first acts of a whole course up to an exchange. In its place is one that need only be begun, and then comes the give of the host's
+-- slot.
 pub record IsCutInExchange (j : Job) (acts : List Act) : Type 0 where
   pub front : List Act
   pub exchange : Exchange
@@ -138,6 +138,6 @@ pub record IsCutInExchange (j : Job) (acts : List Act) : Type 0 where
   pub is_begun : IsBegunWith j begun source host
   pub is : acts ≡ front ++ Did (exchanged begun) ∷ Met (Gives host) ∷ []
 
--- the courses that end for want of memory are cut ones
+-- the courses that end for lack of memory are cut ones
 abbrev pub MemoryLaw : Type 0
 MemoryLaw = (j : Job) (acts : List Act) → Course j acts (Failed Memory) ↔ (IsCut j acts ⊎ IsCutInExchange j acts)

@@ -16,7 +16,7 @@ pub record Reports : Type 0 where
   pub ends : ℕ → End
 
 -- What the earlier calls of a list leave: the job that each worker's latest draw answered, and of each job the slot events that were
--- calls and the acts behind them.
+-- calls and the acts after them.
 pub record Progress : Type 0 where
   pub current : ℕ → Option ℕ
   pub past : ℕ → List SlotEvent
@@ -45,9 +45,9 @@ abbrev pub IsWaitedFor : SlotKind → SlotEvent → Type 0
 IsWaitedFor HostSlot x = (x ≡ FindsDown) ⊎ ((host : ℕ) × (x ≡ Takes host))
 IsWaitedFor LocalSlot x = x ≡ TakesLocal
 
--- The call of this worker follows: a draw that answers none; a draw that answers a job which this worker's report is of; the next slot
--- event of the job that this worker's latest draw answered; or a refused take before that event, where it is waited for. A take has the
--- mask that is wanted after the job's slot events so far.
+-- The call of this worker follows if it is a draw that answers none, or a job whose report is this worker's. For the job that this worker's
+-- latest draw answered, its next slot event follows, or a refused take before that event, if it is waited for. A take has the mask that is
+-- wanted after the job's slot events so far.
 abbrev pub Follows : Reports → Wants → Progress → ℕ → JobCall → Type 0
 Follows r wants p worker (Draws None) = Unit {0}
 Follows r wants p worker (Draws (Some j)) = r.worker j ≡ worker
@@ -77,24 +77,24 @@ pub record Agrees {h : ℕ} (l : Limits h) (r : Reports) (wants : Wants) (calls 
   pub drawn : AllDrawn l calls
   pub used : (j : ℕ) → j < l.jobs → IsUsedUp (last_progress (no_progress r) calls) j
 
--- one worker's calls alone follow, and leave over no slot event of its reports
+-- one worker's own calls follow, and leave over no slot event of its reports
 pub record OwnAgrees {h : ℕ} (l : Limits h) (r : Reports) (wants : Wants) (worker : ℕ) (mine : List CallEntry) : Type 0 where
   pub follow : AllFollow r wants (no_progress r) mine
   pub used : (j : ℕ) → j < l.jobs → r.worker j ≡ worker → IsUsedUp (last_progress (no_progress r) mine) j
 
--- The law by callers: a legal list in which every job was drawn agrees exactly where each worker's own calls do.
+-- The law by callers: a legal list in which every job was drawn agrees exactly if each worker's own calls do.
 abbrev pub CallersLaw : Type 0
 CallersLaw = (h : ℕ) (l : Limits h) (r : Reports) (wants : Wants) (calls : List CallEntry)
     → IsLegal l calls → AllDrawn l calls
     → Agrees l r wants calls ↔ ((worker : ℕ) → OwnAgrees l r wants worker (calls_by worker calls))
 
--- Whether calls agree is seen from workers and slot events alone, so it can be tested before the reports' places are read.
+-- Whether calls agree depends only on workers and slot events, so it can be tested before the reports' places are read.
 abbrev pub UnreadLaw : Type 0
 UnreadLaw = (h : ℕ) (l : Limits h) (r s : Reports) (wants : Wants) (calls : List CallEntry)
     → ((j : ℕ) → j < l.jobs → r.worker j ≡ s.worker j) → ((j : ℕ) → j < l.jobs → slots_of (r.acts j) ≡ slots_of (s.acts j))
     → Agrees l r wants calls → Agrees l s wants calls
 
--- the deeds before the next slot event, and the return where there is none
+-- the deeds before the next slot event, and the return if there is none
 abbrev pub steps_until_met : ℕ → End → List Act → List FarmStep
 steps_until_met j end [] = Returns j end ∷ []
 steps_until_met j end (Did d ∷ acts) = Does j d ∷ steps_until_met j end acts
@@ -112,7 +112,7 @@ abbrev pub weave_from : Reports → Progress → List CallEntry → List FarmSte
 weave_from r p [] = []
 weave_from r p (e ∷ es) = Calls e ∷ (steps_behind r (next_progress p e) (job_call_of e) ++ weave_from r (next_progress p e) es)
 
--- the calls in their order, and behind each what its job does until its next slot event
+-- the calls in their order, and after each what its job does until its next slot event
 abbrev pub weave : List CallEntry → Reports → List FarmStep
 weave calls r = weave_from r (no_progress r) calls
 

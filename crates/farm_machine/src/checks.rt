@@ -13,7 +13,7 @@ use crate::legality::slots_then;
 use crate::reports::ReportList;
 use slot_table::{CallEntry, CallList, Limits, Slots};
 
-/// The slots after one more call, where it is legal and follows.
+/// The slots after one more call, if it is legal and follows.
 fn sound_then(
     slots: &Slots<16>,
     reports: &ReportList,
@@ -65,7 +65,7 @@ pub fn are_numbered(reports: &ReportList) -> bool
 ///
 /// None says that they do: the calls are a legal history of slots of these limits, each call follows those before it in the
 /// reports, every job was drawn, and no slot event of a report is left over. Else the answer is the place, from 0, of the first
-/// call that isn't legal or doesn't follow; and where all are and do, the number of calls.
+/// call that isn't legal or doesn't follow, or the number of calls if all are legal and follow.
 pub fn check_run(limits: &Limits<16>, calls: &CallList, reports: &ReportList) -> Option<u64>
     requires valid { AreValid limits.now }
     requires one { length reports.now ≡ limits.now.jobs }

@@ -14,7 +14,7 @@ use crate::kinds::{Kind, kind_of};
 use crate::reports::{Event, ReportList};
 use slot_table::{CallEntry, Limits, Mask};
 
-/// The job of the caller's latest draw after one more call, where it was this before.
+/// The job of the caller's latest draw after one more call, if it was this before.
 fn current_then(current: Option<u32>, entry: &CallEntry, caller: u32) -> Option<u32>
     ensures { (p : Progress) → p.current caller ≡ current → (next_progress p entry.now).current caller ≡ result }
 {
@@ -98,7 +98,7 @@ fn may_ask(
         }
 }
 
-/// How many slot events of the job there were after one more call, where there were so many before.
+/// How many slot events of the job there were after one more call, if there were that many before.
 fn met_then(met: usize, entry: &CallEntry, job: u32) -> usize
     requires { met + 1 < 2 ^ 64 }
     ensures met { (p : Progress) (acts : List Act) → p.rest job ≡ behind met acts → (next_progress p entry.now).rest job ≡ behind result acts }
@@ -162,7 +162,7 @@ pub(crate) fn next_event(reports: &ReportList, before: &[CallEntry], job: u32) -
     }
 }
 
-/// The worker of the job's report, and 0 where there is none.
+/// The worker of the job's report, and 0 if there is none.
 fn worker_of(reports: &ReportList, job: u32) -> u32
     ensures { result ≡ (unread reports.now).worker job }
 {

@@ -8,7 +8,7 @@ ghost use Rattle.farm_machine.specs.Checking.{is_taken, is_given, IsStepped};
 use farm_types::limits::HOSTS_MAX;
 use slot_table::{CallEntry, Limits, SlotCall, SlotReply, Slots};
 
-/// Whether the call takes such a slot for the job: of the host's entry, or a local one where there is no host.
+/// Whether the call takes such a slot for the job: of the host's entry, or a local one if there is no host.
 fn takes(entry: &CallEntry, job: u32, host: Option<u32>) -> bool
     ensures { result ≡ is_taken job host (change entry.now.call entry.now.reply) }
 {
@@ -42,7 +42,7 @@ fn gives(entry: &CallEntry, job: u32, host: Option<u32>) -> bool
     }
 }
 
-/// How often such a slot is out to the caller after one more call, where it was out so often before.
+/// How often such a slot is out to the caller after one more call, if it was out so often before.
 fn count_then(count: usize, entry: &CallEntry, caller: u32, job: u32, host: Option<u32>) -> usize
     requires { count + 1 < 2 ^ 64 }
     ensures times { (out : List Holding) → times (holding caller job host) out ≡ count → times (holding caller job host) (outstanding_then out entry.now) ≡ result }
@@ -77,7 +77,7 @@ fn is_local(limits: &Limits<16>, host: u32) -> bool
     host < HOSTS_MAX as u32 && limits.local[host as usize]
 }
 
-/// Whether the caller may make the call after these: what it gives back is out to it, and no local entry is left alone.
+/// Whether the caller may make the call after these: what it gives back is out to it, and no local entry gets a back-off.
 fn may_call(limits: &Limits<16>, before: &[CallEntry], caller: u32, call: SlotCall) -> bool
     ensures { result ≡ may_call limits.now caller (outstanding before.now) call }
 {
@@ -91,7 +91,7 @@ fn may_call(limits: &Limits<16>, before: &[CallEntry], caller: u32, call: SlotCa
     }
 }
 
-/// The slots after one more call, where it may be made and has its reply.
+/// The slots after one more call, if it may be made and has its reply.
 pub(crate) fn slots_then(
     slots: &Slots<16>,
     before: &[CallEntry],

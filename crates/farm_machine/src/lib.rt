@@ -1,5 +1,5 @@
-//! The values that tell what became of a job, and the definitions of the farm: jobs and their courses, the machine, the
-//! weave, and what a compiler may answer; the limits that a host list sets, and the check of a given run.
+//! The values that report what became of a job, the limits that a host list sets, and the check of a given run. The definitions of the
+//! farm: jobs and their courses, the machine, the weave, and what a compiler may answer.
 #![tactic(auto)]
 
 mod checks;

@@ -10,7 +10,7 @@ pub enum By {
     Remote(u32),
     /// The compiler here, on the preprocessed source.
     Here,
-    /// The whole command, run here as it stands.
+    /// The whole command, run here unchanged.
     InPlace,
 }
 
@@ -25,7 +25,7 @@ pub enum Why5 {
     Broke { host: u32, cause: Cause },
     /// No host was up.
     NoHost,
-    /// Memory was wanting.
+    /// Memory ran out.
     Memory,
     /// The source could not be fetched.
     Fetch,

@@ -91,7 +91,7 @@ fn decide_list<R: Source>(
     }))
 }
 
-// The same, while lines tell of them.
+// The same, while lines report on them.
 fn decide_watched<R: Source>(
     alloc: Global,
     settings: &Settings<'_>,

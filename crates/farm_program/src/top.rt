@@ -29,7 +29,7 @@ use std::alloc::Global;
 use std::sync::Wait;
 use std::thread::Threads;
 
-/// How `farm` ended: its exit status, what was built, and why nothing was, where it was refused.
+/// How `farm` ended: its exit status, what was built, and why nothing was, if it was refused.
 #[derive(Drop)]
 pub struct Ended {
     pub status: u8,

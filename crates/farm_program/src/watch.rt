@@ -1,4 +1,4 @@
-//! A build of a job list that tells how far it has come.
+//! A build of a job list that reports how far it has come.
 ghost use Rattle.std.specs.Prelude.{◌≡◌, ◌≤◌, [], ◌∷◌, Bool, IfOk, OnErr, length};
 ghost use Rattle.farm_types.specs.Limits.{lines_max};
 ghost use Rattle.edge_traits.specs.Keepers.{IsIdle};
@@ -18,7 +18,7 @@ use std::alloc::{AllocError, Global};
 use std::sync::Wait;
 use std::thread::Threads;
 
-// Runs jobs while lines tell how far they have come. What was built, and how the printing of the lines ended. An error says that
+// Runs jobs while lines report how far they have come. What was built, and how the printing of the lines ended. An error says that
 // memory ran out before the first of the jobs began.
 fn watch_jobs<
     T: Threads + Wait + Sync,
@@ -67,7 +67,7 @@ where
     Ok((BuiltList::from_vec(built), printed))
 }
 
-/// Runs the jobs of a list while lines on the sink of errors tell how far they have come. With one kit nothing is told, since the last
+/// Runs the jobs of a list while lines on the sink of errors report how far they have come. With one kit no line is printed, since the last
 /// kit lends its clock. An error says that memory ran out before the first of the jobs began.
 pub fn run_watched<
     T: Threads + Wait + Sync,

@@ -45,7 +45,7 @@ pub enum Work {
     Command(ListWork),
     /// All jobs of a list.
     List(ListWork),
-    /// All jobs of a list, while that many lines tell of them.
+    /// All jobs of a list, while that many lines report on them.
     Watched { list: ListWork, lines: u8 },
     /// All jobs of a graph, level by level.
     Graph(GraphWork),
@@ -53,7 +53,7 @@ pub enum Work {
     Rehearse { jobs: u32 },
 }
 
-/// What became of it, and what is told of that.
+/// What became of it, and what is printed of that.
 #[derive(Drop)]
 pub enum Done {
     /// There was nothing but a text.
@@ -68,7 +68,7 @@ pub enum Done {
         hosts: Hosts,
         built: BuiltList,
     },
-    /// They were run while lines told of them, whose printing ended so.
+    /// They were run while lines reported on them, whose printing ended so.
     Watched {
         hosts: Hosts,
         built: BuiltList,

@@ -129,7 +129,7 @@ const LIMIT_1: Row = Row {
 };
 
 // The same at a host of limit 1: no second request can be whole while the first slot is out, so the first exchange
-// fails, the host is left alone, and both jobs are compiled here.
+// fails, the host is in back-off, and both jobs are compiled here.
 #[test]
 fn one_exchange_at_a_host_of_limit_1(rt: HostRuntime) -> Result<(), Fail> {
     expect_exchanges(&rt, rt.alloc(), &LIMIT_1)

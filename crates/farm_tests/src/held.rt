@@ -1,4 +1,4 @@
-//! Watched builds by one worker, which is held in one of its runs until a line has told how far it is then.
+//! Watched builds by one worker, which is held in one of its runs until a line has reported how far it is then.
 
 ghost use Rattle.std.specs.Prelude.{◌≡◌, ◌≤◌, [], false, length, All, IfOk, IfErr, OnOk};
 ghost use Rattle.edge_traits.specs.Keepers.{IsIdle};
@@ -180,7 +180,7 @@ fn held_kits<'a, R: Wait>(
     )
 }
 
-// A build of that many jobs whose worker is held before one of its runs, until a line has told how far it is then.
+// A build of that many jobs whose worker is held before one of its runs, until a line has reported how far it is then.
 struct Row {
     jobs: u32,
     /// How many runs come before the held one.
@@ -213,7 +213,7 @@ const ROWS: &[Row] = &[
         total: "total 2 ok 2\n",
         last: "watch last ended 2 of 2 busy 0\n",
     },
-    // Two rows for each of many jobs are shown and told of.
+    // Two rows for each of many jobs are shown and noted.
     Row {
         jobs: 200,
         before: 199,

@@ -19,8 +19,8 @@ use std::sync::Wait;
 use std::test::Fail;
 use std::thread::Threads;
 
-// A station whose runs from the second on, which hold a slot, tell that they have begun, and wait until the other worker has paused, if it has
-// gates for that.
+// A station whose runs from the second on, which hold a slot, report that they have begun, and wait until the other worker has paused, if
+// it has gates for that.
 #[derive(Drop)]
 struct HeldStation<'a, R> {
     gates: Option<Gates<'a, R>>,

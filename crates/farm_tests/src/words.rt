@@ -98,7 +98,7 @@ struct Wanted<'a> {
     err: &'a str,
 }
 
-// Nothing but this is printed in the run of a script, and there is an object exactly where the status is 0 and a job ran.
+// Nothing but this is printed in the run of a script, and there is an object exactly if the status is 0 and a job ran.
 fn check_run<R: Abort + Threads + Wait + Sync>(
     rt: &R,
     alloc: Global,
@@ -145,7 +145,7 @@ fn commands_answer_by_their_words(rt: HostRuntime) -> Result<(), Fail> {
     check_rows(&rt, rt.alloc(), BUILDS, &FIRST)
 }
 
-// What these words print, which is this alone, and there is an object.
+// What these words print, which is only this, and there is an object.
 fn check_here<R: Abort + Threads + Wait + Sync>(
     rt: &R,
     alloc: Global,

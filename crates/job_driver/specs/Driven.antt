@@ -76,27 +76,31 @@ pub record DrewToTheEnd (worker : ℕ) (calls : List CallEntry) : Type 0 where
 -- A worker did jobs with this kit, until a draw was answered by no job.
 pub record KitDid {K : Type 0} (d : Devices K) (period worker : ℕ) (read : Reports) (reports : List Report) (entries : Entries)
     (calls : List CallEntry) (old new : K) : Type 0 where
-  -- All that it did is one list of acts: those of its jobs, job after job, and looks at the clock. Its deeds are the new entries of the
-  -- kit's lists, in order, and no file changed but by its puts.
+  -- All that it did is one list of acts: those of its jobs, job after job, and looks at the clock.
   pub acts : List Act
   pub of_jobs : untimed acts ≡ acts_by read (reports_by worker reports)
+  -- Its deeds are the new entries of the kit's lists, in order, and no file changed but by its puts.
   pub did : DidIn (d.shows old) (d.shows new) (deeds_of acts)
   -- The events of the worker's reports, report after report, name each of these entries once, and nothing else but its calls on the slots.
   pub named : events_of (reports_by worker reports) ≡ numbered no_places acts
   pub entries_are : entries ≡ entries_of acts
   pub drew : DrewToTheEnd worker calls
-  -- The moments that these calls name are those that the clock gave. With a period a host is left alone after each exchange with which
-  -- something went wrong.
+  -- The moments that these calls name are those that the clock gave.
   pub moments : AreMoments period calls (moments_in (deeds_of acts))
+  -- With a period a host is not used for that long after each exchange with which something went wrong.
   pub leaves : LeavesAlone period acts
-  -- peers gave what peers may give, and programs left what programs may leave
+  -- if the exchanges are told, peers gave what peers may give
   pub may : IsTrue (d.shows new).dialer.exchanges.known → MayAll (d.peers old) (exchanges_in (deeds_of acts))
+  -- programs left what programs may leave
   pub ran : AllRan (d.programs old) acts
   -- The station's counts rose by exactly the number of the jobs that failed by it, and no more jobs failed by another device than its counts
-  -- rose. No put is pending.
+  -- rose.
   pub caused : AreCaused (reports_by worker reports) (d.shows old) (d.shows new)
+  -- no count fell
   pub later : KitLater (d.shows old) (d.shows new)
+  -- no put is pending
   pub idle : IsIdle (d.shows new).keeper
+  -- its peers and programs may give and leave what they might before
   pub peers : SameRelation (d.peers old) (d.peers new)
   pub programs : SameRelation3 (d.programs old) (d.programs new)
 
@@ -105,12 +109,13 @@ pub record KitDid {K : Type 0} (d : Devices K) (period worker : ℕ) (read : Rep
 pub record JobsRan {K : Type 0} (d : Devices K) (l : Limits 16) (jobs : ℕ → Job) (period workers : ℕ) (reports : List Report)
     (history : List CallEntry) (last : SlotState 16) (old new : List K) : Type 0 where
   pub valid : AreValid l
-  -- There is one report for each job, in the order of the jobs, by one of the workers. Read by its worker's new entries it is a course of
-  -- its job, each run and fetch within its bounds and no fault of an exchange told as out of memory.
+  -- There is one report for each job, in the order of the jobs, which is read by its worker's new entries.
   pub entries : ℕ → Entries
   pub read : Reports
   pub are_read : AreRead l entries reports read
+  -- each is by one of the workers
   pub by_workers : (j : ℕ) → j < l.jobs → read.worker j < workers
+  -- It is a course of its job, with each run and fetch within its bounds. No fault of an exchange is reported as out of memory.
   pub courses : (j : ℕ) → j < l.jobs → IsJobCourse (jobs j) (read.acts j) (read.ends j)
   -- Each put is of the object of a compile of status 0 before it: a host's whole reply to the job's own request, or a run here of its own
   -- words on its own source. It is the job's last act.
@@ -118,25 +123,30 @@ pub record JobsRan {K : Type 0} (d : Devices K) (l : Limits 16) (jobs : ℕ → 
       → PutsLast (jobs j) before x rest (read.ends j)
   -- a job that may not be sent has no exchange
   pub stays_here : (j : ℕ) → j < l.jobs → may_be_sent (jobs j) ≡ false → exchanges_in (deeds_of (read.acts j)) ≡ []
-  -- The calls of the one history of the slots agree with the reports; what is woven of both is a run of the farm.
+  -- the calls of the one history of the slots agree with the reports
   pub agrees : Agrees l read (wanted l) history
+  -- what is woven of both is a run of the farm
   pub run : FarmRun (farm_of l jobs) l (weave history read)
+  -- the slots are those that the history leaves
   pub last_is : last ≡ state_after l history
-  -- At no moment has a host more slots given out than its limit. At the end all are back, and nobody but the workers called.
+  -- at no moment has a host more slots given out than its limit
   pub never_above : (front rest : List CallEntry) → history ≡ front ++ rest → AreWithinLimits l (outstanding front)
+  -- at the end all are back
   pub back : outstanding history ≡ []
+  -- nobody but the workers called
   pub others : (caller : ℕ) → workers ≤ caller → calls_by caller history ≡ []
   -- Each new put of a worker's keeper is a put of exactly one job that this worker did.
   pub puts_are : (worker : ℕ) (other : K) → worker < workers → Grew (d.shows (slice_index_or old worker other)).keeper.puts
       (d.shows (slice_index_or new worker other)).keeper.puts (puts_by read (reports_by worker reports))
-  -- Each worker did with its kit what its reports tell, and nothing else, and the kit's counts went on job by job. All other kits are as
-  -- they were.
+  -- Each worker did with its kit what its reports say, and nothing else.
   pub kits : (worker : ℕ) (other : K) → worker < workers
       → KitDid d period worker read reports (entries worker) (calls_by worker history) (slice_index_or old worker other)
       (slice_index_or new worker other)
+  -- the kit's counts went on job by job
   pub counts : (worker : ℕ) (other : K) → worker < workers
       → CountsOf jobs read (reports_by worker reports) (d.shows (slice_index_or old worker other))
       (d.shows (slice_index_or new worker other))
   pub same : length new ≡ length old
+  -- all other kits are as they were
   pub unused : (place : ℕ) (other : K) → workers ≤ place → place < length old
       → slice_index_or new place other ≡ slice_index_or old place other

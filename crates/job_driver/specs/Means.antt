@@ -40,25 +40,27 @@ pub record RunMeans {K : Type 0} (d : Devices K) (l : Limits 16) (jobs : ℕ →
   pub may_give : (j : ℕ) (other : K) → j < l.jobs → IsTrue (d.shows (slice_index_or new (read.worker j) other)).dialer.exchanges.known
       → AllGiven (d.peers (slice_index_or old (read.worker j) other)) (read.acts j)
   pub may_leave : (j : ℕ) (other : K) → j < l.jobs → AllRan (d.programs (slice_index_or old (read.worker j) other)) (read.acts j)
-  -- over honest peers its object is one that a compiler may answer, and where a host's failure is compiled here once more its end too
+  -- over honest peers a job's object is one that a compiler may answer
   pub honest_objects : (j : ℕ) (other : K) → j < l.jobs
       → HasAnswers (d.peers (slice_index_or old (read.worker j) other)) (d.programs (slice_index_or old (read.worker j) other))
       (d.shows (slice_index_or new (read.worker j) other)) (jobs j) (read.acts j)
+  -- and its end too, if a host's failure is compiled here once more or the peers are fully honest to the job
   pub honest_ends : (j : ℕ) (other : K) → j < l.jobs
       → AnswersBy (d.peers (slice_index_or old (read.worker j) other)) (d.programs (slice_index_or old (read.worker j) other))
       (d.shows (slice_index_or new (read.worker j) other)) (jobs j) (read.acts j) (read.ends j)
   -- With fallback on a job whose worker's station and keeper did nothing wrong is done, or memory ran out, whatever dialers, links
-  -- and hosts do. So it is with fallback off if there is a host and no exchange of the run broke: then no host is ever left alone.
+  -- and hosts do.
   pub returns : (j : ℕ) (other : K) → j < l.jobs → (jobs j).config.fallback ≡ true
       → IsCalm (d.shows (slice_index_or old (read.worker j) other)) (d.shows (slice_index_or new (read.worker j) other))
       → is_done_or_wanted (read.ends j) ≡ true
+  -- The same with fallback off, if there is a host and no exchange of the run broke: then no host is ever in back-off.
   pub returns_unbroken : (j : ℕ) (other : K) → j < l.jobs → 0 < l.count → ((i : ℕ) → i < l.jobs → NoneBroke (jobs i) (read.acts i))
       → IsCalm (d.shows (slice_index_or old (read.worker j) other)) (d.shows (slice_index_or new (read.worker j) other))
       → is_done_or_wanted (read.ends j) ≡ true
-  -- where none of a worker's jobs failed by its station, the station counted nothing, and where none failed by a fetch, no file was
-  -- missing or too long
+  -- if none of a worker's jobs failed by its station, the station counted nothing
   pub stands : (worker : ℕ) (other : K) → worker < workers → ends_so is_station_failure (reports_by worker reports) ≡ 0
       → StationStill (d.shows (slice_index_or old worker other)).station (d.shows (slice_index_or new worker other)).station
+  -- if none of a worker's jobs failed by a fetch, no file was missing or too long
   pub found : (worker : ℕ) (other : K) → worker < workers → ends_so is_fetch_failure (reports_by worker reports) ≡ 0
       → Still (d.shows (slice_index_or old worker other)).keeper.overruns (d.shows (slice_index_or new worker other)).keeper.overruns
 

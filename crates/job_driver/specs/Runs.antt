@@ -48,7 +48,7 @@ pub record IsOpen {D S K C : Type 0} (d : Devices (Kit D S K C)) (jobs : List (L
   pub slots : AreSlotsFor jobs config (limits_of run.cell)
   pub room : HasRoomToClose (length jobs) run
 
--- the workers, each from where it was before, did these jobs until there were none
+-- the workers, each on from its state before, did these jobs until there were none
 pub record AreDone {D S K C : Type 0} (d : Devices (Kit D S K C)) (jobs : List (List (List ℕ))) (config : JobConfig)
     (before : List (Worker D S K C)) (run : Run D S K C) : Type 0 where
   pub some : 0 < length before

@@ -135,7 +135,7 @@ pub record HasBuiltWatched {K : Type 0} (d : Devices K) (jobs : List (List (List
       built.last.state old new
   pub slots : AreSlotsFor jobs config built.last.limits
 
--- Lines tell what was read of the boards, from none of their rows up to these.
+-- Lines report what was read of the boards, from none of their rows up to these.
 abbrev pub LinesTellOf : ℕ → ℕ → ℕ → List (List Progress) → SinkView → SinkView → LineEnd → Type 0
 LinesTellOf jobs workers lines rows old new end = LinesTell jobs workers lines (replicate workers []) rows old new end
 

@@ -41,8 +41,8 @@ pub record AreSlotsFor {h : ℕ} (jobs : List (List (List ℕ))) (config : JobCo
   pub hosts : AreLimitsOf l config.hosts
   pub number : l.jobs ≡ length jobs
 
--- A worker may begin: the slots are ready and it made no call on them, a caller that is alone has room for the calls of that many jobs, its
--- reserve has room for them too, and no put is pending.
+-- A worker may begin. The slots are ready, and it made no call on them. A caller that is the only one has room for the calls of that many
+-- jobs. Its reserve has room for that many jobs too, and no put is pending.
 pub record CanWork {G : Type 0} (is_ready : G → Type 0) (alone : Bool) (spare_of : G → ℕ) (mine_of : G → List CallEntry) (jobs : ℕ)
     (grants : G) (reserve : Reserve) (keeper : KeeperView) : Type 0 where
   pub ready : is_ready grants

@@ -42,7 +42,7 @@ pub record IsReportOf (by_worker : ℕ) (at : Places) (job : DoneJob) (report : 
   pub events : report.events ≡ numbered at job.acts
   pub end : report.end ≡ job.end
 
--- the reports tell of the jobs, the deeds of each numbered on from where those before it ended
+-- the reports are those of the jobs, the deeds of each numbered on from where those before it ended
 abbrev pub AreReportsOf : ℕ → Places → List DoneJob → List Report → Type 0
 AreReportsOf worker at [] [] = Unit {0}
 AreReportsOf worker at [] (report ∷ reports) = ⊥
@@ -124,22 +124,27 @@ CountsGoOn jobs [] old new = new ≡ old
 CountsGoOn jobs (job ∷ done) old new = (mid : KitView) × CountsTell (jobs job.number) (untimed job.acts) job.end old mid
     × CountsGoOn jobs done mid new
 
--- A worker did jobs, one after another: each is a course of its command, with each run and fetch within its bounds and no fault of an
--- exchange told as out of memory. All that it did is one list of acts. Its deeds are the new entries of the kit's lists, and the
--- reports' events name them, counted from 0 on. The calls are those of its jobs, and their moments are those that the clock gave. With a
--- period a host is left alone after each exchange with which something went wrong. Peers gave what peers may give, programs left what
--- programs may leave, and counts rose with the jobs that failed, job by job.
+-- A worker did jobs, one after another, and all that it did is one list of acts.
 pub record Works {h : ℕ} (peers : Peers) (programs : Programs) (jobs : ℕ → Job) (period : ℕ) (l : Limits h) (worker : ℕ)
     (reports : List Report) (calls : List CallEntry) (old new : KitView) : Type 0 where
   pub done : List DoneJob
+  -- the reports' events name the new entries, counted from 0 on
   pub reported : AreReportsOf worker no_places done reports
+  -- Each job is a course of its command, with each run and fetch within its bounds. No fault of an exchange is reported as out of memory.
   pub courses : Each (λ job. IsJobCourse (jobs job.number) (untimed job.acts) job.end) done
+  -- the calls are those of its jobs
   pub does : DoesJobs (wanted l) worker (map untimed_job done) calls
+  -- its deeds are the new entries of the kit's lists
   pub did : DidIn old new (deeds_of (all_acts done))
+  -- the moments of the calls are those that the clock gave
   pub moments : AreMoments period calls (moments_in (deeds_of (all_acts done)))
+  -- With a period a host is not used for that long after each exchange with which something went wrong.
   pub leaves : LeavesAlone period (all_acts done)
+  -- if the exchanges are told, peers gave what peers may give
   pub may : IsTrue new.dialer.exchanges.known → MayAll peers (exchanges_in (deeds_of (all_acts done)))
+  -- programs left what programs may leave
   pub ran : AllRan programs (all_acts done)
+  -- counts rose with the jobs that failed, in all and job by job
   pub caused : AreCaused reports old new
   pub counts : CountsGoOn jobs done old new
   pub later : KitLater old new

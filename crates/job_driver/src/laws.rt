@@ -4,8 +4,8 @@ ghost use Rattle.job_driver.specs.Means.{RunMeansLaw};
 
 use edge_traits::{Clock, Dialer, Keeper, Station};
 
-/// What follows of every run of jobs, as `build` promises it: each report is a course of the table; each job was drawn, and no
-/// slot is held; over honest peers each object is one that a compiler may answer; and which jobs end well.
+/// What follows of every run of jobs, as `build` promises it. Each report is a course of the table. Each job was drawn, and no slot is
+/// held. Over honest peers each object is one that a compiler may answer. It also says which jobs end well.
 pub fn run_means<D: Dialer, S: Station, K: Keeper, C: Clock>(
     _dialer: &D,
     _station: &S,

@@ -1,4 +1,4 @@
--- The course of a job as its contract tells it: by the table, with the bounds of runs and fetches and the rule on want of memory.
+-- The course of a job as its contract states it: by the table, with the bounds of runs and fetches and the rule on lack of memory.
 use Rattle.std.specs.Prelude.{◌≡◌, ◌⊎◌, ℕ, ◌≤◌, List, [], ◌∷◌, ◌++◌, length}
 use Rattle.farm_types.specs.Limits.{preprocessed_max}
 use Rattle.edge_traits.specs.declared.entries.Exchange.{Exchange}
@@ -22,7 +22,7 @@ AreCompiles (Did (fetched x) ∷ acts) = (length x.bytes ≤ preprocessed_max) �
 AreCompiles (act ∷ acts) = AreCompiles acts
 
 -- Each run leaves no more than its bounds let it, and each fetch is within its own. A run that is the first act is the preprocessor's, and
--- one behind a local slot that was taken first is that of the whole command. All others are compiles.
+-- one after a local slot that was taken first is that of the whole command. All others are compiles.
 abbrev pub AreBounded : List Act → Type 0
 AreBounded (Did (ran x) ∷ acts) = IsWithin preprocessor_bounds x.ran × AreCompiles acts
 AreBounded (Met TakesLocal ∷ Did (ran x) ∷ acts) = IsWithin in_place_bounds x.ran × AreCompiles acts
@@ -35,12 +35,12 @@ pub record IsCourseFront (j : Job) (acts : List Act) : Type 0 where
   pub end : End
   pub finished : Finished j (acts ++ next ∷ rest) end
 
--- Nothing went wrong with an exchange that these acts end with, but for the give behind it.
+-- If these acts end with an exchange and the plain give after it, nothing went wrong with the exchange.
 abbrev pub EndsUnhurt : List Act → Type 0
 EndsUnhurt acts = (front : List Act) (x : Exchange) (host : ℕ) → acts ≡ front ++ Did (exchanged x) ∷ Met (Gives host) ∷ [] → IsUnhurt x
 
--- A course of the table, or the cut front of one where memory was wanting. Want of memory hides no fault of an exchange: with the last one
--- nothing went wrong, or the job could have gone on behind it. Each run and each fetch is within its bounds.
+-- A course of the table, or the cut front of one if memory ran out. An end for lack of memory hides no fault of an exchange: nothing went
+-- wrong with the last one, or the job could have gone on after it. Each run and each fetch is within its bounds.
 pub record IsJobCourse (j : Job) (acts : List Act) (end : End) : Type 0 where
   pub of_table : IsOfTable j acts end
   pub hides_none : end ≡ Failed Memory → EndsUnhurt acts ⊎ IsCourseFront j acts

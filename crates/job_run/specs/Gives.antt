@@ -20,7 +20,7 @@ pub record GavePlainly (period caller job host : ℕ) (mine mine' : List CallEnt
   pub noted : events' ≡ events ++ Gave host ∷ []
   pub looked : Grew moments moments' []
 
--- with one the host is left alone from a moment that the clock gave
+-- with one the host is not used for the period, from a moment that the clock gave
 pub record GaveAlone (period caller job host : ℕ) (mine mine' : List CallEntry) (events events' : List Event)
     (moments moments' : Told (List ℕ)) : Type 0 where
   pub some : 0 < period
@@ -45,8 +45,8 @@ pub record IsUnhurt (x : Exchange) : Type 0 where
   pub stopped : x.stopped ≡ false
   pub ended : x.ended ≡ false
 
--- these acts begin, looks at the clock left out, with a plain give only where nothing went wrong with the exchange before them, or there is
--- no period
+-- An act comes next that isn't a look at the clock. It may be a plain give only if nothing went wrong with the exchange before it, or if
+-- there is no period.
 abbrev pub GivesAfter : ℕ → Exchange → List Act → Type 0
 GivesAfter period x [] = ⊥
 GivesAfter period x (Did (timed moment) ∷ acts) = GivesAfter period x acts

@@ -36,37 +36,43 @@ NoneIsDown calls = All (λ e. e.reply ≢ Down) calls
 pub record JobRan {h : ℕ} (peers : Peers) (programs : Programs) (j : Job) (l : Limits h) (caller number : ℕ) (at next : Places)
     (events : List Event) (end : End) (mine_old mine_new : List CallEntry) (old new : KitView) : Type 0 where
   pub acts : List Act
-  -- Its deeds are the new entries of the kit's lists; its events name them, numbered on from the places, which have grown by them.
+  -- its deeds are the new entries of the kit's lists
   pub did : DidIn old new (deeds_of acts)
+  -- its events name them, numbered on from the places
   pub named : events ≡ numbered at acts
+  -- the places have grown by them
   pub grown : next ≡ advanced at acts
-  -- Without looks at the clock it is a course of the table with this end, in which each run and each fetch is within its bounds, and want
-  -- of memory stands in place of no host's answer where something went wrong with the exchange.
+  -- Without looks at the clock it is a course of the table with this end, in which each run and each fetch is within its bounds. An end for
+  -- lack of memory hides no fault of an exchange.
   pub course : IsJobCourse j (untimed acts) end
-  -- Its slot events are the new calls on the slots, with the refused takes before each, and the moments that these calls name are those
-  -- that the clock gave. With a period a host is left alone after each exchange with which something went wrong, also where the job then
-  -- ends for want of memory.
+  -- the new calls on the slots
   pub calls : List CallEntry
   pub mine : mine_new ≡ mine_old ++ calls
+  -- They are the job's slot events, with the refused takes before each.
   pub serves : Serves (wanted l) caller number [] (slots_of acts) calls
+  -- The moments that these calls name are those that the clock gave.
   pub moments : AreMoments j.config.period calls (moments_in (deeds_of acts))
+  -- With a period a host is not used for that long after each exchange with which something went wrong, also if the job then ends for
+  -- lack of memory.
   pub leaves : LeavesAlone j.config.period acts
-  -- A failure of a device goes with a rise of that device's count, and no count falls.
+  -- A failure of a device goes with a rise of that device's count.
   pub cause : HasEndCause end old new
+  -- no count falls
   pub later : KitLater old new
-  -- Where the job didn't end by a failed run no count of the station rose, and where it did just one, by one. Where it didn't end by a
-  -- failed fetch the keeper's overruns stand still, and where it did they rose by one at most; where it made no exchange and didn't end by
-  -- a failed put either, its faults stand still too, but for one of a removal where memory was wanting.
+  -- If the job ended by a failed run, exactly one count of the station rose, by one. Otherwise none rose.
   pub station : StationStands end old.station new.station
+  -- If it ended by a failed fetch, the keeper's overruns rose by one at most. Otherwise they didn't change. If it ended by neither a failed
+  -- fetch nor a failed put and made no exchange, the keeper's faults didn't change, but for one of a removal if memory ran out.
   pub keeper : KeeperStands end acts old.keeper new.keeper
-  -- where it made no exchange and ended by a failed fetch, that was one of its own source, within the bound
+  -- if it made no exchange and ended by a failed fetch, that was one of its own source, within the bound
   pub fetch : FetchEnds (source_name j) end acts old.keeper new.keeper
-  -- peers gave what peers may give, and programs left what programs may leave
+  -- if the exchanges are told, peers gave what peers may give
   pub may : IsTrue new.dialer.exchanges.known → MayAll peers (exchanges_in (deeds_of acts))
+  -- programs left what programs may leave
   pub ran : AllRan programs acts
-  -- Where station and keeper did nothing wrong the job is done, or memory was wanting, if fallback is on, or if none of its exchanges broke
-  -- and it found no hosts down.
+  -- If fallback is on and station and keeper did nothing wrong, the job is done, or memory ran out.
   pub returns : j.config.fallback ≡ true → IsCalm old new → is_done_or_wanted end ≡ true
+  -- The same with fallback on or off, if none of its exchanges broke and it found no hosts down.
   pub returns_unbroken : NoneIsDown calls → NoneBroke j (untimed acts) → IsCalm old new → is_done_or_wanted end ≡ true
   -- over honest peers a job that was compiled ends with an outcome that a compiler may answer
   pub answered : AnswersBy peers programs new j (untimed acts) end
@@ -84,8 +90,8 @@ pub record CanRun {h : ℕ} (words : List (List ℕ)) (config : JobConfig) (l : 
   pub askable : IsAskable config
   pub hosts : AreLimitsOf l config.hosts
 
--- A job may begin: the slots are ready and none is held, a caller that is alone has room for `events_max` calls, the places are small,
--- and no put is pending.
+-- A job may begin: the slots are ready and none is held, a caller that is the only one has room for `events_max` calls, the places are
+-- small, and no put is pending.
 pub record CanBegin {G : Type 0} (is_ready : G → Type 0) (alone : Bool) (spare_of : G → ℕ) (mine_of : G → List CallEntry) (grants : G)
     (at : Places) (keeper : KeeperView) : Type 0 where
   pub ready : is_ready grants

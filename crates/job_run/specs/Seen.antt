@@ -50,7 +50,7 @@ pub record IsElsewhere {h : ℕ} (j : Job) (l : Limits h) (host : Host) (grant :
   pub remote : host.local ≡ false
   pub elsewhere : is_local l (host_of grant) ≡ false
 
--- The slots are ready, these are held and no others, and there is room for so many events and, where the caller is alone, for a call with
+-- The slots are ready, and exactly these are held. There is room for that many events and, if the caller is the only one, for a call with
 -- each event that is left.
 pub record IsHolding {G : Type 0} (is_ready : G → Type 0) (alone : Bool) (spare_of : G → ℕ) (mine_of : G → List CallEntry)
     (held : List Holding) (grants : G) (left events : ℕ) : Type 0 where
@@ -63,7 +63,8 @@ pub record IsHolding {G : Type 0} (is_ready : G → Type 0) (alone : Bool) (spar
 abbrev pub IsFree : {G : Type 0} → (G → Type 0) → Bool → (G → ℕ) → (G → List CallEntry) → G → ℕ → ℕ → Type 0
 IsFree is_ready alone spare_of mine_of grants left events = IsHolding is_ready alone spare_of mine_of [] grants left events
 
--- The slots are ready and none is held. So many events were written down at most and, where the caller is alone, no more calls made.
+-- The slots are ready and none is held. At most that many events were written down, and if the caller is the only one, it made no more
+-- calls than that.
 pub record StaysFree {G : Type 0} (is_ready : G → Type 0) (alone : Bool) (spare_of : G → ℕ) (mine_of : G → List CallEntry) (old new : G)
     (left left' events : ℕ) : Type 0 where
   pub ready : is_ready new

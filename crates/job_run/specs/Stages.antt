@@ -40,7 +40,7 @@ FetchedIs name bound old new (prepared.Ready source note) = Fetched name bound n
 FetchedIs name bound old new (prepared.Over end) =
     (fault : FetchFault) × FetchCause name bound old new fault × (end ≡ Failed (fetch_failure fault))
 
--- the job is to be compiled here: where it stands for that, or where its request is past the limits
+-- the job is to be compiled here: its place says so, or it is to be sent but its request is past the limits
 abbrev pub IsForHere : Job → List ℕ → List ℕ → At → Type 0
 IsForHere j source note at = (at ≡ Locally source note) ⊎ ((¬ (CanRequest j source)) × (at ≡ Send source note []))
 
@@ -49,12 +49,13 @@ abbrev pub LocalIs : {h : ℕ} → Job → Limits h → ℕ → ℕ → Seen →
 LocalIs j l caller number old new at note (Ok o) = WentOn j l caller number old new at (Finish Here note o)
 LocalIs j l caller number old new at note (Err why) = HasEnded j l caller number old new at (Failed why)
 
--- Where the object of a host's whole reply is: of status 0 a put of it is pending under this name, and of another none is.
+-- What became of the object of a host's whole reply: with status 0 a put of it is pending under this name, and with another status no put
+-- is.
 pub record IsAtKeeper (o : Outcome) (path object : List ℕ) (keeper : KeeperView) : Type 0 where
   pub pending : o.status ≡ 0 → HasPending keeper path object
   pub idle : o.status ≢ 0 → IsIdle keeper
 
--- Where the object of a compile is: a host's is at the keeper, and that of a compile here is the outcome's own.
+-- The object of a compile: a host's is at the keeper; that of a compile here is the outcome's own, and no put is pending.
 abbrev pub HasObject : By → Outcome → List ℕ → List ℕ → KeeperView → Type 0
 HasObject (Remote host) o path object keeper = IsAtKeeper o path object keeper
 HasObject by o path object keeper = (object ≡ o.object) × IsIdle keeper
@@ -64,12 +65,12 @@ abbrev pub CanDeliver : By → Outcome → KeeperView → Type 0
 CanDeliver (Remote host) o keeper = (o.status ≡ 0 → IsPending keeper) × (o.status ≢ 0 → IsIdle keeper)
 CanDeliver by o keeper = IsIdle keeper
 
--- these bytes were put under this name, where the put went well
+-- these bytes were put under this name, if the put went well
 pub record HasPut {T E : Type 0} (path object : List ℕ) (old new : KeeperView) (result : Result T E) : Type 0 where
   pub files : Became old.files new.files (files_after old.files.value path object result)
   pub puts : Grew old.puts new.puts (put_entries path object result)
 
--- Where a job stands that was compiled: an object of status 0 is to be put; another status of a host's is the job's.
+-- The place of a job that was compiled: it is to be finished, except that a host's status other than 0 is the job's.
 abbrev pub compiled_at : By → List ℕ → Outcome → At
 compiled_at (Remote host) note o =
     cond (nat_eq o.status 0) (Finish (Remote host) note o) (Over (Done o.status note o.err o.out (Remote host)))
@@ -88,7 +89,7 @@ abbrev pub StepIdle : Step → KeeperView → Type 0
 StepIdle (step.Compiled by o) keeper = Unit {0}
 StepIdle other keeper = IsIdle keeper
 
--- the same of a source that stands to be sent, where a request past the limits is for here
+-- the same for a source that is to be sent; if its request is past the limits, it is for here
 abbrev pub SentIs : {h : ℕ} → Job → Limits h → ℕ → ℕ → Seen → Seen → List ℕ → List ℕ → Step → Type 0
 SentIs j l caller number old new source note step.Here =
     (at : At) × IsForHere j source note at × WentOn j l caller number old new (Send source note []) at
@@ -97,7 +98,7 @@ SentIs j l caller number old new source note (step.Compiled by o) =
     × HasObject by o (output_name j) object new.kit.keeper
 SentIs j l caller number old new source note (step.Failed why) = HasEnded j l caller number old new (Send source note []) (Failed why)
 
--- what follows from a host's whole reply, by where its object is
+-- what follows from a host's whole reply, by the place of its object
 abbrev pub step_after : JobConfig → ℕ → Outcome → Landing → Step
 step_after config host o landing.Lost = step.Failed NotPut
 step_after config host o other =
@@ -107,7 +108,7 @@ step_after config host o other =
 abbrev pub HasUntried : {h : ℕ} → Limits h → Mask → List Tried → Type 0
 HasUntried l mask tried = (i : ℕ) → in_mask mask i ≡ (nat_lt i l.count && not (is_tried i tried))
 
--- what came of one try, from where the job stood: all hosts that are left are down; the job goes on; or the exchange broke
+-- what came of one try, from the job's place: all hosts that are left are down; the job goes on; or the exchange broke
 abbrev pub AskedIs : {h : ℕ} → Job → Limits h → ℕ → ℕ → Seen → Seen → At → List ℕ → List ℕ → List Tried → Asked → Type 0
 AskedIs j l caller number old new at source note tried asked.Down =
     WentOn j l caller number old new at (or_here j source note (Failed (no_host tried)))

@@ -1,4 +1,4 @@
--- When a job's keeper stands still, and by which fetch a job fails.
+-- When the counts of a job's keeper don't change, and by which fetch a job fails.
 use Rattle.std.specs.Prelude.{◌≡◌, ◌⊎◌, ℕ, List, []}
 use Rattle.farm_types.specs.Limits.{preprocessed_max}
 use Rattle.edge_traits.specs.Causes.{Still, RoseOnce, IsRemoval}
@@ -15,7 +15,7 @@ use Rattle.job_run.specs.Failures.{fetch_failure}
 abbrev pub HasNoExchange : List Act → Type 0
 HasNoExchange acts = exchanges_in (deeds_of acts) ≡ []
 
--- The keeper's overruns stand still, and without an exchange its faults do so too.
+-- The keeper's overruns don't change, and without an exchange its faults don't either.
 pub record KeepsStill (acts : List Act) (old new : KeeperView) : Type 0 where
   pub faults : HasNoExchange acts → Still old.faults new.faults
   pub overruns : Still old.overruns new.overruns
@@ -29,10 +29,10 @@ pub record KeepsOrRemoves (acts : List Act) (old new : KeeperView) : Type 0 wher
 abbrev pub OneOverrunAtMost : KeeperView → KeeperView → Type 0
 OneOverrunAtMost old new = Still old.overruns new.overruns ⊎ RoseOnce old.overruns new.overruns
 
--- Where a job ends otherwise than by a failed fetch, the keeper's overruns stand still: no file was missing or too long. By a failed fetch
--- they rose by one at most. Where it made no exchange and ends otherwise than by a failed fetch or a failed put, the keeper's faults stand
--- still. At an end for want of memory they rose by one at most: what was being written couldn't be removed. A failed fetch or put may raise
--- the faults by any number, so a body that tells it as want of memory, or makes it again, has no proof over every keeper.
+-- If a job ends otherwise than by a failed fetch, the keeper's overruns don't change: no file was missing or too long. By a failed fetch
+-- they rose by one at most. If it made no exchange and ends otherwise than by a failed fetch or a failed put, the keeper's faults don't
+-- change. Exception: at an end for lack of memory they rose by one at most, as what was being written couldn't be removed. A failed fetch
+-- or put may raise the faults by any number, so a body that reports it as lack of memory or makes it again can't be proved.
 abbrev pub KeeperStands : End → List Act → KeeperView → KeeperView → Type 0
 KeeperStands (Failed Fetch) acts old new = OneOverrunAtMost old new
 KeeperStands (Failed NotPut) acts old new = Still old.overruns new.overruns

@@ -1,4 +1,4 @@
--- The walk of a job's acts, with each run and each fetch within its bounds, and want of memory that hides no fault of an exchange.
+-- The walk of a job's acts, with each run and each fetch within its bounds. Lack of memory hides no fault of an exchange.
 use Rattle.std.specs.Prelude.{◌≡◌, ◌≤◌, List, [], ◌∷◌, length}
 use Rattle.farm_types.specs.Limits.{preprocessed_max}
 use Rattle.edge_traits.specs.Deeds.{ran, fetched}
@@ -11,9 +11,9 @@ use Rattle.farm_machine.specs.Course.{At, Start, LentInPlace, Sent, Over, Next}
 use Rattle.farm_machine.specs.Jobs.{Job}
 use Rattle.job_run.specs.Gives.{IsUnhurt}
 
--- What an act keeps to that leads from one place to another: a run leaves no more than a preprocessor, a command in place or a compile may,
--- by where the job stands; a source that is fetched has at most `preprocessed_max` bytes; and where memory was wanting in place of a host's
--- answer, nothing had gone wrong with the exchange.
+-- What an act keeps to that leads from one place to another. By the job's place, a run leaves no more than a preprocessor, a command in
+-- place or a compile may. A fetched source has at most `preprocessed_max` bytes. If memory ran out in place of a host's answer, nothing had
+-- gone wrong with the exchange.
 abbrev pub IsStrict : Act → At → At → Type 0
 IsStrict (Did (ran x)) Start to = IsWithin preprocessor_bounds x.ran
 IsStrict (Did (ran x)) LentInPlace to = IsWithin in_place_bounds x.ran

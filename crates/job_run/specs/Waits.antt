@@ -14,7 +14,7 @@ use Rattle.slot_table.specs.Mask.{in_mask}
 abbrev pub refused_local : ℕ → ℕ → CallEntry
 refused_local caller job = entry caller (TakeLocal job) (Local false)
 
--- a local slot, after so many refused takes
+-- a local slot, after that many refused takes
 abbrev pub borrowed : ℕ → ℕ → ℕ → List CallEntry
 borrowed caller job refused = replicate refused (refused_local caller job) ++ entry caller (TakeLocal job) (Local true) ∷ []
 

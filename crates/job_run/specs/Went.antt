@@ -36,7 +36,7 @@ abbrev pub seen_as : KitView → Peers → Programs → List CallEntry → List 
 seen_as kit peers programs mine events places =
     record { kit = kit; peers = peers; programs = programs; mine = mine; events = events; places = places }
 
--- of each host the job took a slot before exactly where the place says so
+-- of each host the job took a slot before exactly if the place says so
 abbrev pub HasTaken : List SlotEvent → At → Type 0
 HasTaken past Start = (host : ℕ) → took host past ≡ false
 HasTaken past (Send source note tried) = (host : ℕ) → took host past ≡ is_tried host tried
@@ -69,7 +69,7 @@ pub record WentOn {h : ℕ} (j : Job) (l : Limits h) (caller number : ℕ) (old 
   pub station : StationStill old.kit.station new.kit.station
   pub keeper : KeepsStill went.acts old.kit.keeper new.kit.keeper
 
--- the job came from a place to a last one, where it may end so
+-- the job came from a place to a last one, from which it may end so
 pub record HasEnded {h : ℕ} (j : Job) (l : Limits h) (caller number : ℕ) (old new : Seen) (at : At) (end : End) : Type 0 where
   pub to : At
   pub went : Went j l caller number old new at to
@@ -79,18 +79,18 @@ pub record HasEnded {h : ℕ} (j : Job) (l : Limits h) (caller number : ℕ) (ol
   pub keeper : KeeperStands end went.acts old.kit.keeper new.kit.keeper
   pub fetch : FetchEnds (source_name j) end went.acts old.kit.keeper new.kit.keeper
 
--- the next places, with room for so many more entries
+-- the next places, with room for that many more entries
 pub record HasPlaces (at : Places) (left : ℕ) : Type 0 where
   pub runs : at.runs + left ≤ place_max
   pub fetches : at.fetches + left ≤ place_max
   pub exchanges : at.exchanges + left ≤ place_max
   pub puts : at.puts + left ≤ place_max
 
--- there is room for as many calls as for events, where a caller is alone
+-- if the caller is the only one, there is room for as many calls as for events
 abbrev pub HasSpare : Bool → ℕ → ℕ → Type 0
 HasSpare alone left spare = alone ≡ true → left ≤ spare
 
--- A caller that is alone has spent no more of its calls than of its events, and any other none.
+-- If the caller is the only one, it spent no more of its calls than of its events; otherwise it spent no call. The events left didn't grow.
 pub record Spent (alone : Bool) (left spare left' spare' : ℕ) : Type 0 where
   pub alone_spent : alone ≡ true → spare + left' ≤ spare' + left
   pub shared : alone ≡ false → spare' ≡ spare

@@ -21,7 +21,7 @@ use remote_transfer::{Landed, attempt_into};
 use slot_table::host_backoff::bad_until;
 use slot_table::{Grant, Grants};
 
-/// Gives the slot back of a host that broke an exchange. The host is left alone for the period, if there is one.
+/// Gives back the slot of a host whose exchange broke. If there is a period, the host is not used for that long.
 fn give_broken<G: Grants, C: Clock>(
     grant: Grant,
     period: u32,

@@ -107,7 +107,7 @@ fn preprocess_source<D: Dialer, S: Station, K: Keeper, C: Clock>(
     }
 }
 
-/// The source of a job, which is fetched where it is preprocessed already and else is preprocessed here.
+/// The source of a job, which is fetched if it is preprocessed already and else is preprocessed here.
 pub(crate) fn prepare<D: Dialer, S: Station, K: Keeper, C: Clock>(
     alloc: Global,
     words: &Words,

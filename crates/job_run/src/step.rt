@@ -76,8 +76,7 @@ pub(crate) fn here_or(fallback: bool, why: Why5) -> Step
     }
 }
 
-/// What follows from a host's whole reply, by where its object is. One that was lost fails the job. Of status 0 the outcome
-/// is the job's; another is the job's too, or with fallback and retry the job is compiled here.
+/// What follows from a host's whole reply: the outcome is the job's, or the job is compiled here, or a lost object fails it.
 pub(crate) fn after_whole(config: &JobConfig, host: u32, outcome: Outcome, landing: Landing) -> Step
     ensures { result ≡ step_after config.now host outcome landing }
 {

@@ -33,7 +33,7 @@ pub(crate) fn borrow_local<R: Wait, G: Grants, C: Clock>(
     unreachable!()
 }
 
-/// A slot of a host of the mask for the job, or None where all of them are down.
+/// A slot of a host of the mask for the job, or None if all of them are down.
 pub(crate) fn borrow_host<R: Wait, G: Grants, C: Clock>(
     rt: &R,
     number: u32,

@@ -1,4 +1,4 @@
-//! Replies with a fault, and where it is.
+//! Replies with a fault, and the place of the fault.
 
 use crate::exchanges::{cause, exchange};
 use crate::same::same;

@@ -25,7 +25,7 @@ fn command(alloc: Global, line: &str) -> Result<Words, Fail> {
     Ok(words)
 }
 
-// A station whose one run leaves this; its first run fails where `fails` is true.
+// A station whose one run leaves this; its first run fails if `fails` is true.
 fn station(alloc: Global, ran: Ran, fails: bool) -> Result<MemStation, Fail> {
     let mut rans = RanList::new(alloc);
     rans.try_push(ran)?;
@@ -197,7 +197,7 @@ fn a_run_answers_what_its_station_leaves(rt: HostRuntime) -> Result<(), Fail> {
     expect_answers(&rt, rt.alloc(), ANSWERS)
 }
 
-/// The number of bytes that a preprocessor is to give, and what is told of them.
+/// The number of bytes that a preprocessor is to give, and what is reported of them.
 type Given = (u32, Result<usize, StationFault>);
 
 const LIMITS: &[Given] = &[
@@ -211,7 +211,7 @@ const LIMITS: &[Given] = &[
     ),
 ];
 
-/// A station whose run puts out so many bytes, and writes so many messages.
+/// A station whose run puts out that many bytes, and writes that many messages.
 fn long_station(alloc: Global, out: u32, err: u32) -> Result<MemStation, Fail> {
     let ran = Ran {
         status: 0,
@@ -230,7 +230,7 @@ fn length<S: Station>(alloc: Global, station: &mut S) -> Result<Result<usize, St
     }
 }
 
-/// How many bytes a preprocessor gives that has so many.
+/// How many bytes a preprocessor gives that has that many.
 fn given(alloc: Global, len: u32) -> Result<Result<usize, StationFault>, Fail> {
     let mut station = long_station(alloc, len, 0)?;
     length(alloc, &mut station)

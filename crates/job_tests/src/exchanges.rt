@@ -46,7 +46,7 @@ fn numbers(alloc: Global, list: &[u64]) -> Result<CallNumbers, Fail> {
 }
 
 // A link that gives this. Its calls of these numbers fail, those of `zeros` move nothing, and one call moves at
-// most so many bytes.
+// most that many bytes.
 fn link(
     alloc: Global,
     gives: &[u8],
@@ -82,7 +82,7 @@ fn host(alloc: Global) -> Result<Host, Fail> {
     })
 }
 
-/// Where the object of a whole reply is, the status, and the length of the outcome's own object.
+/// The place of the object of a whole reply, the status, and the length of the outcome's own object.
 pub(crate) type ObjectPlace = (Landing, u32, usize);
 
 /// What became of an object that goes into `x.o`, which holds `old` before.
@@ -104,7 +104,7 @@ fn keeper(alloc: Global, fails: &[u64]) -> Result<MemKeeper, Fail> {
     Ok(MemKeeper::new(files, numbers(alloc, fails)?))
 }
 
-// Where the object of one exchange is, or why it broke.
+// The place of the object of one exchange, or why it broke.
 fn landed<D: Dialer, K: Keeper>(
     alloc: Global,
     dialer: &mut D,
@@ -193,7 +193,7 @@ fn attempted<D: Dialer>(alloc: Global, dialer: &mut D) -> Result<Attempt, Fail> 
 }
 
 // One exchange with a host whose link gives this. The dials and the link's calls of these numbers fail, those
-// of `zeros` move nothing, and one call moves at most so many bytes.
+// of `zeros` move nothing, and one call moves at most that many bytes.
 pub(crate) fn exchange(
     alloc: Global,
     gives: &[u8],
@@ -326,7 +326,7 @@ fn cut_replies(rt: HostRuntime) -> Result<(), Fail> {
     expect_cuts(&rt, rt.alloc(), REPLY)
 }
 
-/// A call, and what comes of it where it fails and where it moves nothing.
+/// A call, and what comes of it if it fails and if it moves nothing.
 type Failing = (u64, Option<Cause>, Option<Cause>);
 
 // Three sends and two receives of at most 50 bytes.

@@ -36,7 +36,7 @@ pub(crate) fn expect_ended<R: Wait + Abort, K: Keeper + Drop>(
     expect_done(rt, alloc, row, again, &mut kit)
 }
 
-/// What a file holds, which is nothing where it isn't there.
+/// What a file holds, which is nothing if it isn't there.
 fn content<K: Keeper>(alloc: Global, keeper: &mut K, name: &[u8]) -> Result<Bytes, Fail> {
     let path = Bytes::from_slice(alloc, name)?;
     if keeper.is_pending() || is_staged(path.as_slice()) {

@@ -8,7 +8,7 @@ use std::alloc::Global;
 use std::process::Abort;
 use std::test::Fail;
 
-/// A reply, where its object is, and what the file holds.
+/// A reply, the place of its object, and what the file holds.
 type LandedRow = (&'static [u8], ObjectPlace, &'static [u8]);
 
 const LANDED: &[LandedRow] = &[
@@ -61,7 +61,7 @@ const LOST: LandedRow = (REPLY, (Landing::Lost, 0, 0), b"old");
 
 const LOST_EMPTY: LandedRow = (EMPTY, (Landing::Lost, 0, 0), b"old");
 
-// In pieces of 5 bytes: one begin, and an add for each of the three pieces of the object. An empty object has its begin alone.
+// In pieces of 5 bytes: one begin, and an add for each of the three pieces of the object. An empty object has only its begin.
 #[test]
 fn a_fault_of_the_keeper_loses_the_object(rt: HostRuntime) -> Result<(), Fail> {
     for call in 1..5 {

@@ -43,7 +43,7 @@ const LENGTHS: &[(usize, Row)] = &[
     ),
 ];
 
-/// A preprocessor's run that leaves so many blanks, and a compiler's.
+/// A preprocessor's run that leaves that many blanks, and a compiler's.
 fn long_rans(alloc: Global, length: usize) -> Result<RanList, Fail> {
     let mut rans = RanList::new(alloc);
     rans.try_push(Ran {
@@ -66,7 +66,7 @@ fn long_station(alloc: Global, length: usize) -> Result<MemStation, Fail> {
     Ok(MemStation::new(rans, numbers(alloc, &[])?))
 }
 
-/// Does the job of a row whose preprocessor leaves so many bytes.
+/// Does the job of a row whose preprocessor leaves that many bytes.
 fn expect_length<R: Wait + Abort>(
     rt: &R,
     alloc: Global,
@@ -113,7 +113,7 @@ const FETCHED_LENGTHS: &[(usize, Row)] = &[
     ),
 ];
 
-/// The file `a.i` has so many blanks.
+/// The file `a.i` has that many blanks.
 fn long_file(alloc: Global, length: usize) -> Result<FileList, Fail> {
     let mut files = FileList::new(alloc);
     files.try_put(
@@ -123,7 +123,7 @@ fn long_file(alloc: Global, length: usize) -> Result<FileList, Fail> {
     Ok(files)
 }
 
-/// Does the job of a row whose source has so many bytes.
+/// Does the job of a row whose source has that many bytes.
 fn expect_fetched<R: Wait + Abort>(
     rt: &R,
     alloc: Global,

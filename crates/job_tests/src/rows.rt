@@ -287,7 +287,7 @@ const BY_THIS_MACHINE: &[Row] = &[
         object: b"old",
         ..HERE
     },
-    // The entry is this machine, where the compiler dies by signal 9.
+    // The entry is this machine, and its compiler dies by signal 9.
     Row {
         hosts: &[("localhost", true)],
         rans: &[SOURCE, Left(9, b"", b"", b"")],

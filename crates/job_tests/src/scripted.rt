@@ -267,7 +267,7 @@ fn job_at<R: Wait, D: Dialer, S: Station, K: Keeper, C: Clock, G: Grants>(
     ))
 }
 
-/// Does this job, and where it is to be done again a second one with the same slots.
+/// Does this job, and if it is to be done again a second one with the same slots.
 fn done_with<R: Wait, D: Dialer, S: Station, K: Keeper, C: Clock>(
     rt: &R,
     alloc: Global,
@@ -290,7 +290,7 @@ fn done_with<R: Wait, D: Dialer, S: Station, K: Keeper, C: Clock>(
     job_at(rt, alloc, words, 1, config, &mut slots, kit)
 }
 
-/// Does the job of a row, with slots of one thread, and where it is to be done again a second one with the same slots.
+/// Does the job of a row, with slots of one thread, and if it is to be done again a second one with the same slots.
 pub(crate) fn done<R: Wait, D: Dialer, S: Station, K: Keeper, C: Clock>(
     rt: &R,
     alloc: Global,

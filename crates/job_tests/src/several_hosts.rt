@@ -1,4 +1,4 @@
-//! Jobs that ask several hosts, and hosts that are left alone.
+//! Jobs that ask several hosts, and hosts that are in back-off.
 
 use crate::expectations::expect_ended;
 use crate::rows::{
@@ -143,7 +143,7 @@ fn expect_second_ends<R: Wait + Abort>(rt: &R, alloc: Global, rows: &[Row]) -> R
     Ok(())
 }
 
-// A host that broke an exchange is left alone for the period: the next job finds it down a second before its end, and gets it
+// A host that broke an exchange is in back-off for the period: the next job finds it down a second before its end, and gets it
 // at its end. With no period the next job gets it at once.
 #[test]
 fn a_host_is_left_alone(rt: HostRuntime) -> Result<(), Fail> {

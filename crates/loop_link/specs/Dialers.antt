@@ -24,11 +24,11 @@ pub record DialerState : Type 0 where
 abbrev pub dialer_state : {S : Type 0} → LoopDialer S → DialerState
 dialer_state dialer = record { there = is_some dialer.held; faults = dialer.faults; exchanges = dialer.exchanges }
 
--- what it tells
+-- what it shows of its past
 abbrev pub dialer_shows : DialerState → DialerView
 dialer_shows dialer = record { exchanges = told dialer.exchanges; faults = dialer.faults }
 
--- A dial fails exactly where the station is away.
+-- A dial fails exactly if the station is away.
 abbrev pub IsDialAnswer : {L : Type 0} → DialerState → Result L EdgeFault → Type 0
 IsDialAnswer dialer (Ok link) = dialer.there ≡ true
 IsDialAnswer dialer (Err Failed) = dialer.there ≡ false

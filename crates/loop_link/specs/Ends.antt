@@ -1,7 +1,7 @@
 -- When a link that gives a text has ended, when it hasn't begun, and what its service saw.
 use Rattle.std.specs.Prelude.{◌≡◌, ℕ, Bool, true, false, List, [], length}
 
--- where it has ended, the whole text was given
+-- if it has ended, the whole text was given
 abbrev pub EndsWhole : Bool → ℕ → List ℕ → Type 0
 EndsWhole ended at text = ended ≡ true → at ≡ length text
 
@@ -9,6 +9,6 @@ EndsWhole ended at text = ended ≡ true → at ≡ length text
 abbrev pub BeginsEmpty : Bool → Bool → ℕ → List ℕ → Type 0
 BeginsEmpty served ended at reply = served ≡ false → (ended ≡ false) × (at ≡ 0) × (reply ≡ [])
 
--- where a link closes at its first receive, the service saw all that was sent
+-- if a link closes at its first receive, the service saw all that was sent
 abbrev pub SeesAll : Bool → Bool → ℕ → List ℕ → Type 0
 SeesAll closes served seen sent = closes ≡ true → served ≡ true → seen ≡ length sent

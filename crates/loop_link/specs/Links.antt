@@ -10,8 +10,8 @@ use Rattle.daemon_service.specs.declared.compilers.Compiler.{Compiler}
 use Rattle.loop_link.specs.declared.link.LoopLink.{LoopLink}
 use Rattle.loop_link.specs.Replies.{Serves}
 
--- whom the link was dialed to; whether it closes at its first receive; what was sent; whether the service ran, or memory ran
--- out in it; how many bytes it saw; its reply; how many bytes of it were given; and whether the end was
+-- The host that the link was dialed to, and whether it closes at its first receive. What was sent. Whether the service ran, whether memory
+-- ran out in it, how many bytes it saw, and its reply. How many bytes of the reply were given, and whether its end was.
 pub record LoopState : Type 0 where
   pub origin : Origin
   pub closes : Bool
@@ -50,7 +50,7 @@ new_loop host port = record {
   ended = false;
 }
 
--- what it tells
+-- what it shows of its past
 abbrev pub loop_shows : LoopState → LinkView
 loop_shows link = record {
   origin = link.origin;
@@ -74,8 +74,8 @@ pub record IsServed (table : List Compiler) (ran : List Word → List ℕ → Ra
   pub same_seen : old.served ≡ true → new.seen ≡ old.seen
   pub still : old.served ≡ true → after ≡ before
 
--- What a link holds after its dial, at which the station was at the first of these: the station's counts haven't fallen, and
--- where the service ran, the reply is what it gave for the bytes that it saw.
+-- What a link holds after its dial, at which the station was at the first of these: the station's counts haven't fallen, and if the service
+-- ran, the reply is what it gave for the bytes that it saw.
 pub record Holds (table : List Compiler) (ran : List Word → List ℕ → Ran → Type 0) (dialed now : StationView)
     (link : LoopState) : Type 0 where
   pub faults : dialed.faults ≤ now.faults
@@ -87,8 +87,8 @@ abbrev pub LinkHolds : {S : Type 0} → (S → StationView) → (S → List Word
 LinkHolds shows ran link = Holds link.held.table.rows (ran link.held.station) (shows link.dialed.value) (shows link.held.station)
     (loop_state link)
 
--- The first became the second, by calls of it: it is to the same host, over the same table and a station with the same
--- programs, dialed when the station was the same, and it holds a reply if the first did.
+-- The first became the second, by calls of it. It is to the same host, over the same table and a station with the same programs. It was
+-- dialed when the station was the same, and it is sound as a link (`LinkHolds`) if the first was.
 pub record LoopFollows {S : Type 0} (shows : S → StationView) (ran : S → List Word → List ℕ → Ran → Type 0)
     (a b : LoopLink S) : Type 0 where
   pub host : b.host ≡ a.host

@@ -1,4 +1,4 @@
--- Where the link of one exchange came from.
+-- The origin of the link of one exchange.
 use Rattle.std.specs.Prelude.{◌≡◌, ℕ, ◌≤◌, Bool, true, List}
 use Rattle.std.proofs.Common.{◌∙◌, sym, subst}
 use Rattle.farm_types.specs.declared.placed.Word.{Word}

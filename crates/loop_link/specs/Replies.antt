@@ -52,7 +52,7 @@ abbrev pub AreOwnNames : List Compiler → Type 0
 AreOwnNames [] = Unit {0}
 AreOwnNames (row ∷ rows) = (row.program ≡ row.name) × AreOwnNames rows
 
--- Peers are fully honest for the requests that may be compiled and whose compiler the table names: where they were sent one,
+-- Peers are fully honest for the requests that may be compiled and whose compiler the table names: if they were sent one,
 -- and begin what they give with an outcome, it is one that a compiler may answer.
 abbrev pub IsFullyHonestFor : List Compiler → Peers → Programs → Type 0
 IsFullyHonestFor table peers programs = (sent given : List ℕ) (q : Request) (o : Outcome) (used : ℕ) (program : List ℕ)

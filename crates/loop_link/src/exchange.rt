@@ -66,8 +66,9 @@ pub fn attempt_over_loop<S: Station + Drop>(
     ensures adds { AttemptAdds (DialerGives S.ran result.0) request.now host.now result.1 (dialer_shows (dialer_state dialer)).exchanges (dialer_shows (dialer_state result.0)).exchanges }
     ensures may_give { SameRelation (DialerGives S.ran dialer) (DialerGives S.ran result.0) }
 
-    // Its count rises if the dial failed, and only then; and the station is there again after an exchange that was dialed.
+    // Its count rises if the dial failed, and only then.
     ensures cause { DialCause result.1 (dialer_state dialer).faults (dialer_state result.0).faults }
+    // The station is there again after an exchange that was dialed.
     ensures back { (x : Exchange) → IsNext (dialer_state dialer).exchanges (dialer_state result.0).exchanges x → x.dialed ≡ true → (dialer_state result.0).there ≡ true }
 {
     attempt_from::<S, Brand>(alloc, request, host, dialer)

@@ -13,7 +13,7 @@ use Rattle.rehearsal.specs.declared.station.StillStation.{StillStation}
 abbrev pub compiler_files : StillStation → Files
 compiler_files station = station_files station.inner
 
--- the station tells its runs, and its counts stay
+-- the station shows its runs, and its counts stay 0
 abbrev pub compiler_shows : StillStation → StationView
 compiler_shows station = record { runs = (station_shows station.inner).runs; faults = 0; overruns = 0 }
 

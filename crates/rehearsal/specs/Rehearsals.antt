@@ -105,7 +105,7 @@ pub record AreCounted (n : ℕ) (reports : List Report) (count : Count) : Type 0
 abbrev pub SomeWanted : List Report → Type 0
 SomeWanted reports = (report : Report) × (at : ℕ) × (slice_get reports at ≡ Some report) × (report.end ≡ Failed Memory)
 
--- The numbers are told if all jobs were done, and not if one was out of memory.
+-- There are numbers only if all jobs were done. Without numbers some job was out of memory.
 abbrev pub Tells : ℕ → List Report → Option Count → Type 0
 Tells n reports (Some count) = AreCounted n reports count
 Tells n reports None = SomeWanted reports

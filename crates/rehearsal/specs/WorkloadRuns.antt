@@ -10,7 +10,7 @@ use Rattle.sample_compiler.specs.Samples.{SampleOf, printed}
 use Rattle.sample_compiler.specs.Stations.{StationRan}
 use Rattle.workload.specs.Loads.{source_text, factor_of, generator_after, job_words, files_of}
 
--- the source of a job, where the generator began with n
+-- the source of a job, if the generator began with n
 abbrev pub text_of_job : ℕ → ℕ → List ℕ
 text_of_job n job = source_text job (factor_of (generator_after n job))
 

@@ -11,8 +11,8 @@ pub fn loops_answer_as_the_compiler<K: Keeper, C: Clock>(_keeper: &K, _clock: &C
     ensures { LoopLaw K.shows C.shows }
 {}
 
-/// A loop over a station is fully honest to each job that may be sent and whose compiler the loop's table names, each by its own
-/// name: what is promised of fully honest peers holds over this project's own daemon, with fallback or retry off too.
+/// A loop over a station is fully honest to each job that may be sent and whose compiler the loop's table names, each by its own name. What
+/// is promised of fully honest peers holds over this project's own daemon, with fallback or retry off too.
 pub fn loops_are_fully_honest<S: Station>(_station: &S)
     ensures { HonestLoopLaw (S.ran _station.now) }
 {}

@@ -10,7 +10,7 @@ ghost use Rattle.rehearsal.specs.Counts.{puts_of, CountsDone};
 use crate::RehearsalKit;
 use farm_machine::{End, Event, EventList, Report};
 
-/// The two numbers that a rehearsal tells: how many jobs ended with status 0, and how many bytes their objects have together.
+/// The two numbers that a rehearsal reports: how many jobs ended with status 0, and how many bytes their objects have together.
 #[derive(Clone, Copy, Debug, PartialEq, Eq)]
 pub struct Count {
     pub done: u32,

@@ -12,7 +12,7 @@ use Rattle.remote_transfer.specs.declared.answers.Landed.TheVariants as landeds
 use Rattle.remote_transfer.specs.declared.answers.Stop.{Stop}
 use Rattle.remote_transfer.specs.declared.answers.Stop.TheVariants.{Broke, Memory}
 
--- why no reply came, where the request wasn't sent whole
+-- why no reply came, if the request wasn't sent whole
 abbrev pub stop_of : SendFault → Stop
 stop_of sends.Failed = Broke Send
 stop_of sends.Stopped = Broke Stopped

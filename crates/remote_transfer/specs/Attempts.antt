@@ -1,4 +1,4 @@
--- What an attempt added to the exchanges that a dialer tells, by its answer.
+-- What an attempt added to the exchanges that a dialer shows, by its answer.
 use Rattle.std.specs.Prelude.{◌≡◌, ℕ, Bool, true, false, IsTrue, List, [], ◌∷◌}
 use Rattle.farm_types.specs.declared.request.Request.{Request}
 use Rattle.farm_types.specs.declared.hosts.Host.{Host}
@@ -10,7 +10,7 @@ use Rattle.edge_traits.specs.Exchanges.{IsBegun, IsWhole, IsBroken}
 use Rattle.remote_transfer.specs.declared.answers.Attempt.{Attempt}
 use Rattle.remote_transfer.specs.declared.answers.Attempt.TheVariants.{Whole, Broke, Memory}
 
--- What the exchange is to the request and the host: whole with the outcome, broken by the cause, or begun where memory ran out
+-- What the exchange is for the request and the host: whole with the outcome, broken by the cause, or begun if memory ran out
 -- after the dial.
 abbrev pub ExchangeIs : Request → Host → Attempt → Exchange → Type 0
 ExchangeIs q h (Whole outcome) x = IsWhole x q h outcome
@@ -30,14 +30,14 @@ is_failed (Broke Send) = true
 is_failed (Broke Recv) = true
 is_failed other = false
 
--- The link gave its end exactly where the answer says so, and a send took no byte exactly where the answer says so. Where the
+-- The link gave its end exactly if the answer says so, and a send took no byte exactly if the answer says so. If the
 -- answer isn't that a send or a receive failed, none did.
 pub record EndsBy (answer : Attempt) (x : Exchange) : Type 0 where
   pub ended : x.ended ≡ is_truncated answer
   pub stopped : x.stopped ≡ is_stopped answer
   pub faults : is_failed answer ≡ false → x.faults ≡ 0
 
--- There was an exchange of which this holds. Where the list is told, it is the one new entry, and where it was dialed its peer may
+-- There was an exchange of which this holds. If the list is told, it is the one new entry, and if it was dialed its peer may
 -- have given what it gave.
 pub record Adds (may_give : List ℕ → List ℕ → Type 0) (old new : Told (List Exchange)) (holds : Exchange → Type 0) : Type 0 where
   pub entry : Exchange
@@ -45,7 +45,7 @@ pub record Adds (may_give : List ℕ → List ℕ → Type 0) (old new : Told (L
   pub is : holds entry
   pub may : IsTrue new.known → entry.dialed ≡ true → may_give entry.sent entry.given
 
--- Exactly one exchange, which the answer describes; none where memory ran out before the dial had succeeded.
+-- Exactly one exchange, which the answer describes; none if memory ran out before the dial had succeeded.
 abbrev pub AttemptAdds : (List ℕ → List ℕ → Type 0) → Request → Host → Attempt → Told (List Exchange) → Told (List Exchange) → Type 0
 AttemptAdds may_give q h (Memory false) old new = Grew old new []
 AttemptAdds may_give q h answer old new = Adds may_give old new (λ x. ExchangeIs q h answer x × EndsBy answer x)

@@ -1,4 +1,4 @@
--- Where the object of a reply lands.
+-- What becomes of the object of a reply.
 use Rattle.std.specs.Prelude.{◌≡◌, ◌≢◌, ◌⊎◌, ℕ, ◌<◌, ◌≤◌, length, false, List, [], ◌++◌, Result, Ok, Err}
 use Rattle.farm_types.specs.declared.request.Request.{Request}
 use Rattle.farm_types.specs.declared.hosts.Host.{Host}
@@ -33,8 +33,8 @@ pub record KeeperStays (old new : KeeperView) : Type 0 where
   pub overruns : Still old.overruns new.overruns
   pub faults : old.faults ≤ new.faults
 
--- Where the object of a whole reply is, which has these bytes, after the keeper's count stood at before. That count rises only
--- where the put was lost.
+-- What became of the object of a whole reply, which has these bytes. The keeper's count was at `before`, and it rises only if the put was
+-- lost.
 abbrev pub IsLanding : Landing → Outcome → List ℕ → List ℕ → ℕ → KeeperView → Type 0
 IsLanding Pending o path object before now = (o.status ≡ 0) × HasPending now path object × Still before now.faults
 IsLanding LostObject o path object before now = (o.status ≡ 0) × IsIdle now × Rose before now.faults
@@ -46,7 +46,7 @@ attempt_of (landeds.Whole outcome _) object = attempts.Whole (with_object outcom
 attempt_of (landeds.Broke cause) object = attempts.Broke cause
 attempt_of (landeds.Memory dialed) object = attempts.Memory dialed
 
--- The outcome comes without its object, which is where the answer says. Without a whole reply no put is pending.
+-- The outcome comes without its object, whose place the answer says. Without a whole reply no put is pending.
 abbrev pub Lands : Landed → List ℕ → List ℕ → ℕ → KeeperView → Type 0
 Lands (landeds.Whole outcome landing) path object before now = (outcome.object ≡ []) × IsLanding landing outcome path object before now
 Lands (landeds.Broke cause) path object before now = IsIdle now
@@ -64,8 +64,8 @@ pub record HasBytes (given : List ℕ) : Type 0 where
 abbrev pub HasReply : List ℕ → Type 0
 HasReply given = (used : ℕ) × (o : Outcome) × BeginsReply given used o
 
--- Where no reply was taken whole, the keeper's count rose only where a step of a put may have failed: behind some bytes of the object, or
--- where memory ran out behind a whole reply.
+-- If no reply was taken whole, the keeper's count rose only if a step of a put may have failed. That is after some bytes of the object, or
+-- if memory ran out after a whole reply.
 abbrev pub RisesBehind : Landed → List ℕ → ℕ → ℕ → Type 0
 RisesBehind (landeds.Whole outcome _) given before now = Unit {0}
 RisesBehind (landeds.Broke cause) given before now = Still before now ⊎ HasBytes given
@@ -77,8 +77,8 @@ RisesByPuts may_give (landeds.Memory false) old new before now = Unit {0}
 RisesByPuts may_give (landeds.Broke Dial) old new before now = Unit {0}
 RisesByPuts may_give landed old new before now = Adds may_give old new (λ x. RisesBehind landed x.given before now)
 
--- The exchange is that of an attempt whose outcome has an object, and this object is where the answer says. The keeper's count rose by its
--- put alone.
+-- The exchange is that of an attempt whose outcome has an object, and the answer says the place of this object. The keeper's count rose
+-- only by its put.
 pub record LandedAdds (may_give : List ℕ → List ℕ → Type 0) (q : Request) (h : Host) (landed : Landed) (path : List ℕ)
     (old new : Told (List Exchange)) (before now : KeeperView) : Type 0 where
   pub object : List ℕ
@@ -91,8 +91,8 @@ abbrev pub LandedCause : Landed → ℕ → ℕ → Type 0
 LandedCause (landeds.Broke Dial) before now = Rose before now
 LandedCause other before now = Still before now
 
--- Where the request wasn't sent whole, since the dial or a send failed or memory ran out before the dial had succeeded, the keeper
--- wasn't asked and shows what it did.
+-- If the dial or a send failed, or memory ran out before the dial had succeeded, the request wasn't sent whole. Then the keeper wasn't
+-- asked and shows what it did.
 abbrev pub IsUnasked : Landed → KeeperView → KeeperView → Type 0
 IsUnasked (landeds.Memory false) before now = now ≡ before
 IsUnasked (landeds.Broke Dial) before now = now ≡ before
@@ -102,7 +102,7 @@ IsUnasked other before now = Unit {0}
 
 -- ---- the parts of such an attempt
 
--- how far the object has come with these bytes, after the keeper's count stood at before
+-- how far the object has come with these bytes, if the keeper's count was at `before`
 abbrev pub LandsAt : ObjectState → List ℕ → List ℕ → ℕ → KeeperView → Type 0
 LandsAt Waiting path object before now = IsIdle now × (object ≡ []) × Still before now.faults
 LandsAt Begun path object before now = HasPending now path object × Still before now.faults × (0 < length object)
@@ -114,18 +114,18 @@ CanLand Waiting now = IsIdle now
 CanLand Begun now = IsPending now
 CanLand Lost now = IsIdle now
 
--- where an object of status 0 is
+-- the place of an object of status 0
 abbrev pub LandedAt : Landing → List ℕ → List ℕ → ℕ → KeeperView → Type 0
 LandedAt Pending path object before now = HasPending now path object × Still before now.faults
 LandedAt LostObject path object before now = IsIdle now × Rose before now.faults
 LandedAt Nothing path object before now = ⊥
 
--- An `Err` is want of memory, and none is pending then.
+-- An `Err` is lack of memory, and then no put is pending.
 abbrev pub WantsMemory : {T : Type 0} → Result T Stop → KeeperView → Type 0
 WantsMemory (Ok done) now = Unit {0}
 WantsMemory (Err stop) now = (stop ≡ Memory) × IsIdle now
 
--- an outcome with where its object is
+-- an outcome with the place of its object
 abbrev pub paired : Outcome → Result Landing Stop → Result (Outcome × Landing) Stop
 paired outcome (Ok landing) = Ok (outcome, landing)
 paired outcome (Err stop) = Err stop
@@ -135,7 +135,8 @@ abbrev pub received_of : Result (Outcome × Landing) Stop → List ℕ → Resul
 received_of (Ok received) object = Ok (with_object received.0 object)
 received_of (Err stop) object = Err stop
 
--- Where a reply isn't whole, no put was begun before some bytes of the object came. One that was may be pending.
+-- Without an outcome no put is pending and the keeper's count didn't change, unless some bytes of the object came, or memory ran out after
+-- a whole reply. Then a put may be pending.
 abbrev pub StopsBehind : Stop → List ℕ → ℕ → KeeperView → Type 0
 StopsBehind (Broke cause) given before now = (IsIdle now × Still before now.faults) ⊎ HasBytes given
 StopsBehind Memory given before now = (IsIdle now × Still before now.faults) ⊎ (HasBytes given ⊎ HasReply given)
@@ -144,14 +145,14 @@ abbrev pub LandsIf : Result (Outcome × Landing) Stop → List ℕ → List ℕ 
 LandsIf (Ok received) path object given before now = (received.0.object ≡ []) × IsLanding received.1 received.0 path object before now
 LandsIf (Err stop) path object given before now = StopsBehind stop given before now
 
--- A reply was received, and its object is where the result says. Where it isn't whole, a put may be pending.
+-- A reply was received, and the result says the place of its object. If it isn't whole, a put may be pending.
 pub record ReceivedInto (result : Result (Outcome × Landing) Stop) (path : List ℕ) (old new : LinkView)
     (before now : KeeperView) : Type 0 where
   pub object : List ℕ
   pub given : Given (ReplyIs (received_of result object) old new) old.given new.given
   pub lands : LandsIf result path object given.bytes before.faults now
 
--- the same, with no put pending where the reply isn't whole
+-- the same, with no put pending if the reply isn't whole
 abbrev pub LandsOr : Result (Outcome × Landing) Stop → List ℕ → List ℕ → ℕ → KeeperView → Type 0
 LandsOr (Ok received) path object before now = (received.0.object ≡ []) × IsLanding received.1 received.0 path object before now
 LandsOr (Err stop) path object before now = IsIdle now
@@ -163,7 +164,7 @@ pub record LandsInto (result : Result (Outcome × Landing) Stop) (path : List �
   pub lands : LandsOr result path object before.faults now
   pub rises : RisesBehind (landed_of result) given.bytes before.faults now.faults
 
--- what passed over a link is what an attempt says of it whose outcome has an object, and this object is where the answer says
+-- What passed over a link is what an attempt says of it. Its outcome has an object, and the result says the place of this object.
 pub record PassedInto (result : Result (Outcome × Landing) Stop) (path text : List ℕ) (old new : LinkView)
     (before now : KeeperView) : Type 0 where
   pub object : List ℕ

@@ -50,7 +50,7 @@ entry_of link sent given =
       faults = link.faults;
     }
 
--- What passed over a link, as an entry of which this holds. The link tells it, where it tells anything.
+-- What passed over a link, as an entry of which this holds. What the link shows of its past grew by it.
 pub record Passed (old new : LinkView) (holds : Exchange → Type 0) : Type 0 where
   pub sent : List ℕ
   pub given : List ℕ

@@ -29,19 +29,19 @@ pub record PieceRead (old new : LinkView) (before after : Place) (count : ℕ) (
   pub still : Still old.faults new.faults
   pub read : (text object : List ℕ) → IsAt before text object → Comes (text ++ piece) (object ++ bytes) after outcome
 
--- What a piece brought, which stands in the room.
+-- What a piece brought, which is in the room.
 abbrev pub PieceBrought : LinkView → LinkView → Place → Place → List ℕ → Brought → Type 0
 PieceBrought old new before after room (More count span) = IsSpan span (length room) × (count ≤ length room)
     × PieceRead old new before after count (spanned span room) None
 PieceBrought old new before after room (Whole span o) =
     IsSpan span (length room) × ((count : ℕ) × PieceRead old new before after count (spanned span room) (Some o))
 
--- A reply was received, whose object is this where it is whole.
+-- A reply was received, whose object is this if it is whole.
 abbrev pub Received : Result Outcome Stop → List ℕ → LinkView → LinkView → Type 0
 Received (Ok o) object old new = (o.object ≡ []) × Given (ReplyIs (Ok (with_object o object)) old new) old.given new.given
 Received (Err stop) object old new = Given (ReplyIs (Err stop) old new) old.given new.given
 
--- why no piece was read, after so many bytes
+-- why no piece was read, after that many bytes
 abbrev pub PieceStops : ℕ → Place → LinkView → LinkView → Stop → Type 0
 PieceStops have before old new (Broke Recv) = Grew old.given new.given [] × Rose old.faults new.faults × (new.ended ≡ old.ended)
 PieceStops have before old new (Broke (Truncated bytes)) = Grew old.given new.given [] × (have ≡ bytes) × (new.ended ≡ true)

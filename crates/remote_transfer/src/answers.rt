@@ -17,7 +17,7 @@ pub enum Attempt {
     Memory { dialed: bool },
 }
 
-/// Where the object of a whole reply is.
+/// The place of the object of a whole reply.
 #[derive(Clone, Copy, Debug, PartialEq, Eq)]
 pub enum Landing {
     /// The status is 0, and the keeper's put is pending with the whole object.

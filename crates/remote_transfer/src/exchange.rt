@@ -59,15 +59,12 @@ fn prepare(alloc: Global, request: &Request) -> Result<(Bytes, Vec<u8>), AllocEr
     Ok((encode(alloc, request)?, vec![in alloc; 0; PIECE_MAX]?))
 }
 
-/// Makes one exchange with a host: dials, sends the text of the request, receives until what was given is no longer
-/// short, and hangs up.
+/// Makes one exchange with a host: dials, sends the text of the request, receives until what was given is no longer short, and hangs up.
+/// The write side is never shut before the reply was read, since distccd stops the job of a client that shuts it. Bytes after a whole reply
+/// are ignored. There are at most 35,651,644 receives, through a buffer of `PIECE_MAX` bytes that is made before the dial.
 ///
-/// The write side is never shut before the reply was read, since distccd stops the job of a client that shuts it.
-/// There are at most 35,651,644 receives, through a buffer of `PIECE_MAX` bytes that is made before the dial. Bytes behind a whole
-/// reply are ignored.
-///
-/// `Whole` and `Broke` add one exchange to what the dialer tells. `Memory` adds one exactly where `dialed` is true,
-/// which is where the dial had succeeded.
+/// `Whole` and `Broke` add one exchange to those that the dialer shows. `Memory` adds one exactly if `dialed` is true: the dial had
+/// succeeded.
 pub fn attempt<D: Dialer>(alloc: Global, request: &Request, host: &Host, dialer: &mut D) -> Attempt
     requires fits { RequestFits request.now.words request.now.source }
     requires remote { host.now.local ≡ false }
@@ -122,12 +119,11 @@ fn landed_of(talked: Result<(Outcome, Landing), Stop>) -> Landed
     }
 }
 
-/// Makes one exchange with a host, as `attempt` does, and gives the bytes of the object to the keeper while they come, in a
-/// put of this path that is begun with the first of them. The object doesn't wait in memory.
+/// Makes one exchange with a host as `attempt` does, and gives the bytes of the object to a put of this path while they come. The object
+/// doesn't wait in memory. The keeper isn't asked before the request was sent whole, nor for a reply that has no object.
 ///
-/// After a whole reply of status 0 the put is pending with the whole object, for the caller to commit; or the keeper failed
-/// while it was written, and then the reply was read to its end all the same. After any other answer no put is pending.
-/// The keeper isn't asked before the request was sent whole, nor for a reply that has no object.
+/// After a whole reply of status 0 the put is pending with the whole object, for the caller to commit; or the keeper failed while it was
+/// written, and the reply was read to its end all the same. After any other answer no put is pending.
 pub fn attempt_into<D: Dialer, K: Keeper>(
     alloc: Global,
     request: &Request,

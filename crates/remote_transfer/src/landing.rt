@@ -67,7 +67,7 @@ fn begin_with<K: Keeper>(
     }
 }
 
-// Gives the object's next bytes to its put, and begins it where these are the first. A put that was lost takes no more.
+// Gives the object's next bytes to its put, and begins it if these are the first. A put that was lost takes no more.
 fn land<K: Keeper>(
     alloc: Global,
     path: &Bytes,
@@ -94,7 +94,7 @@ fn land<K: Keeper>(
     }
 }
 
-// Where the object of a whole reply of status 0 is. The put of an empty one is begun here.
+// The place of the object of a whole reply of status 0. The put of an empty one is begun here.
 fn settle<K: Keeper>(
     alloc: Global,
     path: &Bytes,
@@ -144,7 +144,7 @@ fn land_last<K: Keeper>(
     }
 }
 
-// Pairs an outcome with where its object is.
+// Pairs an outcome with the place of its object.
 fn with_landing(outcome: Outcome, landed: Result<Landing, Stop>) -> Result<(Outcome, Landing), Stop>
     ensures { result ≡ paired outcome landed }
 {
@@ -203,8 +203,7 @@ fn give_up<K: Keeper>(keeper: &mut K)
     }
 }
 
-/// Receives until what was given is no longer short, and gives the bytes of the object to the keeper as they come. After
-/// a fault of the keeper the reply is read to its end. No put is left pending but that of a whole reply of status 0.
+/// Receives a reply, and gives the bytes of the object to the keeper. Only a whole reply of status 0 leaves a put pending.
 pub(crate) fn receive_into<L: Link, K: Keeper>(
     alloc: Global,
     link: &mut L,

@@ -15,15 +15,15 @@ use farm_types::{Bytes, Outcome};
 use reply_stream::{Part, ReplyReader, Span};
 use std::alloc::Global;
 
-/// What a piece brought: where the object's next bytes stand in the room, and how many bytes the piece has, or the outcome
-/// of the whole reply, without its object.
+/// What a piece brought: the span of the object's next bytes in the room, and either the number of bytes in the piece, or the outcome of
+/// the whole reply, without its object.
 #[derive(Drop)]
 pub(crate) enum Brought {
     More { count: usize, object: Span },
     Whole { object: Span, outcome: Outcome },
 }
 
-/// Receives one piece into the room, and reads it. So many bytes were given before.
+/// Receives one piece into the room, and reads it. `have` bytes were given before.
 pub(crate) fn receive_piece<L: Link>(
     link: &mut L,
     room: &mut [u8],
@@ -102,10 +102,8 @@ fn join_last(object: &mut Bytes, bytes: &[u8], outcome: Outcome) -> Result<Outco
     Ok(outcome)
 }
 
-/// Receives until what was given is no longer short, through a room for pieces.
-///
-/// Each receive but the last gives at least one byte, and a short reply has at most 35,651,643 bytes, so there are at
-/// most 35,651,644 receives. Each turn costs the bytes that it received and a constant.
+/// Receives until what was given is no longer short, through a room for pieces, by at most 35,651,644 receives. A short reply has at most
+/// 35,651,643 bytes, and each receive but the last gives at least one.
 pub(crate) fn receive_reply<L: Link>(
     alloc: Global,
     link: &mut L,

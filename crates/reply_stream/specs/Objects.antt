@@ -12,12 +12,12 @@ with_object o object = record { status = o.status; err = o.err; out = o.out; obj
 abbrev pub spanned : Span → List ℕ → List ℕ
 spanned span piece = take (span.to - span.from) (drop span.from piece)
 
--- the span is in order, and lies in so many first bytes
+-- the span is in order, and within the first `used` bytes
 pub record IsSpan (span : Span) (used : ℕ) : Type 0 where
   pub ordered : span.from ≤ span.to
   pub within : span.to ≤ used
 
--- the number of the token that stands at this place of a text
+-- the number of the token that is at this place of a text
 abbrev pub number_at : List ℕ → ℕ → ℕ
 number_at text at = number_of (take 8 (drop (at + 4) text))
 

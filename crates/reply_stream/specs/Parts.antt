@@ -19,7 +19,7 @@ fields_before Serr status err out = number_field 1 ∷ number_field status ∷ [
 fields_before Sout status err out = number_field 1 ∷ number_field status ∷ text_field err ∷ []
 fields_before (Doto beside) status err out = number_field 1 ∷ number_field status ∷ text_field err ∷ text_field out ∷ []
 
--- the object stands beside the status that came
+-- an object's part holds the status that came
 abbrev pub IsAtPart : Part → ℕ → Type 0
 IsAtPart Done status = Unit {0}
 IsAtPart Stat status = Unit {0}

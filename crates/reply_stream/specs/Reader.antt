@@ -1,4 +1,4 @@
--- Where a reader of replies is.
+-- The places of a reader of replies.
 use Rattle.std.specs.Prelude.{ℕ, ◌≡◌, ◌≤◌, ◌+◌, List, [], ◌++◌, length}
 use Rattle.farm_types.specs.declared.ran.Outcome.{Outcome}
 use Rattle.wire_tokens.specs.declared.faults.ReplyFault.{ReplyFault}
@@ -11,15 +11,14 @@ use Rattle.reply_stream.specs.declared.answers.Part.TheVariants.{More, Whole, Ba
 use Rattle.reply_stream.specs.Objects.{with_object, spanned, IsSpan, object_so_far}
 use Rattle.reply_stream.specs.Taking.{fields_of, bytes_of, IsReading, Holds}
 
--- Some fields have come, some bytes of the next one, and behind these so many of the object's; or the text was refused; or the
--- reader is spent.
+-- Some fields have come, some bytes of the next one, and after these that many of the object's; or the text was refused; or the reader is
+-- spent.
 pub data Place : Type 0 where
   reading : List Field → List ℕ → ℕ → Place
   refused : ℕ → ReplyFault → Place
   spent : Place
 
--- A reader that was given this text, in whatever pieces, may be at this place, where the spans of these pieces join to the object's
--- bytes so far.
+-- A reader that was given this text, in whatever pieces, may be at this place. The spans of these pieces join to the object's bytes so far.
 abbrev pub IsAt : Place → List ℕ → List ℕ → Type 0
 IsAt (reading fields bytes given) text object = IsReading fields bytes given text object
 IsAt (refused at fault) text object = ReplyFaultStands text at fault
@@ -44,14 +43,14 @@ Says text object piece (Whole used span o) = BeginsReply (text ++ piece) (length
 Says text object piece (Bad at fault) = ReplyFaultStands (text ++ piece) at fault
 Says text object piece Memory = Unit {0}
 
--- Where more has to come, the spans so far join to the object's bytes that stand in all that came.
+-- If more has to come, the spans so far join to the object's bytes that are in all that came.
 abbrev pub Joins : List ℕ → List ℕ → List ℕ → Part → Type 0
 Joins text object piece (More used span) = object ++ spanned span piece ≡ object_so_far (text ++ piece)
 Joins text object piece (Whole used span o) = Unit {0}
 Joins text object piece (Bad at fault) = Unit {0}
 Joins text object piece Memory = Unit {0}
 
--- The part is a whole reply with so many bytes of the piece, of this outcome once the spans are joined, unless memory ran out.
+-- The part is a whole reply with that many bytes of the piece, of this outcome once the spans are joined, unless memory ran out.
 abbrev pub IsWholeWith : List ℕ → List ℕ → ℕ → Outcome → Part → Type 0
 IsWholeWith object piece used o (More n span) = ⊥
 IsWholeWith object piece used o (Whole n span p) = (n ≡ used) × (with_object p (object ++ spanned span piece) ≡ o)
@@ -72,7 +71,7 @@ IsMore (Whole n span p) = ⊥
 IsMore (Bad i f) = ⊥
 IsMore Memory = Unit {0}
 
--- Where it leaves the reader.
+-- The place of the reader after this part.
 abbrev pub Leaves : List ℕ → List ℕ → List ℕ → Part → Place → Type 0
 Leaves text object piece (More used span) place = IsAt place (text ++ piece) (object ++ spanned span piece)
 Leaves text object piece (Whole used span o) place = place ≡ spent

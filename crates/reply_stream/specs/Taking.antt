@@ -25,7 +25,7 @@ bytes_of p = p.token ++ p.body
 abbrev pub due_in : Partial → Due ReplyFault
 due_in p = due_of p.part
 
--- the fields, the bytes of the next one, and then so many of the object's make the text
+-- the fields, the bytes of the next one, and then that many of the object's make the text
 pub record IsReading (fields : List Field) (bytes : List ℕ) (count : ℕ) (text object : List ℕ) : Type 0 where
   pub progress : Progress reply_format text fields (bytes ++ object)
   pub given : length object ≡ count
@@ -65,7 +65,7 @@ pub record IsReady (p : Partial) (n : ℕ) : Type 0 where
   pub no_more : body_len (due_in p) n ≡ length p.body + p.given
   pub kept : IsKept p.part p.body p.given
 
--- how the object grows with so many bytes: not at all, or by these bytes of the piece
+-- how the object grows with that many bytes: not at all, or by these bytes of the piece
 abbrev pub keeps : ℕ → List ℕ → List ℕ
 keeps taken object = object
 
@@ -83,28 +83,28 @@ Says grown old new piece (Whole o taken) =
 Says grown old new piece (Bad at fault) = (text object : List ℕ) → IsPlaced old text object → Stands reply_format (text ++ piece) at fault
 Says grown old new piece Memory = Unit {0}
 
--- some bytes are taken, where it goes on
+-- some bytes are taken, if it goes on
 abbrev pub TakesSome : Turn → Type 0
 TakesSome (More taken) = 0 < taken
 TakesSome (Whole o taken) = Unit {0}
 TakesSome (Bad at fault) = Unit {0}
 TakesSome Memory = Unit {0}
 
--- all of a piece is taken, where it goes on
+-- all of a piece is taken, if it goes on
 abbrev pub TakesAll : List ℕ → Turn → Type 0
 TakesAll piece (More taken) = taken ≡ length piece
 TakesAll piece (Whole o taken) = Unit {0}
 TakesAll piece (Bad at fault) = Unit {0}
 TakesAll piece Memory = Unit {0}
 
--- all of a piece is taken, where it goes on, unless the object comes next
+-- all of a piece is taken, if it goes on, unless the object comes next
 abbrev pub TakesHead : Partial → List ℕ → Turn → Type 0
 TakesHead new piece (More taken) = is_at_object new.part new.left ≡ false → taken ≡ length piece
 TakesHead new piece (Whole o taken) = Unit {0}
 TakesHead new piece (Bad at fault) = Unit {0}
 TakesHead new piece Memory = Unit {0}
 
--- the reply goes on only where the field isn't its object
+-- the reply goes on only if the field isn't its object
 abbrev pub GoesOn : Token → Turn → Type 0
 GoesOn part (More taken) = is_object part ≡ false
 GoesOn part (Whole o taken) = Unit {0}

@@ -13,7 +13,7 @@ pub struct Span {
 /// What a piece came to.
 #[derive(Debug, Drop)]
 pub enum Part {
-    /// All pieces so far are short: no fault stands in them, and no prefix spells a reply. All
+    /// All pieces so far are short: no fault is in them, and no prefix spells a reply. All
     /// bytes of the piece are used.
     More {
         used: usize,
@@ -26,7 +26,7 @@ pub enum Part {
         object: Span,
         outcome: Outcome,
     },
-    /// This fault stands in them, at this place; places count from the first piece's front.
+    /// This fault is in them, at this place; places count from the first piece's front.
     Bad {
         at: u64,
         fault: ReplyFault,

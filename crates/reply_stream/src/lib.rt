@@ -1,5 +1,5 @@
-//! Reading a reply in pieces of any size, as docs/wire.md gives it. The bytes of the object aren't kept: each piece is
-//! told which of its bytes are the object's.
+//! Reading a reply in pieces of any size, as docs/wire.md gives it. The bytes of the object aren't kept: the answer for each piece says
+//! which of its bytes are the object's.
 #![tactic(auto)]
 
 mod answers;

@@ -32,11 +32,11 @@ pub struct Partial {
 /// What a turn came to.
 #[derive(Debug, Drop)]
 pub enum Turn {
-    /// So many bytes were taken, and the reply isn't whole yet.
+    /// That many bytes were taken, and the reply isn't whole yet.
     More { taken: usize },
-    /// The reply is whole with so many bytes.
+    /// The reply is whole with that many bytes.
     Whole { outcome: Outcome, taken: usize },
-    /// This fault stands in what came, at this place of the whole text.
+    /// This fault is in what came, at this place of the whole text.
     Bad { at: u64, fault: ReplyFault },
     /// Memory ran out.
     Memory,
@@ -49,7 +49,7 @@ fn is_at_object(p: &Partial) -> bool
     p.left > 0 && matches!(p.part, Token::Doto { .. })
 }
 
-// Where the field begins that is on its way.
+// The place at which the field begins that is on its way.
 fn place(p: &Partial) -> u64
     requires { Counts p.now }
     ensures place { result ≡ parts.bytes_before p.now.part p.now.err p.now.out }

@@ -23,7 +23,7 @@ pub enum State {
 }
 
 /// Reads a reply that comes in pieces of any size, and keeps no bytes of its object. After a fault
-/// it answers that fault to every later piece; after a whole reply or want of memory it is spent.
+/// it answers that fault to every later piece; after a whole reply or lack of memory it is spent.
 #[derive(Debug, Drop)]
 pub struct ReplyReader {
     state: State,
@@ -73,17 +73,20 @@ impl ReplyReader {
         requires { IsSpent self.old → ⊥ }
         ensures uses { Uses piece.now result }
 
-        // With text for all the pieces before this one, and object for what their spans joined:
-        // the outcome that a prefix spells, its object being all spans joined, the fault that
-        // stands, or that all of it is short, and then the spans joined are the object so far,
+        // Here text is all the pieces before this one, and object is what their spans joined.
+        // `Whole` has the outcome that a prefix spells, its object being all spans joined. `Bad`
+        // has the fault of all that came. `More` says that all of it is short.
         ensures says { (text object : List ℕ) → IsAt self.old text object → Says text object piece.now result }
+        // With `More` the spans joined are the object so far.
         ensures joined { (text object : List ℕ) → IsAt self.old text object → Joins text object piece.now result }
 
-        // exactly where that is so.
+        // Unless memory ran out, it is `Whole` if a prefix spells a reply,
         ensures whole { (text object : List ℕ) (used : ℕ) (o : Outcome) → IsAt self.old text object
             → BeginsReply (text ++ piece.now) used o → IsWholeWith object piece.now (used - length text) o result }
+        // `Bad` if the text has a fault,
         ensures bad { (text object : List ℕ) (at : ℕ) (fault : ReplyFault) → IsAt self.old text object
             → ReplyFaultStands (text ++ piece.now) at fault → IsBadAt at fault result }
+        // and `More` if all of it is short.
         ensures short { (text object : List ℕ) → IsAt self.old text object → IsShortReply (text ++ piece.now) → IsMore result }
 
         ensures leaves { (text object : List ℕ) → IsAt self.old text object → Leaves text object piece.now result self.new }

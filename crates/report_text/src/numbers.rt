@@ -41,7 +41,7 @@ fn end_number(end: &End) -> u8
     }
 }
 
-/// The number of one report: 0 where the job was done with status 0. It takes no memory.
+/// The number of one report: 0 if the job was done with status 0. It takes no memory.
 pub fn number_of(report: &Report) -> u8
     ensures number { result ≡ specs.end_number report.now.end }
     ensures good { is_done_well report.now.end ≡ true → result ≡ 0 }

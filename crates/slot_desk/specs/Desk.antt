@@ -62,7 +62,7 @@ abbrev pub asked : {h : ℕ} → Rules h → State h → Waiter → State h
 asked r v waiter =
     record v { waiting = if is_known v waiter.caller || is_full r v then v.waiting else v.waiting ++ waiter ∷ [] }
 
--- one caller too many is told so
+-- a new caller that is one too many gets `Alone` at once
 abbrev pub told_at_once : {h : ℕ} → Rules h → State h → ℕ → Reply
 told_at_once r v caller = if is_known v caller then Nobody else (if is_full r v then Alone caller else Nobody)
 

@@ -52,7 +52,7 @@ NobodyWaitsBesideALocalSlot = (h : ℕ) (r : Rules h) (es : List Event) (now : �
     → callers_as true (after r (opened h) es).waiting ≢ [] → (desk_step r (after r (opened h) es) (Next now)).1 ≡ Nobody
     → r.limits.local_slots ≤ (after r (opened h) es).slots.local_held
 
--- A caller that asked for a host is told to compile here only if no entry may be used
+-- A caller that asked for a host is lent `Here` only if no entry may be used
 abbrev pub HereOnlyWithoutHosts : Type 0
 HereOnlyWithoutHosts = (h : ℕ) (r : Rules h) (v : State h) (now i : ℕ) (loan : Loan) → r.limits.count ≤ mask_bits
     → (desk_step r v (Next now)).1 ≡ Lent loan → loan.place ≡ Here → i < r.limits.count → now < slice_index v.slots.until i

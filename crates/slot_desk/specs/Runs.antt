@@ -62,7 +62,7 @@ IsPartOf (x ∷ xs) (y ∷ ys) = ((x ≡ y) × IsPartOf xs ys) ⊎ IsPartOf (x �
 abbrev pub times : ℕ → List ℕ → ℕ
 times n xs = length (filter (nat_eq n) xs)
 
--- the place that a caller has by what it was told last and by what it told: a place that it was lent, until it ended
+-- the place that a caller has after this event and its reply: a place that it was lent, until its use ended
 abbrev pub told : ℕ → Option Place → Event → Reply → Option Place
 told caller place (Done c) reply = if nat_eq c caller then None else place
 told caller place (Broke c now) reply = if nat_eq c caller then None else place

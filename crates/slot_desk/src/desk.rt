@@ -94,7 +94,7 @@ impl<const H: usize> Desk<H> {
         reply
     }
 
-    // What a caller is told at once that asks.
+    // The reply that a caller gets at once when it asks.
     fn told_at_once(&self, caller: u32) -> Reply
         ensures { result ≡ told_at_once self.now.rules self.now.state caller }
     {

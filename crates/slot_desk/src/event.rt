@@ -1,6 +1,6 @@
 //! What comes to the desk, what it lends, and what it answers.
 
-/// Where a caller may have its command done.
+/// A place at which a caller may have its command done.
 #[derive(Clone, Copy, PartialEq, Eq, Debug)]
 pub enum Place {
     /// By the host entry at this place of the list, of which it has a slot.
@@ -47,7 +47,7 @@ pub enum Event {
 /// What the desk answers to an event.
 #[derive(Clone, Copy, PartialEq, Eq, Debug)]
 pub enum Reply {
-    /// Nobody is told anything.
+    /// Nobody gets a reply.
     Nobody,
     /// A caller is given a place.
     Lent(Loan),

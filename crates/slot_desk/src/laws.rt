@@ -29,7 +29,7 @@ pub fn nobody_waits_beside_a_slot()
     ensures local { NobodyWaitsBesideALocalSlot }
 {}
 
-/// A caller that asked for a host is told to compile here only if no host may be used.
+/// A caller that asked for a host is lent `Here` only if no host may be used.
 pub fn here_only_without_hosts()
     ensures { HereOnlyWithoutHosts }
 {}

@@ -69,7 +69,7 @@ abbrev pub IsLocalOutstanding : ℕ → List Holding → Option LocalGrant → T
 IsLocalOutstanding caller held (Some grant) = has (holding caller (local_job_of grant) None) held ≡ true
 IsLocalOutstanding caller held None = Unit {0}
 
--- how many of the calls that there is room for one call spends: one where a caller is alone, and none otherwise
+-- what one call spends of the calls that there is room for: one if the caller is the only one, and none otherwise
 abbrev pub cost : Bool → ℕ
 cost alone = if alone then 1 else 0
 

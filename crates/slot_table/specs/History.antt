@@ -48,7 +48,7 @@ pub data Change : Type 0 where
   Takes : ℕ → Option ℕ → Change
   Gives : ℕ → Option ℕ → Change
 
--- a slot is taken where the reply grants one; a give gives back, whatever its reply
+-- a slot is taken if the reply grants one; a give gives back, whatever its reply
 abbrev pub change : SlotCall → SlotReply → Change
 change (Take job mask now) (Got host) = Takes job (Some host)
 change (TakeLocal job) (Local true) = Takes job None
@@ -84,7 +84,7 @@ state_from l s (e ∷ es) = state_from l (slot_step l s e.call).0 es
 abbrev pub state_after : {h : ℕ} → Limits h → List CallEntry → SlotState h
 state_after {h} l es = state_from l (opening h) es
 
--- a caller may make a call: what it gives back is outstanding to it, and a local entry is never to be left alone
+-- a caller may make a call: what it gives back is outstanding to it, and no local entry gets a back-off
 abbrev pub may_call : {h : ℕ} → Limits h → ℕ → List Holding → SlotCall → Bool
 may_call l caller held Draw = true
 may_call l caller held (Take job mask now) = true
@@ -115,7 +115,7 @@ calls_by caller es = filter (λ e. nat_eq e.caller caller) es
 abbrev pub held_by : ℕ → List Holding → List Holding
 held_by caller held = filter (λ a. nat_eq a.caller caller) held
 
--- how many of the grants are of this host, or local where there is none
+-- how many of the grants are of this host, or local if there is none
 abbrev pub count_at : Option ℕ → List Holding → ℕ
 count_at host held = length (filter (λ a. host_eq a.host host) held)
 

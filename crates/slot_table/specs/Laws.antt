@@ -16,7 +16,7 @@ use Rattle.slot_table.specs.History.{entry, Holding, has, count_at, IsLegal, may
 use Rattle.slot_table.specs.History.{jobs_drawn}
 
 -- A state agrees with the outstanding grants: each entry's slots that are given out are its grants, never more than its limit, and
--- the same for local slots. Each grant is of an entry, a local entry is never left alone, and no number past the last job is drawn
+-- the same for local slots. Each grant is of an entry, a local entry is never in back-off, and no number past the last job is drawn
 pub record SlotsAgree {h : ℕ} (l : Limits h) (s : SlotState h) (out : List Holding) : Type 0 where
   pub held : (i : ℕ) → i < l.count → slice_index s.held i ≡ count_at (Some i) out
   pub limit : (i : ℕ) → i < l.count → slice_index s.held i ≤ slice_index l.limit i
@@ -34,7 +34,7 @@ StateAgrees = (h : ℕ) (l : Limits h) (es : List CallEntry) → l.count ≤ h �
 abbrev pub DrawsInOrder : Type 0
 DrawsInOrder = (h : ℕ) (l : Limits h) (es : List CallEntry) → IsLegal l es → jobs_drawn es ≡ range_with_len 0 (state_after l es).next
 
--- what is outstanding to a caller depends on its own calls alone
+-- what is outstanding to a caller depends only on its own calls
 abbrev pub HoldsByOwnCalls : Type 0
 HoldsByOwnCalls = (caller : ℕ) (es : List CallEntry) → held_by caller (outstanding es) ≡ outstanding (calls_by caller es)
 
@@ -54,8 +54,8 @@ pub record MayBeTaken {h : ℕ} (l : Limits h) (s : SlotState h) (mask : Mask) (
   pub room : slice_index s.held i < slice_index l.limit i
   pub up : slice_index s.until i ≤ now
 
--- What the reply to a take says of the entries in the mask: one that is got may be taken; it is Down exactly where each of them is
--- to be left alone; where it is Full, each of them that isn't has as many slots given out as its limit
+-- What the reply to a take says of the entries in the mask. One that is got may be taken. It is Down exactly if each of them is in
+-- back-off. If it is Full, each of them that isn't in back-off has as many slots given out as its limit.
 pub record TakeTells {h : ℕ} (l : Limits h) (s : SlotState h) (mask : Mask) (now : ℕ) (reply : SlotReply) : Type 0 where
   pub got : (i : ℕ) → reply ≡ Got i → MayBeTaken l s mask now i
   pub down : (reply ≡ Down) ↔ ((i : ℕ) → i < l.count → in_mask mask i ≡ true → now < slice_index s.until i)
@@ -66,11 +66,12 @@ abbrev pub TakesTell : Type 0
 TakesTell = (h : ℕ) (l : Limits h) (s : SlotState h) (job : ℕ) (mask : Mask) (now : ℕ)
     → TakeTells l s mask now (slot_step l s (Take job mask now)).1
 
--- where nothing is outstanding, no take is answered Full and no local slot is refused
+-- no take is answered Full and no local slot is refused
 pub record NothingIsFull {h : ℕ} (l : Limits h) (s : SlotState h) : Type 0 where
   pub take : (job : ℕ) (mask : Mask) (now : ℕ) → (slot_step l s (Take job mask now)).1 ≢ Full
   pub local : (job : ℕ) → (slot_step l s (TakeLocal job)).1 ≡ Local true
 
+-- with valid limits, after a legal history with nothing outstanding, nothing is full
 abbrev pub FreeWhereAllIsBack : Type 0
 FreeWhereAllIsBack = (h : ℕ) (l : Limits h) (es : List CallEntry) → AreValid l → IsLegal l es → outstanding es ≡ []
     → NothingIsFull l (state_after l es)

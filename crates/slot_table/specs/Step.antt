@@ -20,7 +20,7 @@ opening h = record { next = 0; local_held = 0; held = replicate h 0; until = rep
 abbrev pub entries : {h : ℕ} → Limits h → List ℕ
 entries l = range_with_len 0 l.count
 
--- where the search for this job begins
+-- the place at which the search for this job begins
 abbrev pub first_place : {h : ℕ} → Limits h → ℕ → ℕ
 first_place l job = if l.rotate then job % l.count else 0
 
@@ -28,19 +28,19 @@ first_place l job = if l.rotate then job % l.count else 0
 abbrev pub search_order : {h : ℕ} → Limits h → ℕ → List ℕ
 search_order l job = drop (first_place l job) (entries l) ++ take (first_place l job) (entries l)
 
--- entry i is to be left alone at this moment
+-- entry i is in back-off at this moment
 abbrev pub is_left_alone : {h : ℕ} → SlotState h → ℕ → ℕ → Bool
 is_left_alone s now i = nat_lt now (slice_index s.until i)
 
--- entry i is in the mask, is below its limit, and isn't to be left alone at this moment
+-- entry i is in the mask, is below its limit, and isn't in back-off at this moment
 abbrev pub is_free : {h : ℕ} → Limits h → SlotState h → Mask → ℕ → ℕ → Bool
 is_free l s mask now i = in_mask mask i && (nat_lt (slice_index s.held i) (slice_index l.limit i) && not (is_left_alone s now i))
 
--- entry i isn't in the mask, or is to be left alone at this moment
+-- entry i isn't in the mask, or is in back-off at this moment
 abbrev pub is_ruled_out : {h : ℕ} → SlotState h → Mask → ℕ → ℕ → Bool
 is_ruled_out s mask now i = not (in_mask mask i) || is_left_alone s now i
 
--- every entry in the mask is to be left alone at this moment, or there is none
+-- every entry in the mask is in back-off at this moment, or there is none
 abbrev pub is_down : {h : ℕ} → Limits h → SlotState h → Mask → ℕ → Bool
 is_down l s mask now = list_all (is_ruled_out s mask now) (entries l)
 
@@ -56,7 +56,7 @@ taken s i = record s { held = slice_set s.held i (slice_index s.held i + 1) }
 abbrev pub given : {h : ℕ} → SlotState h → ℕ → SlotState h
 given s i = record s { held = slice_set s.held i (slice_index s.held i - 1) }
 
--- the state in which entry i is to be left alone until this moment; it may have to be for longer already
+-- the state in which entry i is in back-off until this moment, or longer if it already was
 abbrev pub left_alone : {h : ℕ} → SlotState h → ℕ → ℕ → SlotState h
 left_alone s i until = record s { until = slice_set s.until i (max (slice_index s.until i) until) }
 
@@ -80,7 +80,7 @@ pub record IsHeld {h : ℕ} (l : Limits h) (s : SlotState h) (i : ℕ) : Type 0 
   pub entry : i < l.count
   pub held : 0 < slice_index s.held i
 
--- the condition of a call: what is given back is held, and a local entry is never to be left alone
+-- the condition of a call: what is given back is held, and no local entry gets a back-off
 abbrev pub CanStep : {h : ℕ} → Limits h → SlotState h → SlotCall → Type 0
 CanStep l s Draw = Unit {0}
 CanStep l s (Take job mask now) = Unit {0}

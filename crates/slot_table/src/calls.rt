@@ -12,7 +12,7 @@ pub enum SlotCall {
     Take { job: u32, mask: Mask, now: u64 },
     /// Gives a host's slot back.
     Give { host: u32, job: u32 },
-    /// Gives a host's slot back. The host is left alone until this moment.
+    /// Gives a host's slot back. The host is in back-off, so it is not used, until this moment.
     GiveBad { host: u32, job: u32, until: u64 },
     /// Asks for a local slot for a job.
     TakeLocal { job: u32 },
@@ -23,13 +23,13 @@ pub enum SlotCall {
 /// The reply to a call.
 #[derive(Clone, Copy, PartialEq, Eq, Debug)]
 pub enum SlotReply {
-    /// The next job's number, or None where all jobs are drawn.
+    /// The next job's number, or None if all jobs are drawn.
     Drawn(Option<u32>),
     /// A slot of this host entry.
     Got(u32),
-    /// No entry of the mask has a free slot now, and not all of them are left alone.
+    /// No entry of the mask has a free slot now, and not all of them are in back-off.
     Full,
-    /// Every entry of the mask is left alone, or it has none.
+    /// Every entry of the mask is in back-off, or it has none.
     Down,
     /// Whether a local slot was given out.
     Local(bool),

@@ -1,5 +1,5 @@
-//! Slots that were given out. They are made by the calls of the slots alone, and have to be given back: a
-//! program that drops one isn't compiled.
+//! Slots that were given out. Only the calls of the slots make them, and they have to be given back: a program that drops one isn't
+//! compiled.
 ghost use Rattle.std.specs.Prelude.{◌≡◌};
 ghost use Rattle.slot_table.specs.Grants.{host_of, job_of, caller_of, local_job_of, local_caller_of, reply_of};
 
@@ -81,9 +81,9 @@ impl LocalGrant {
 pub enum Take {
     /// A slot of a host.
     Got(Grant),
-    /// No entry of the mask has a free slot now, and not all of them are left alone.
+    /// No entry of the mask has a free slot now, and not all of them are in back-off.
     Full,
-    /// Every entry of the mask is left alone, or it has none.
+    /// Every entry of the mask is in back-off, or it has none.
     Down,
 }
 

@@ -13,16 +13,15 @@ use crate::mask::Mask;
 
 /// Who hands out jobs and slots to one caller. No call takes memory.
 ///
-/// Where it is `alone`, its calls are the only ones, and each of them spends one of the calls that it has
-/// room for. No call changes its home, its place, its limits and the caller's number: each is the same in whatever
-/// follows it.
+/// If it is `alone`, its calls are the only ones, and each of them spends one of the calls that it has room for. No call changes its home,
+/// its place, its limits and the caller's number.
 pub trait Grants {
-    /// What tells the slots that it hands out from others.
+    /// What distinguishes the slots that it hands out from others.
     type Home;
 
     ghost home: { Self → Self.Home };
 
-    /// Where what its calls change is kept.
+    /// The place that keeps what its calls change.
     ghost place: { Self → ℕ } = { λ _. 0 };
 
     /// What each call needs of it, and keeps.
@@ -45,14 +44,14 @@ pub trait Grants {
     /// Whether there are no other callers.
     ghost alone: { Bool };
 
-    /// How many calls it has room for, where it is alone.
+    /// How many calls it has room for, if it is `alone`.
     ghost spare: { Self → ℕ };
 
     /// The caller's number.
     fn caller(&self) -> u32
         ensures { result ≡ caller_number self.now };
 
-    /// The next job's number, or None where all jobs are drawn.
+    /// The next job's number, or None if all jobs are drawn.
     fn draw(&mut self) -> Option<u32>
         requires ready { ready self.old }
         requires spare { cost alone ≤ spare self.old }
@@ -63,8 +62,8 @@ pub trait Grants {
         ensures job { IfSome result (λ job. job < (limits self.old).jobs) }
         ensures later { IfSome result (IsLater (mine self.old)) };
 
-    /// A slot of the first entry, in the order of the job's search, that is in the mask, has a free slot and
-    /// isn't left alone at the moment `now`.
+    /// A slot of the first entry, in the order of the job's search, that is in the mask, has a free slot and isn't in back-off at the
+    /// moment `now`.
     fn take(&mut self, job: u32, mask: Mask, now: u64) -> Take
         requires ready { ready self.old }
         requires spare { cost alone ≤ spare self.old }
@@ -87,8 +86,7 @@ pub trait Grants {
         ensures spare { spare self.new + cost alone ≡ spare self.old }
         ensures mine { mine self.new ≡ mine self.old ++ entry (caller_number self.old) (Give (host_of grant) (job_of grant)) Given ∷ [] };
 
-    /// Gives a slot of a host that isn't local back. The host is left alone until the moment `until`, or
-    /// longer where it already was.
+    /// Gives back a slot of a host that isn't local. The host is in back-off until the moment `until`, or longer if it already was.
     fn give_bad(&mut self, grant: Grant, until: u64)
         requires ready { ready self.old }
         requires spare { cost alone ≤ spare self.old }
@@ -99,7 +97,7 @@ pub trait Grants {
         ensures spare { spare self.new + cost alone ≡ spare self.old }
         ensures mine { mine self.new ≡ mine self.old ++ entry (caller_number self.old) (GiveBad (host_of grant) (job_of grant) until) Given ∷ [] };
 
-    /// A local slot, or None where all of them are given out.
+    /// A local slot, or None if all of them are given out.
     fn take_local(&mut self, job: u32) -> Option<LocalGrant>
         requires ready { ready self.old }
         requires spare { cost alone ≤ spare self.old }

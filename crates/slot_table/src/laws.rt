@@ -1,20 +1,19 @@
 //! What holds of every legal history of calls.
 ghost use Rattle.slot_table.specs.Laws.{StateAgrees, DrawsInOrder, HoldsByOwnCalls, PermittedSteps, FreeWhereAllIsBack, TakesTell};
 
-/// What the reply to a take says of the entries in its mask, in any state: one that is got is below its
-/// limit and isn't to be left alone; it is Down exactly where each of them is to be left alone; and where
-/// it is Full each of the others is at its limit.
+/// What the reply to a take says of the entries in its mask, in any state. One that is got is below its limit and not in back-off. The
+/// reply is Down exactly if each of them is in back-off. If it is Full, each one that isn't in back-off is at its limit.
 pub fn takes_tell()
     ensures { TakesTell }
 {}
 
-/// What is outstanding to a caller depends on its own calls alone.
+/// What is outstanding to a caller depends only on its own calls.
 pub fn holds_by_own_calls()
     ensures { HoldsByOwnCalls }
 {}
 
 /// After every legal history each entry's slots that are given out are its outstanding grants, never more
-/// than its limit, and the same for local slots; a local entry is never left alone.
+/// than its limit, and the same for local slots. A local entry is never in back-off.
 pub fn state_agrees()
     ensures { StateAgrees }
 {}

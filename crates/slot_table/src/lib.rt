@@ -1,5 +1,5 @@
-//! The slots of the hosts of a farm: how many jobs each host may work at, which host a job gets, and which
-//! hosts are left alone for a while after a failure.
+//! The slots of the hosts of a farm: how many jobs each host may work at, which host a job gets, and which hosts are in back-off: not used
+//! for a while after a failure.
 #![tactic(auto)]
 
 mod calls;

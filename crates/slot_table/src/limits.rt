@@ -10,7 +10,7 @@ pub struct Limits<const H: usize> {
     pub count: u32,
     /// How many jobs each entry may work at.
     pub limit: [u8; H],
-    /// Whether each entry is this machine, which is never left alone.
+    /// Whether each entry is this machine, which is never in back-off.
     pub local: [bool; H],
     /// How many jobs may be compiled or run here beside the host entries.
     pub local_slots: u8,

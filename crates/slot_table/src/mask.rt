@@ -5,7 +5,7 @@ ghost use Rattle.slot_table.specs.Mask.{mask_bits, in_mask};
 /// How many host entries a mask can have.
 pub const MASK_BITS: u32 = 64;
 
-/// A set of host entries: bit `i` says whether entry `i` is in it. It has entries below `MASK_BITS` alone.
+/// A set of host entries: bit `i` says whether entry `i` is in it. It has only entries below `MASK_BITS`.
 #[derive(Clone, Copy, PartialEq, Eq, Debug)]
 pub struct Mask {
     pub bits: u64,

@@ -34,7 +34,7 @@ impl<const H: usize> Model for OneThread<H> {
 }
 
 impl<const H: usize> OneThread<H> {
-    /// No call was made yet, and there is room for so many.
+    /// No call was made yet, and there is room for that many.
     pub fn new(alloc: Global, limits: Limits<H>, room: u32) -> Result<OneThread<H>, AllocError>
         requires { AreValid limits }
         ensures limits { IfOk result (λ made. made.limits ≡ limits.entry) }

@@ -22,7 +22,7 @@ pub struct Slots<const H: usize> {
 }
 
 impl<const H: usize> Slots<H> {
-    /// No job is drawn, no slot is given out and no host is left alone.
+    /// No job is drawn, no slot is given out and no host is in back-off.
     pub fn new(limits: Limits<H>) -> Slots<H>
         requires { AreValid limits }
         ensures limits { result.limits ≡ limits.entry }
@@ -39,7 +39,7 @@ impl<const H: usize> Slots<H> {
         }
     }
 
-    /// The next job's number. None exactly where all jobs are drawn.
+    /// The next job's number. None exactly if all jobs are drawn.
     pub fn draw(&mut self, _caller: u32) -> Option<u32>
         ensures limits { self.new.limits ≡ self.old.limits }
         ensures step { slot_step self.old.limits self.old.state Draw ≡ (self.new.state, Drawn result) }
@@ -54,7 +54,7 @@ impl<const H: usize> Slots<H> {
         }
     }
 
-    /// Whether the entry is in the mask, is below its limit, and isn't left alone at this moment.
+    /// Whether the entry is in the mask, is below its limit, and isn't in back-off at this moment.
     fn is_free(&self, host: u32, mask: Mask, now: u64) -> bool
         requires { host < self.now.limits.count }
         ensures { result ≡ is_free self.now.limits self.now.state mask now host }
@@ -65,7 +65,7 @@ impl<const H: usize> Slots<H> {
             && self.state.until[at] <= now
     }
 
-    /// Whether the entry isn't in the mask, or is left alone at this moment.
+    /// Whether the entry isn't in the mask, or is in back-off at this moment.
     fn is_ruled_out(&self, host: u32, mask: Mask, now: u64) -> bool
         requires { host < self.now.limits.count }
         ensures { result ≡ is_ruled_out self.now.state mask now host }
@@ -88,7 +88,7 @@ impl<const H: usize> Slots<H> {
         None
     }
 
-    /// Where the search for this job begins.
+    /// The entry at which the search for this job begins.
     fn first_place(&self, job: u32) -> u32
         requires { 0 < self.now.limits.count }
         ensures place { result ≡ first_place self.now.limits job }
@@ -117,7 +117,7 @@ impl<const H: usize> Slots<H> {
         }
     }
 
-    /// Whether every entry of the mask is left alone at this moment.
+    /// Whether every entry of the mask is in back-off at this moment.
     fn is_down(&self, mask: Mask, now: u64) -> bool
         ensures { result ≡ is_down self.now.limits self.now.state mask now }
     {
@@ -129,9 +129,8 @@ impl<const H: usize> Slots<H> {
         true
     }
 
-    /// A slot of the first entry, in the order of the job's search, that is in the mask, is below its limit
-    /// and isn't left alone at the moment `now`. Down exactly where every entry of the mask is left alone
-    /// or there is none, and Full in all other cases.
+    /// A slot of the first entry, in the order of the job's search, that is in the mask, is below its limit and isn't in back-off at the
+    /// moment `now`. Down exactly if every entry of the mask is in back-off or there is none, and Full in all other cases.
     pub fn take(&mut self, caller: u32, job: u32, mask: Mask, now: u64) -> Take
         ensures limits { self.new.limits ≡ self.old.limits }
         ensures step { slot_step self.old.limits self.old.state (AskTake job mask now) ≡ (self.new.state, reply_of result) }
@@ -158,8 +157,7 @@ impl<const H: usize> Slots<H> {
         self.give_back(grant.spend());
     }
 
-    /// Gives a slot of a host that isn't local back. The host is left alone until the moment `until`, or
-    /// longer where it already was.
+    /// Gives back a slot of a host that isn't local. The host is in back-off until the moment `until`, or longer if it already was.
     pub fn give_bad(&mut self, grant: Grant, until: u64)
         requires can { CanStep self.old.limits self.old.state (GiveBad (host_of grant) (job_of grant) until) }
         ensures limits { self.new.limits ≡ self.old.limits }
@@ -179,7 +177,7 @@ impl<const H: usize> Slots<H> {
         self.state.held[host as usize] -= 1;
     }
 
-    /// The entry is left alone until this moment, or longer where it already was.
+    /// Puts the entry in back-off until this moment, or longer if it already was.
     fn leave_alone(&mut self, host: u32, until: u64)
         requires { host < self.old.limits.count }
         ensures limits { self.new.limits ≡ self.old.limits }
@@ -189,7 +187,7 @@ impl<const H: usize> Slots<H> {
         self.state.until[at] = self.state.until[at].max(until);
     }
 
-    /// A local slot. None exactly where all of them are given out.
+    /// A local slot. None exactly if all of them are given out.
     pub fn take_local(&mut self, caller: u32, job: u32) -> Option<LocalGrant>
         ensures limits { self.new.limits ≡ self.old.limits }
         ensures step { slot_step self.old.limits self.old.state (TakeLocal job) ≡ (self.new.state, Local (is_some result)) }
@@ -214,7 +212,7 @@ impl<const H: usize> Slots<H> {
         self.state.local_held -= 1;
     }
 
-    /// Whether a call meets its condition: what it gives back is held, and a local entry isn't left alone.
+    /// Whether a call meets its condition: what it gives back is held, and no local entry gets a back-off.
     pub fn can_step(&self, call: SlotCall) -> bool
         ensures { IsTrue result ↔ CanStep self.now.limits self.now.state call }
     {

@@ -9,6 +9,6 @@ pub struct SlotState<const H: usize> {
     pub local_held: u8,
     /// How many slots of each entry are given out.
     pub held: [u8; H],
-    /// Until which moment each entry is left alone.
+    /// The moment at which each entry's back-off ends.
     pub until: [u64; H],
 }

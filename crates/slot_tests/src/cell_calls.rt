@@ -12,7 +12,7 @@ use slot_table::{Grant, Limits, Mask, Take};
 use std::process::Abort;
 use std::sync::Wait;
 
-/// So many remote entries with this limit, and one local slot.
+/// That many remote entries with this limit, and one local slot.
 pub fn limits_of(limit: u8, count: u32, jobs: u32) -> Limits<16> {
     Limits {
         count,
@@ -34,7 +34,7 @@ pub fn draw<R: Wait>(rt: &R, cell: &Cell<16, 34>, pass: &mut Pass, _caller: u32)
     cell.draw(rt, pass)
 }
 
-/// Asks for a slot of an entry of the mask, by a caller that holds nothing. None where they are full.
+/// Asks for a slot of an entry of the mask, by a caller that holds nothing. None if they are full.
 pub fn try_take<R: Wait + Abort>(
     rt: &R,
     cell: &Cell<16, 34>,

@@ -31,7 +31,7 @@ fn note(
     calls.push_back(entry).expect(rt, "memory");
 }
 
-/// Asks for the one slot. Where it gets it, it notes its turn while it holds it, and gives it back.
+/// Asks for the one slot. If it gets it, it notes its turn while it holds it, and gives it back.
 fn hold<R: Wait + Abort>(
     rt: &R,
     cell: &Cell<16, 34>,
@@ -93,7 +93,7 @@ fn work<R: Wait + Abort>(
     unreachable!()
 }
 
-/// Makes the call where it may be made and has this reply, and says whether it did.
+/// Makes the call if it may be made and has this reply, and says whether it did.
 fn accepts(slots: &mut Slots<16>, entry: &CallEntry) -> bool {
     let mut tried = *slots;
     if !tried.can_step(entry.call) || tried.step(entry.call) != entry.reply {

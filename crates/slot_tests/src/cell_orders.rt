@@ -143,7 +143,7 @@ fn one_shared_slot_serves_three_callers(rt: HostRuntime) -> Result<(), Fail> {
     Ok(())
 }
 
-/// Waits until so many calls of all callers are made.
+/// Waits until that many calls of all callers are made.
 fn wait_for<R: Wait>(rt: &R, made: &AtomicU64, calls: u64) {
     for _ in rt.forever() {
         if made.load(Ordering::SeqCst) == calls {

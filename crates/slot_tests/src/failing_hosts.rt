@@ -26,7 +26,7 @@ const BOTH_FAILED: &[Event] = &[
     Event::Put(0),
 ];
 
-/// The events of the next job, which found both left alone.
+/// The events of the next job, which found both in back-off.
 const FOUND_DOWN: &[Event] = &[
     Event::Fetched(0),
     Event::Down,

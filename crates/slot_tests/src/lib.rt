@@ -1,4 +1,5 @@
-//! Tests of the slots of hosts, alone and shared among threads, of the check of a run, and of the board of a worker's progress.
+//! Tests of the slots of hosts, used by one thread and shared among threads, of the check of a run, and of the board of a worker's
+//! progress.
 #![tactic(auto)]
 
 #[cfg(test)]

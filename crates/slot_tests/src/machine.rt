@@ -80,7 +80,7 @@ fn calls_of(alloc: Global, parts: &[&[Call]]) -> Result<CallList, AllocError> {
     Ok(calls)
 }
 
-/// What the check of these calls answers, where it may be made.
+/// What the check of these calls answers, if it may be made.
 fn checked(
     limits: &Limits<16>,
     calls: &CallList,

@@ -19,14 +19,14 @@ all_within jobs workers (c ∷ counts) = nat_le c.ended jobs && (nat_le c.busy w
 abbrev pub PartPrinted : List ℕ → SinkView → SinkView → Type 0
 PartPrinted line old new = (n : ℕ) × (n < length line) × Grew old.written new.written (take n line)
 
--- the line was printed; or a prefix of it, since the sink stopped or wanted memory
+-- the line was printed; or a prefix of it, since the sink stopped or ran out of memory
 abbrev pub LinePrinted : List ℕ → SinkView → SinkView → LineEnd → Type 0
 LinePrinted line old new Whole = Grew old.written new.written line × GoesOn old new
 LinePrinted line old new SinkFault = PartPrinted line old new × DidStop old new
 LinePrinted line old new Memory = PartPrinted line old new × GoesOn old new
 
--- So many lines were printed, or fewer where the last one says that all jobs have ended; they are numbered from `at`. The jobs ended are at
--- least so many in the first, and never fall.
+-- `lines` lines were printed, or fewer if the last one says that all jobs have ended. They are numbered from `at`. The jobs ended are at
+-- least `least` in the first, and never fall.
 pub record LinesPrinted (jobs workers at lines least : ℕ) (old new : SinkView) : Type 0 where
   pub counts : List Count
   pub ends : lines_end jobs lines counts ≡ true
@@ -59,7 +59,7 @@ counts_told jobs workers at lines least old new Whole w = w.counts
 counts_told jobs workers at lines least old new SinkFault w = w.0.counts ++ w.0.next ∷ []
 counts_told jobs workers at lines least old new Memory w = w.0.counts ++ w.0.next ∷ []
 
--- Lines were printed, or cut, and each tells what these watchers had read at one look.
+-- Lines were printed, or cut, and each says what these watchers had read at one look.
 pub record WatchTells (jobs at lines : ℕ) (old new : List Watcher) (before after : SinkView) (end : LineEnd) : Type 0 where
   pub printed : WatchLines jobs (length old) at lines (min jobs (total (known old))) before after end
   pub looks : AreLooks jobs (known old)

@@ -13,10 +13,10 @@ use edge_traits::Sink;
 use farm_monitor::Watcher;
 use stream_print::{PrintStop, print};
 
-/// What is printed last where memory was wanting for a row or a note.
+/// What is printed last if memory ran out for a row or a note.
 const NO_MEMORY: &[u8] = b"watch last no memory\n";
 
-// Prints the last line: that all have ended, or that memory was wanting.
+// Prints the last line: that all have ended, or that memory ran out.
 fn print_last<E: Sink>(jobs: u32, told: bool, err: &mut E) -> LineEnd
     ensures { LinePrinted (last_text jobs told) (E.shows err.old) (E.shows err.new) result }
 {
@@ -29,8 +29,8 @@ fn print_last<E: Sink>(jobs: u32, told: bool, err: &mut E) -> LineEnd
     }
 }
 
-/// Prints the last line, and answers how that ended, and whether the line says that all jobs have ended. Each board was told
-/// all its rows if `told` holds.
+/// Prints the last line, and answers how that ended, and whether the line says that all jobs have ended. `told` says that each board was
+/// given all its rows.
 pub fn watch_last<E: Sink>(
     watchers: &mut [Watcher],
     jobs: u32,

@@ -1,4 +1,4 @@
-//! The lines that tell how far the workers of a build have come.
+//! The lines that report how far the workers of a build have come.
 #![tactic(auto)]
 
 mod count;

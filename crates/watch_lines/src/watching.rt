@@ -28,7 +28,7 @@ fn print_line<E: Sink>(number: u32, jobs: u32, count: Count, err: &mut E) -> Lin
 /// The pauses between two lines.
 const PAUSES: u32 = 100;
 
-// Pauses so many times, or until all jobs have ended.
+// Pauses that many times, or until all jobs have ended.
 fn pause_on<C: Clock>(clock: &mut C, watchers: &mut [Watcher], jobs: u32, pauses: u32)
     requires few { length watchers.old < 2 ^ 32 }
     ensures same { map board_watched watchers.new ≡ map board_watched watchers.old }
@@ -45,14 +45,14 @@ fn pause_on<C: Clock>(clock: &mut C, watchers: &mut [Watcher], jobs: u32, pauses
     }
 }
 
-// Whether a line with this count is the last where so many are left.
+// Whether a line with this count is the last, if that many are left.
 fn is_last(left: u32, count: Count, jobs: u32) -> bool
     ensures { result ≡ ((left == 1) || are_all jobs count) }
 {
     left == 1 || count.are_all(jobs)
 }
 
-// Goes on with the line of this number, where so many are left.
+// Goes on with the line of this number, if that many are left.
 fn watch_on<C: Clock, E: Sink>(
     clock: &mut C,
     watchers: &mut [Watcher],
@@ -82,9 +82,9 @@ fn watch_on<C: Clock, E: Sink>(
     }
 }
 
-/// Prints so many lines of what all boards show, or fewer where one says that all jobs have ended. Between two of them it pauses on the
-/// clock 100 times, or until all have ended. It ends early where the sink stops or wants memory. It waits for nobody, and takes no memory
-/// of its own.
+/// Prints that many lines of what all boards show, or fewer if one says that all jobs have ended. Between two of them it pauses on the
+/// clock 100 times, or until all have ended. It ends early if the sink stops or runs out of memory. It waits for nobody, and takes no
+/// memory of its own.
 pub fn watch<C: Clock, E: Sink>(
     clock: &mut C,
     watchers: &mut [Watcher],
