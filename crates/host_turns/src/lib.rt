@@ -1,5 +1,5 @@
-//! A host list that begins at another entry, so that processes of which each does one job use all hosts of the list; and one with one entry only, of which
-//! such a process was given a slot.
+//! A host list that begins at another entry, so that processes that do one job each use all hosts of the list. And a host list with
+//! one entry only, if such a process was given a slot of it.
 #![tactic(auto)]
 
 mod choosing;
