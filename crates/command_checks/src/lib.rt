@@ -1,4 +1,4 @@
-//! What is told or refused of a compile command before it is done: that it reads standard input, and that it would replace its source.
+//! What is reported or refused of a compile command before it is done: that it reads standard input, and that it would replace its source.
 #![tactic(auto)]
 
 mod input;
