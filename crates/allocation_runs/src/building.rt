@@ -64,7 +64,7 @@ fn moves(alloc: Global) -> Moves {
     }
 }
 
-// Twelve links that answer the object.
+// Twelve links that give the object.
 fn links(alloc: Global) -> Result<LinkScripts, AllocError> {
     let mut links = LinkScripts::new(alloc);
     for _ in 0..JOBS {
@@ -180,7 +180,7 @@ fn all_objects(alloc: Global, kits: Vec<FileKit>) -> Result<Option<u32>, AllocEr
     Ok(whole)
 }
 
-// How a run ended that answered this, printed so, has that many reports, and put that many objects, if each is whole.
+// The verdict on a run that returned this status, printed this, has this many reports, and put this many objects, if each is whole.
 fn judge(status: u8, out: &[u8], err: &[u8], reports: usize, whole: Option<u32>) -> Verdict {
     let Some(whole) = whole else {
         return Verdict::Wrong("a put is there in part");

@@ -44,8 +44,7 @@ fn door(alloc: Global) -> Result<MemDoor, AllocError> {
     Ok(MemDoor::new(alloc, links, Peers::new(alloc), CallNumbers::new(alloc)))
 }
 
-// If memory ran out it was in the connection or at the door, and the line says so; or outside, and a notice is after what
-// was printed before, which is none of the line here.
+// Whether memory ran out: in the connection or at the door, as the line says; or outside, as the notice says.
 fn is_wanting(status: u8, out: &[u8]) -> bool {
     match status {
         0 => out == WANTED,
@@ -54,7 +53,7 @@ fn is_wanting(status: u8, out: &[u8]) -> bool {
     }
 }
 
-// How a run ended that answered this, printed so, and sent so much to its peer. A reply is cut if the link itself was out of memory.
+// The verdict on a run that returned this status, printed this, and sent this to its peer. A reply may be cut if the link itself was out of memory.
 fn judge(status: u8, out: &[u8], sent: &[u8]) -> Verdict {
     if !REPLY.starts_with(sent) {
         return Verdict::Wrong("the reply is none of this run");

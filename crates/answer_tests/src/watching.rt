@@ -49,7 +49,7 @@ impl Clock for CountingClock {
     }
 }
 
-/// A board on which this row was shown last, and told of.
+/// A board on which this row was shown last, and noted.
 fn told_of<R: Wait>(rt: &R, alloc: Global, row: Progress) -> Result<Watcher, AllocError> {
     let (mut shower, mut watcher) = board(rt, alloc)?;
     let shown = shower.show(rt, row);
@@ -196,7 +196,7 @@ struct LastRow {
     first: Progress,
     second: Progress,
     jobs: u32,
-    /// Whether each was told all.
+    /// Whether each had told all.
     told: bool,
     /// Whether the line says that all have ended.
     all: bool,

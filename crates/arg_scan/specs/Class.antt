@@ -31,12 +31,12 @@ abbrev pub first_forced : List (List ℕ) → ℕ → Option (Why × ℕ)
 first_forced words zero = None
 first_forced words (suc n) = option_or (first_forced words n) (option_map (λ why. (why, n)) (reason_at words n))
 
--- where the operand of an option at this place stands: in its word, or in the next
+-- the place of the operand of an option at this place: in its word, or in the next
 abbrev pub operand_place : Operand → ℕ → OutputPlace
 operand_place (operand.Attached from) at = record { at = at; from = from }
 operand_place _ at = record { at = suc at; from = 0 }
 
--- where the name of an output stands, by its option's part and place
+-- the place of the name of an output, by its option's part and place
 abbrev pub output_place : Part → ℕ → OutputPlace
 output_place (part.Word (role.Flag effect operand)) at = operand_place operand at
 output_place _ at = operand_place operand.Next at
@@ -45,7 +45,7 @@ output_place _ at = operand_place operand.Next at
 abbrev pub input_place : List (List ℕ) → ℕ
 input_place words = unwrap_or (first_below (is_source words) (length words)) 0
 
--- how the command may be sent, where nothing keeps it here
+-- how the command may be sent, if nothing keeps it here
 abbrev pub plan_of : List (List ℕ) → Plan
 plan_of words = record {
   action = if any_below (assembles words) (length words) then Assemble else Compile;
@@ -77,7 +77,7 @@ pub record IsFirstReason (words : List (List ℕ)) (at : ℕ) (why : Why) : Type
   pub first : reason_at words at ≡ Some why
   pub before : (k : ℕ) → k < at → (other : Why) → ¬ Forces words k other
 
--- no place gives a reason, and this is the first that the whole command gives, behind the last word
+-- no place gives a reason, and this is the first that the whole command gives; its place is after the last word
 pub record IsEndReason (words : List (List ℕ)) (at : ℕ) (why : Why) : Type 0 where
   pub behind : at ≡ length words
   pub places : NothingForces words

@@ -114,7 +114,7 @@ compiles words at = asks_compile (action_of (part_at words at) (word_at words at
 abbrev pub assembles : List (List ℕ) → ℕ → Bool
 assembles words at = asks_assemble (action_of (part_at words at) (word_at words at))
 
--- a reason where the test holds
+-- a reason if the test holds
 abbrev pub when : Bool → Why → List Why
 when true reason = reason ∷ []
 when false reason = []
@@ -141,8 +141,8 @@ abbrev pub misses_operand : Operand → Bool → Bool
 misses_operand operand.Next last = last
 misses_operand _ last = false
 
--- the reasons that a word gives, in the order in which they count. `last`: no word follows; `source`, `output`: a source, an
--- output option stands before it
+-- the reasons that a word gives, in the order in which they count. `last`: no word follows; `source`, `output`: a source,
+-- or an output option, is before it
 abbrev pub part_reasons : Part → List ℕ → Bool → Bool → Bool → List Why
 part_reasons part.Compiler word last source output = []
 part_reasons (part.Operand effect.Output) word last source output = output_reasons word

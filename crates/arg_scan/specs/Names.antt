@@ -23,7 +23,7 @@ ending_text CapitalC = codes ".C"
 ending_text I = codes ".i"
 ending_text Ii = codes ".ii"
 
--- the name ends so, behind at least one byte
+-- the name ends so, and at least one byte is before the ending
 abbrev pub has_ending : List ℕ → Ending → Bool
 has_ending name ending = nat_lt (length (ending_text ending)) (length name) && ends_with nat_eq name (ending_text ending)
 

@@ -17,7 +17,7 @@ use Rattle.arg_scan.specs.declared.part.Part.{Part}
 use Rattle.arg_scan.specs.declared.part.Part.TheVariants as part
 use Rattle.arg_scan.specs.Names.{last_name, ending_of}
 
--- where the operand of an option stands, by the row's form, the place behind the spelling, and the word
+-- the place of the operand of an option, by the row's form, the place after the spelling, and the word
 abbrev pub operand_of : Form → ℕ → List ℕ → Operand
 operand_of form.None joined word = operand.Absent
 operand_of form.Next joined word = operand.Next
@@ -34,7 +34,7 @@ abbrev pub source_role : Option Ending → Role
 source_role (Some ending) = role.Source ending
 source_role None = role.Other
 
--- what a word is in a place where an option may stand
+-- what a word is in a place where an option may be
 unfoldable pub role_of : List ℕ → Role
 role_of word =
     if bytes_eq word (codes "-") then role.Dash

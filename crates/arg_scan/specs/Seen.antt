@@ -58,6 +58,6 @@ seen_plan seen =
       output = seen.output;
     }
 
--- the class of so many words of which this was seen
+-- the class of a command of this many words, after this was seen of them
 abbrev pub final_verdict : Seen → ℕ → Verdict
 final_verdict seen len = by_end (slice_get (seen_reasons seen) 0) len (verdict.Remote (seen_plan seen))

@@ -13,7 +13,7 @@ use std::alloc::{AllocError, Global};
 
 /// The class of a command.
 ///
-/// The rules are those of docs/command-words.md. `Memory` may stand in place of `Remote` alone.
+/// The rules are those of docs/command-words.md. `Memory` may be returned in place of `Remote` only.
 pub fn scan(alloc: Global, words: &Words) -> Scan
     ensures class { result ≢ Scan.Memory → ClassOf words.now result }
     ensures memory { result ≡ Scan.Memory → IsRemote words.now }

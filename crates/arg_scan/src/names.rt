@@ -58,7 +58,7 @@ impl Ending {
         matches!(self, Ending::I | Ending::Ii)
     }
 
-    // Whether a name ends so, behind at least one byte.
+    // Whether a name ends so, and at least one byte is before the ending.
     fn ends(self, name: &[u8]) -> bool
         ensures { result ≡ has_ending name.now self }
     {
@@ -111,7 +111,7 @@ pub fn is_reserved(name: &[u8]) -> bool
     name.ends_with(b".farm~")
 }
 
-/// The bytes of a word from a place on; none where the word is shorter.
+/// The bytes of a word from a place on; none if the word is shorter.
 pub(crate) fn name_from(word: &[u8], from: usize) -> &[u8]
     ensures { result.now ≡ drop from word.now }
 {

@@ -9,7 +9,7 @@ use crate::names::{Ending, ending_of, last_name};
 use farm_types::Bytes;
 use option_table::{Effect, Form, GCC_ROWS, OptionTable};
 
-/// Where the operand of an option stands.
+/// The place of the operand of an option.
 #[derive(Clone, Copy, Debug, PartialEq, Eq)]
 pub enum Operand {
     /// The option takes none.
@@ -20,7 +20,7 @@ pub enum Operand {
     Next,
 }
 
-/// What a word is in a place where an option may stand.
+/// What a word is in a place where an option may be.
 #[derive(Clone, Copy, Debug, PartialEq, Eq)]
 pub enum Role {
     /// Exactly `-`, the standard input.
@@ -42,7 +42,7 @@ pub enum Part {
     Compiler,
     /// The operand of the option before it, whose effect this is.
     Operand(Effect),
-    /// A word in a place where an option may stand.
+    /// A word in a place where an option may be.
     Word(Role),
 }
 
@@ -82,7 +82,7 @@ pub fn part_of(
     }
 }
 
-// What a word is in a place where an option may stand.
+// What a word is in a place where an option may be.
 #[tactic(auto, unfolding(crate::specs::Roles::role_of))]
 fn role_of(table: &OptionTable<GCC_ROWS>, word: &Bytes) -> Role
     requires { table.now ≡ gcc_rows }

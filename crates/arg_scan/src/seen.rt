@@ -42,7 +42,7 @@ impl Seen {
         }
     }
 
-    // The first reason that a word gives, behind those that were seen.
+    // The first reason that a word gives, after those words that were seen.
     pub fn reason(&self, part: Part, word: &Bytes, last: bool) -> Option<Why>
         ensures { result ≡ slice_get (part_reasons part word.now last (is_some self.now.source) (is_some self.now.output)) 0 }
     {
@@ -115,7 +115,7 @@ impl Seen {
         }
     }
 
-    // The class of a command of so many words, none of which gives a reason.
+    // The class of a command of `len` words, none of which gives a reason.
     pub fn verdict(&self, len: usize) -> Verdict
         ensures { result ≡ final_verdict self.now len }
     {
@@ -153,7 +153,7 @@ fn output_reason(name: &[u8]) -> Option<Why>
     }
 }
 
-// Where the operand of an option at this place stands.
+// The place of the operand of an option at this place.
 fn output_place(operand: Operand, at: usize) -> OutputPlace
     requires { at < usize.MAX }
     ensures { result ≡ operand_place operand at }

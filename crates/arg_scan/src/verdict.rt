@@ -19,7 +19,7 @@ pub enum Action {
     Assemble,
 }
 
-/// Where the name of the output stands.
+/// The place of the name of the output.
 #[derive(Clone, Copy, Debug, PartialEq, Eq)]
 pub struct OutputPlace {
     /// The place of the word that is the name or holds it.
@@ -45,8 +45,8 @@ pub struct Plan {
 pub enum Verdict {
     /// There is no word.
     Empty,
-    /// The command stays on this machine, for this reason, which stands at this place. A reason of
-    /// the whole command stands behind the last word.
+    /// The command stays on this machine, for this reason, which is at this place. The place of a
+    /// reason of the whole command is after the last word.
     Local { why: Why, at: usize },
     /// The command may be sent.
     Remote(Plan),

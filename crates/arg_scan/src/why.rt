@@ -12,9 +12,9 @@ pub enum Why {
     NoAction,
     /// `-c` and `-S` are both asked for.
     BothActions,
-    /// `-E`: the command preprocesses alone.
+    /// `-E`: the command only preprocesses.
     Preprocess,
-    /// `-M` or `-MM`: the command lists dependencies alone.
+    /// `-M` or `-MM`: the command only lists dependencies.
     Depend,
     /// No source is named.
     NoInput,

@@ -1,4 +1,4 @@
--- What is told or refused of a command before it is done.
+-- What is reported or refused of a command before it is done.
 use Rattle.std.specs.Prelude.{ℕ, Bool, true, false, List, length, Option, Some, None, is_some, if◌then◌else◌}
 use Rattle.arg_scan.specs.declared.part.Role.TheVariants as role
 use Rattle.arg_scan.specs.declared.part.Part.{Part}
@@ -9,7 +9,7 @@ use Rattle.arg_scan.specs.Class.{plan_of}
 use Rattle.arg_strip.specs.Words.{output_of}
 use Rattle.arg_strip.specs.declared.overwriting.Names.{Names}
 
--- the word `-` where an option may be
+-- the word `-` in a place where an option may be
 abbrev pub is_dash : Part → Bool
 is_dash (part.Word role.Dash) = true
 is_dash _ = false

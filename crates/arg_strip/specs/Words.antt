@@ -17,7 +17,7 @@ use Rattle.arg_scan.specs.Roles.{word_at, part_at}
 use Rattle.arg_scan.specs.Forces.{source_of}
 use Rattle.arg_scan.specs.Class.{class_of, output_text, plan_of}
 
--- what f gives of the places below n, in order, without those where it gives nothing
+-- what f gives of the places below n, in order, without the places for which it gives nothing
 abbrev pub gather : {A : Type 0} → (ℕ → Option A) → ℕ → List A
 gather f zero = []
 gather f (suc n) = gather f n ++ option_to_list (f n)
@@ -53,7 +53,7 @@ abbrev pub stripped : List (List ℕ) → List (List ℕ)
 stripped words =
     gather (λ at. sent_word (part_at words at) (word_at words at)) (length words) ++ codes "-o" ∷ output_of words ∷ []
 
--- a word of the preprocessor's command: the output option and its operand are left out, and `-E` stands for the action
+-- a word of the preprocessor's command: the output option and its operand are left out, and `-E` replaces the action
 abbrev pub preprocessing_word : Part → List ℕ → Option (List ℕ)
 preprocessing_word (part.Operand effect.Output) word = None
 preprocessing_word (part.Word (role.Flag effect.Output operand)) word = None
@@ -64,7 +64,7 @@ preprocessing_word _ word = Some word
 abbrev pub preprocessing_words : List (List ℕ) → List (List ℕ)
 preprocessing_words words = gather (λ at. preprocessing_word (part_at words at) (word_at words at)) (length words)
 
--- a word of the compile's command: the source stands for a name of the station's own
+-- a word of the compile's command: a name of the station's own replaces the source
 abbrev pub placed_text : Option Ending → List ℕ → Word
 placed_text (Some ending) word = Input (ext_of ending)
 placed_text None word = Text word

@@ -12,8 +12,8 @@ use std::alloc::{AllocError, Global};
 
 /// The words that preprocess the source of a command that may be sent.
 ///
-/// They are its words in order without the output option and its operand, and with `-E` for each
-/// `-c` and `-S` that stands as an option.
+/// They are its words in order without the output option and its operand, and with `-E` in place of
+/// each `-c` and `-S` that is an option.
 pub fn cpp_words(alloc: Global, words: &Words) -> Result<Words, AllocError>
     requires { IsRemote words.now }
     ensures { IfOk result (λ kept. kept ≡ preprocessing_words words.now) }

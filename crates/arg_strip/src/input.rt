@@ -7,7 +7,7 @@ use arg_scan::{Part, Role, part_of};
 use farm_types::Bytes;
 use option_table::gcc_table;
 
-/// Whether a command names the standard input as a file: by the word `-` where a source or an option may be. It takes no memory.
+/// Whether a command names the standard input as a file: by the word `-` in place of a source or an option. It takes no memory.
 pub fn reads_input(words: &[Bytes]) -> bool
     ensures { result ≡ reads_input words.now }
 {

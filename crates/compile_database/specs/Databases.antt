@@ -43,7 +43,7 @@ AreEntries entries (p ∷ ps) (j ∷ js) = EntryAt entries p j × AreEntries ent
 
 -- ---- the choice
 
--- each entry has a folder; this is the one whose entries are taken; and where none is named, it is that of all entries
+-- each entry has a folder; this is the one whose entries are taken; and if none is named, it is that of all entries
 pub record FolderIs (choice : Choice) (entries : List Data) (folder : List ℕ) : Type 0 where
   pub placed : NoneIs is_placeless entries
   pub chosen : chosen_folder choice.folder entries ≡ Some folder
@@ -129,7 +129,7 @@ FaultStands choice text NotJson = IsUtf8 text → read text ≡ None
 FaultStands choice text NotArray = (value : Data) × (read text ≡ Some value) × (as_array value ≡ None)
 FaultStands choice text fault = (entries : List Data) × ArrayOf text entries × EntriesFault choice entries fault
 
--- it is a fault of which this holds, or memory ran out
+-- it is a fault for which this holds, or memory ran out
 abbrev pub IsError : (DatabaseFault → Type 0) → DatabaseError → Type 0
 IsError stands (Fault fault) = stands fault
 IsError stands Memory = Unit {0}

@@ -54,7 +54,7 @@ Refused message status sinks sinks_now answer = Printing no_memory_text (complai
 abbrev pub Wanted : SinksView → SinksView → ℕ → Type 0
 Wanted sinks sinks_now answer = WantOf no_memory_text [] sinks sinks_now answer
 
--- The job list of the text was printed; or the text has this fault, which was told; or memory ran out.
+-- The job list of the text was printed; or the text has this fault, which was printed; or memory ran out.
 pub data Listed (choice : Choice) (text : List ℕ) (sinks sinks_now : SinksView) (answer : ℕ) : Type 0 where
   printed_list : (list : List ℕ) → ListOf choice text list → Told list sinks sinks_now answer → Listed choice text sinks sinks_now answer
   faulty_text : (fault : DatabaseFault) → FaultStands choice text fault
@@ -62,7 +62,7 @@ pub data Listed (choice : Choice) (text : List ℕ) (sinks sinks_now : SinksView
   unlisted : Wanted sinks sinks_now answer → Listed choice text sinks sinks_now answer
 
 -- The input was read to its end, and its text was listed; or it was too long, or couldn't be read; or memory ran out while it was
--- read, and then its count stays: no fault of the input is told so.
+-- read. In the last case its count stays: no fault of the input is reported as lack of memory.
 pub data Reads (choice : Choice) (old new : SourceView) (sinks sinks_now : SinksView) (answer : ℕ) : Type 0 where
   whole_input : (text : List ℕ) → AllRead old new text → length text < too_long → Listed choice text sinks sinks_now answer
       → Reads choice old new sinks sinks_now answer
@@ -73,8 +73,8 @@ pub data Reads (choice : Choice) (old new : SourceView) (sinks sinks_now : Sinks
   unread : HasReadSome too_long old new → Still old.faults new.faults → Wanted sinks sinks_now answer
       → Reads choice old new sinks sinks_now answer
 
--- The words ask for a text, which was printed; or they don't fit, at this place; or they say which entries are taken; or memory was
--- wanting, and nothing was read.
+-- The words ask for a text, which was printed; or they don't fit, at this place; or they say which entries are taken; or memory
+-- ran out, and nothing was read.
 pub data Does (words : List (List ℕ)) (old new : SourceView) (sinks sinks_now : SinksView) (answer : ℕ) : Type 0 where
   told : (ask : Ask) → asked words ≡ Some ask → new ≡ old → Told (text_of ask) sinks sinks_now answer
       → Does words old new sinks sinks_now answer

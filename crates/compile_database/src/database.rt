@@ -71,7 +71,7 @@ fn list_of_entries(
 }
 
 /// The job list of the entries of a compile database that a selection takes: one line an entry, in their order, whose words
-/// are exactly the entry's. Memory may run out in place of any answer.
+/// are exactly the entry's. Instead of any result, memory may run out.
 pub fn job_list_of(
     alloc: Global,
     text: &[u8],

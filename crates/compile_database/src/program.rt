@@ -64,7 +64,7 @@ fn refuse_text<O: Sink, E: Sink>(
     }
 }
 
-// Refuses words, of which the one at this place is the first that doesn't fit.
+// Refuses words; the one at this place is the first that doesn't fit.
 fn refuse_words<O: Sink, E: Sink>(alloc: Global, place: usize, out: &mut O, err: &mut E) -> u8
     ensures { WordsRefused place (sinks_view O.shows E.shows out.old err.old)
         (sinks_view O.shows E.shows out.new err.new) result }
@@ -115,7 +115,7 @@ fn list_input<R: Source, O: Sink, E: Sink>(
 }
 
 /// The program `farm_jobs` (docs/compile-database.md). `words` are its arguments without its own name. It reads a compile database,
-/// prints the job list of the entries that the words take, and answers its exit status. The input hasn't ended.
+/// prints the job list of the entries that the words take, and returns its exit status. The input hasn't ended.
 pub fn farm_jobs<R: Source, O: Sink, E: Sink>(
     alloc: Global,
     words: &[String],

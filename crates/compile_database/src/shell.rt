@@ -9,7 +9,7 @@ ghost use Rattle.compile_database.specs.Rests.{rest_words};
 use farm_types::{Bytes, Words};
 use std::alloc::{AllocError, Global};
 
-/// Where in a command a byte is.
+/// The place of a byte in a command, by the quotes around it.
 #[derive(Clone, Copy, Debug, PartialEq, Eq, Drop)]
 pub(crate) enum Mode {
     Outside,
@@ -21,7 +21,7 @@ pub(crate) enum Mode {
     DoubleEscaped,
 }
 
-// The words that have ended, the one that is open, and where the next byte is.
+// The words that have ended, the one that is open, and the place of the next byte.
 #[derive(Debug, Drop)]
 pub(crate) struct Splitter {
     pub words: Words,

@@ -20,14 +20,14 @@ pub record HoldsReply (text : List ℕ) : Type 0 where
   pub outcome : Outcome
   pub begins : BeginsReply text used outcome
 
--- What a text is. Only one that begins with a whole reply may want memory.
+-- What each result says of a text. Memory may run out only for one that begins with a whole reply.
 abbrev pub Says : List ℕ → Reply → Type 0
 Says text (answers.Whole outcome used) = BeginsReply text used outcome
 Says text answers.Short = IsShortReply text
 Says text (answers.Bad at fault) = ReplyFaultStands text at fault
 Says text answers.Memory = HoldsReply text
 
--- The answer is this outcome with so many bytes, unless memory ran out.
+-- The result is this outcome with this many bytes, unless memory ran out.
 abbrev pub IsWholeUnlessMemory : Outcome → ℕ → Reply → Type 0
 IsWholeUnlessMemory outcome used (answers.Whole o n) = (o ≡ outcome) × (n ≡ used)
 IsWholeUnlessMemory outcome used answers.Short = ⊥

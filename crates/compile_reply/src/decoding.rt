@@ -17,9 +17,9 @@ use wire_tokens::{ReplyFault, Scan, scan_token};
 pub enum Reply {
     /// Its first `used` bytes spell the outcome.
     Whole { outcome: Outcome, used: usize },
-    /// No fault stands in it, and no prefix spells an outcome: it is cut, or more is to come.
+    /// It has no fault, and no prefix spells an outcome: it is cut, or more is to come.
     Short,
-    /// This fault stands in it, at this place; places count its bytes from 0.
+    /// It has this fault, at this place; places count its bytes from 0.
     Bad { at: u64, fault: ReplyFault },
     /// It begins with a whole reply, and memory ran out.
     Memory,
@@ -135,14 +135,16 @@ fn said(alloc: Global, text: &[u8]) -> Reply
     }
 }
 
-/// Reads a reply at the front of a text. Bytes that follow it are ignored. Only a text that begins with a whole reply may
-/// want memory.
+/// Reads a reply at the front of a text. Bytes that follow it are ignored. Memory may run out only for a text that begins
+/// with a whole reply.
 pub fn decode(alloc: Global, text: &[u8]) -> Reply
-    // The outcome that a prefix spells, the fault that stands, or that the text is short,
+    // The result is the outcome that a prefix spells, the fault of the text, or that the text is short.
     ensures says { Says text.now result }
-    // exactly where that is so.
+    // An outcome that a prefix spells is the result, unless memory runs out.
     ensures whole { (used : ℕ) (o : Outcome) → BeginsReply text.now used o → IsWholeUnlessMemory o used result }
+    // The fault of the text is the result.
     ensures bad { (at : ℕ) (fault : ReplyFault) → ReplyFaultStands text.now at fault → result ≡ Reply.Bad at fault }
+    // `Short` is the result if the text is short.
     ensures short { IsShortReply text.now → result ≡ Reply.Short }
 {
     said(alloc, text)

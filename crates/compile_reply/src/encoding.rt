@@ -8,8 +8,8 @@ use farm_types::{Bytes, Outcome};
 use std::alloc::{AllocError, Global};
 use wire_tokens::{DONE, DOTO, SERR, SOUT, STAT, push_body, push_token};
 
-/// The front of an outcome's text that ends before the object's bytes: with those behind it, it is the whole text. It fails
-/// for want of memory alone.
+/// The front of an outcome's text that ends before the object's bytes: with those after it, it is the whole text. It fails
+/// only for lack of memory.
 pub fn encode_head(alloc: Global, outcome: &Outcome) -> Result<Bytes, AllocError>
     requires { OutcomeFits outcome.now.status outcome.now.err outcome.now.out outcome.now.object }
     ensures { IfOk result (λ head. head ++ outcome.now.object ≡ reply_text outcome.now) }
@@ -23,7 +23,7 @@ pub fn encode_head(alloc: Global, outcome: &Outcome) -> Result<Bytes, AllocError
     Ok(head)
 }
 
-/// The text of an outcome, in lower-case digits. It fails for want of memory alone.
+/// The text of an outcome, in lower-case digits. It fails only for lack of memory.
 pub fn encode(alloc: Global, outcome: &Outcome) -> Result<Bytes, AllocError>
     requires { OutcomeFits outcome.now.status outcome.now.err outcome.now.out outcome.now.object }
     ensures { IfOk result (λ text. text ≡ reply_text outcome.now) }

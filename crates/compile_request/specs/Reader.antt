@@ -1,4 +1,4 @@
--- Where a reader of requests is.
+-- The state of a reader of requests.
 use Rattle.std.specs.Prelude.{ℕ, ◌≡◌, ◌≤◌, ◌+◌, List, ◌++◌, length}
 use Rattle.wire_tokens.specs.declared.faults.RequestFault.{RequestFault}
 use Rattle.wire_tokens.specs.Format.{Field, Progress}
@@ -40,7 +40,7 @@ IsUnlessMemory (Whole q used) step = Whole q used ≡ step
 IsUnlessMemory (Bad at fault) step = Bad at fault ≡ step
 IsUnlessMemory Memory step = Unit {0}
 
--- Where it leaves the reader.
+-- The state in which the step leaves the reader.
 abbrev pub Leaves : List ℕ → List ℕ → Step → Place → Type 0
 Leaves text piece More place = IsAt place (text ++ piece)
 Leaves text piece (Whole q used) place = place ≡ spent

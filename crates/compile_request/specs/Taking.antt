@@ -61,14 +61,14 @@ Says old new piece (Whole q taken) =
 Says old new piece (Bad at fault) = (text : List ℕ) → IsPlaced old text → Stands request_format (text ++ piece) at fault
 Says old new piece Memory = Unit {0}
 
--- some bytes are taken, where it goes on
+-- some bytes are taken, if it goes on
 abbrev pub TakesSome : Turn → Type 0
 TakesSome (More taken) = 0 < taken
 TakesSome (Whole q taken) = Unit {0}
 TakesSome (Bad at fault) = Unit {0}
 TakesSome Memory = Unit {0}
 
--- all of a piece is taken, where it goes on
+-- all of a piece is taken, if it goes on
 abbrev pub TakesAll : List ℕ → Turn → Type 0
 TakesAll piece (More taken) = taken ≡ length piece
 TakesAll piece (Whole q taken) = Unit {0}

@@ -20,7 +20,7 @@ fn push_words(text: &mut Bytes, words: &[Bytes]) -> Result<(), AllocError>
     Ok(())
 }
 
-/// The text of a request, in lower-case digits. It fails for want of memory alone.
+/// The text of a request, in lower-case digits. It fails only for lack of memory.
 pub fn encode(alloc: Global, request: &Request) -> Result<Bytes, AllocError>
     requires { RequestFits request.now.words request.now.source }
     ensures { IfOk result (λ text. text ≡ request_text request.now) }

@@ -38,7 +38,7 @@ pub fn body_len(part: Part, n: u32) -> usize
     }
 }
 
-/// What is wrong with a token's number, after words of so many bytes.
+/// What is wrong with a token's number, after words with this many bytes.
 pub fn refusal(part: Part, before: usize, n: u32) -> Option<RequestFault>
     requires { before ≤ words_bytes_max }
     ensures { result ≡ (due_of part before).refused n }

@@ -13,15 +13,15 @@ use std::alloc::Global;
 use std::marker::Model;
 use wire_tokens::{PartialToken, RequestFault};
 
-/// What a piece came to.
+/// The result of a piece.
 #[derive(Debug, Drop)]
 pub enum Step {
-    /// All pieces so far are short: no fault stands in them, and no prefix spells a request.
+    /// All pieces so far are short: they have no fault, and no prefix spells a request.
     More,
     /// They spell the request, with `used` bytes of the last piece. The bytes after these are
     /// ignored.
     Whole { request: Request, used: usize },
-    /// This fault stands in them, at this place; places count from the first piece's front.
+    /// They have this fault, at this place; places count from the first piece's front.
     Bad { at: u64, fault: RequestFault },
     /// Memory ran out.
     Memory,
@@ -35,8 +35,8 @@ pub enum State {
     Spent,
 }
 
-/// Reads a request that comes in pieces of any size. After a fault it answers that fault to every
-/// later piece; after a whole request or want of memory it is spent.
+/// Reads a request that comes in pieces of any size. After a fault it returns that fault for every
+/// later piece; after a whole request or lack of memory it is spent.
 #[derive(Debug, Drop)]
 pub struct RequestReader {
     state: State,
@@ -84,15 +84,17 @@ impl RequestReader {
     pub fn feed(&mut self, piece: &[u8]) -> Step
         requires { IsSpent self.old → ⊥ }
 
-        // With text for all the pieces before this one: the request that a prefix spells, the
-        // fault that stands, or that all of it is short,
+        // `text` is all the pieces before this one. The result is the request that a prefix of
+        // them and this piece spells, their fault, or that all of it is short.
         ensures says { (text : List ℕ) → IsAt self.old text → Says text piece.now result }
 
-        // exactly where that is so.
+        // A request that a prefix spells is the result, unless memory runs out.
         ensures whole { (text : List ℕ) (used : ℕ) (q : Request) → IsAt self.old text
             → BeginsRequest (text ++ piece.now) used q → IsUnlessMemory result (Step.Whole q (used - length text)) }
+        // The fault of the text is the result, unless memory runs out.
         ensures bad { (text : List ℕ) (at : ℕ) (fault : RequestFault) → IsAt self.old text
             → RequestFaultStands (text ++ piece.now) at fault → IsUnlessMemory result (Step.Bad at fault) }
+        // `More` is the result if all of it is short, unless memory runs out.
         ensures short { (text : List ℕ) → IsAt self.old text
             → IsShortRequest (text ++ piece.now) → IsUnlessMemory result Step.More }
 

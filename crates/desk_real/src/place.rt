@@ -17,7 +17,7 @@ pub struct Place<S> {
     pub begun: Duration,
     /// Whether it has said a line.
     pub has_spoken: bool,
-    /// Whether the system told of something that wasn't read yet.
+    /// Whether the system reported something that wasn't read yet.
     pub has_news: bool,
     /// Whether it was answered.
     is_answered: bool,
@@ -92,7 +92,7 @@ impl<S> Place<S> {
 }
 
 impl<S: Read> Place<S> {
-    /// Reads what came. Where memory is wanting it ends.
+    /// Reads what came. If memory runs out, the connection ends.
     pub fn look(&mut self, alloc: Global) -> Found {
         if self.has_ended {
             return Found::End;

@@ -60,7 +60,7 @@ const GREETING_SECS: u64 = 1;
 /// How long the desk waits at most while somebody waits for it.
 const LOOK_MILLIS: u64 = 50;
 
-/// How many events are told at once.
+/// How many events the system reports at once.
 const EVENTS: usize = 128;
 
 const LISTENER: Token = Token(PLACES);
@@ -76,7 +76,7 @@ impl<R: Net + Drop, L: OpenListener + AsRawFd + Drop, P: AsRawFd + Drop> DeskRoo
     /// A room without connections, for the callers of a desk of these host entries.
     ///
     /// # Errors
-    /// The system refuses a poll, or memory is wanting.
+    /// The system refuses a poll, or memory runs out.
     pub fn new(
         rt: R,
         alloc: Global,
@@ -275,7 +275,7 @@ impl<R: Clock, L: OpenListener<Stream = S>, S: OpenStream + AsRawFd + Drop, P> D
     S,
     P,
 > {
-    // Takes in connections that the listener has: not so many that one which has said its line is displaced before that is read.
+    // Takes in connections that the listener has, at most `TAKEN_AT_ONCE`: one that has said its line isn't displaced before that is read.
     fn take_in(&mut self) {
         self.is_refused = false;
         for _ in 0..TAKEN_AT_ONCE {

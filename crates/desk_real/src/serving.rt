@@ -31,7 +31,7 @@ const TOKEN_BYTES: usize = 16;
 /// if it had no time for that, whatever has the run's variable.
 ///
 /// # Errors
-/// The limits aren't right, there is no port, or no random bytes; or memory is wanting.
+/// The limits aren't right, there is no port, or no random bytes; or memory runs out.
 pub fn serve_desk<
     R: Net + Processes + RandomSource + Clock + Copy + Drop,
     P: Read + AsRawFd + Drop,
@@ -84,7 +84,7 @@ const STOP_ALL: &str = "for time in 1 2 3 4 5; do
   sleep 0.2
 done";
 
-// Ends the command, whose process the parent had no time to name: it has just begun.
+// Ends the command, whose process the parent had no time to name: it began only now.
 fn stop_unnamed<R: Processes>(rt: &R, alloc: Global, port: u16, token: &str) -> io::Result<()> {
     let value = variable_text(alloc, port, token)?;
     run_script(

@@ -89,7 +89,7 @@ fn own_command<R: Files + Env>(rt: &R, alloc: Global) -> io::Result<Command> {
     Ok(command)
 }
 
-// Where the desk is, as it says on its standard output.
+// The place of the desk, as it says on its standard output.
 fn read_place<P: OpenProcess>(child: &mut Child<P>, alloc: Global) -> io::Result<Option<String>> {
     let Some(mut stdout) = child.stdout.take() else {
         return Ok(None);

@@ -2,7 +2,7 @@
 
 use std::alloc::{AllocError, Global};
 
-/// Where the desk of a shared run is, and how it knows its callers.
+/// The place of the desk of a shared run, and how it knows its callers.
 #[derive(Clone, Copy, Debug)]
 pub struct SharedRun<'a> {
     /// The port at 127.0.0.1.

@@ -1,4 +1,4 @@
--- What the desk is told of its connections, and what they are told by it.
+-- What the desk hears from its connections, and what it says to them.
 use Rattle.std.specs.Prelude.{◌≡◌, ℕ, Bool, true, false, List, [], ◌∷◌, ◌++◌, if◌then◌else◌, Option, Some, None, is_some, find}
 use Rattle.std.specs.List.{cons_option, list_any}
 use Rattle.edge_traits.specs.Told.{Grew, Told}
@@ -26,7 +26,7 @@ ask_event caller (Some asking.Hosts) = Some (Ask caller)
 ask_event caller (Some asking.Local) = Some (AskLocal caller)
 ask_event caller (Some asking.Within) = Some (AskWithin caller)
 
--- of a caller that has a loan: it ends it; by a line that tells nothing it is lost
+-- of a caller that has a loan: it ends it; by a line that reports nothing it is lost
 abbrev pub end_event : ℕ → ℕ → Option Telling → Event
 end_event caller now None = Lost caller
 end_event caller now (Some telling.Done) = Done caller
@@ -115,7 +115,7 @@ abbrev pub IsFair : {h : ℕ} → Rules h → List ℕ → Bool → State h → 
 IsFair r token due v [] = Unit {0}
 IsFair r token due v (t ∷ ts) = MayCome due t × IsFair r token (due_then r token v t) (state_then r token v t) ts
 
--- The desk was fed with exactly the events that its connections gave, and they were told exactly what it answers
+-- The desk was fed with exactly the events that its connections gave, and exactly its answers were sent to them
 pub record Served {h : ℕ} (r : Rules h) (token : List ℕ) (v v' : State h) (log log' : Told (List Entry)) : Type 0 where
   pub turns : List Turn
   pub state : v' ≡ after r v (events_in r token v turns)

@@ -8,7 +8,7 @@ use slot_desk::Reply;
 /// What comes from the connections. Moments are in seconds, of one clock.
 #[derive(Drop)]
 pub enum Came {
-    /// A caller's line, without its line feed. Callers have numbers, of which none is used again.
+    /// A caller's line, without its line feed. Callers have numbers, and none is used again.
     Line {
         caller: u32,
         line: Vec<u8>,
@@ -36,7 +36,7 @@ pub trait Callers {
     fn next(&mut self) -> Came
         ensures came { Grew (log self.old) (log self.new) (came_entries result) };
 
-    /// Tells a caller what the desk answers.
+    /// Says to a caller what the desk answers.
     fn answer(&mut self, reply: Reply)
         ensures told { Grew (log self.old) (log self.new) (reply_entries reply) };
 

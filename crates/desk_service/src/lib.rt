@@ -1,4 +1,4 @@
-//! The service of a shared run's desk: what its callers' connections say is what it is fed with, and what it answers is what they are told.
+//! The service of a shared run's desk: it is fed with what its callers' connections say, and its answers are sent to them.
 #![tactic(auto)]
 
 mod callers;

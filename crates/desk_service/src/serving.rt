@@ -101,8 +101,8 @@ fn look<const H: usize, C: Callers>(desk: &mut Desk<H>, callers: &mut C, now: u6
     matches!(reply, Reply::Lent(_))
 }
 
-/// Serves a desk's callers until the command has ended. The desk is fed with exactly what they say, and they are told exactly what it answers; after
-/// each thing that comes, everybody is given a place who can be given one.
+/// Serves a desk's callers until the command has ended. The desk is fed with exactly what they say, and exactly its answers are sent to
+/// them. After each thing that comes, everybody is given a place who can be given one.
 pub fn serve<const H: usize, C: Callers>(desk: &mut Desk<H>, greetings: &Greetings, callers: &mut C)
     ensures rules { desk.new.rules ≡ desk.old.rules }
     ensures served { Served desk.old.rules (string_bytes greetings.now.token) desk.old.state desk.new.state (C.log callers.old) (C.log callers.new) }

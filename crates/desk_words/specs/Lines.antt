@@ -29,14 +29,14 @@ abbrev pub told_line : Told → List ℕ
 told_line Done = codes "done"
 told_line Broke = codes "broke"
 
--- what a line tells
+-- what a line reports
 abbrev pub told_named : List ℕ → Option Told
 told_named line =
     if bytes_eq line (told_line Done) then Some Done
     else (if bytes_eq line (told_line Broke) then Some Broke
     else None)
 
--- an answer without where its text lies
+-- an answer without the place in memory of its text
 pub data Answered : Type 0 where
   Host : List ℕ → Answered
   Here : Answered

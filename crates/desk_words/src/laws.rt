@@ -11,12 +11,12 @@ pub fn only_greetings_are_read()
     ensures { OnlyGreetingsAreRead }
 {}
 
-/// What a caller tells is read again.
+/// What a caller reports is read again.
 pub fn tales_are_read()
     ensures { TalesAreRead }
 {}
 
-/// No other line tells anything.
+/// No other line reports anything.
 pub fn only_tales_are_read()
     ensures { OnlyTalesAreRead }
 {}

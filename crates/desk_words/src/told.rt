@@ -1,4 +1,4 @@
-//! What a caller tells at its end.
+//! What a caller reports at its end.
 ghost use Rattle.std.specs.Prelude.{◌≡◌, Some};
 ghost use Rattle.desk_words.specs.Lines.{told_line, told_named};
 
@@ -11,7 +11,7 @@ pub enum Told {
     Broke,
 }
 
-/// The line that tells it.
+/// The line that reports it.
 pub fn told_text(told: Told) -> &'static str
     ensures { result.now ≡ told_line told }
 {
@@ -21,7 +21,7 @@ pub fn told_text(told: Told) -> &'static str
     }
 }
 
-/// What a line tells.
+/// What a line reports.
 pub fn parse_told(line: &[u8]) -> Option<Told>
     ensures named { result ≡ told_named line.now }
 {

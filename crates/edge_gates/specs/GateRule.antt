@@ -1,4 +1,4 @@
--- What the users of a gate know, the rule that ties it to how many have asked, and what each kind of step tells.
+-- What the users of a gate know, the rule that ties it to how many have asked, and what each kind of step shows.
 use Rattle.std.specs.Prelude.{◌≡◌, ℕ, ◌+◌, ◌-◌, ◌≤◌, min, Bool, true, false, List, count_by}
 use mathlib.Core.Option.{some}
 use lib.ListN.{get_elem?}
@@ -8,7 +8,7 @@ use Rattle.edge_gates.specs.declared.asked.Place.{Place}
 use Rattle.edge_gates.specs.declared.asked.Place.TheVariants.{NotYet, First, Later}
 use Rattle.edge_gates.specs.declared.asked.GateView.{GateView}
 
--- so many at least
+-- at least this many users have asked
 abbrev pub number_of : Asked → ℕ
 number_of Nobody = 0
 number_of One = 1
@@ -30,7 +30,7 @@ is_first v = is_first_place v.place
 abbrev pub is_later : GateView → Bool
 is_later v = is_later_place v.place
 
--- how often a user looks that is held and gives up: once, and then behind each of 1,000,000 turns
+-- how often a user that is held and gives up looks: once, and then after each of 1,000,000 turns
 abbrev pub held_looks : ℕ
 held_looks = 1000001
 
@@ -38,8 +38,8 @@ held_looks = 1000001
 abbrev pub newcomer : GateView
 newcomer = record { place = NotYet; seen = Nobody; looks = 0 }
 
--- One user is the first where somebody has asked, and none is where nobody has. Some user came later where several have asked, and
--- none did elsewhere. No user has seen that more had asked than have
+-- Exactly one user is the first if somebody has asked, and none if nobody has. Some user came later if several have asked, and
+-- otherwise none did. No user has seen that more had asked than have
 pub record KeptAt (asked : Asked) (views : List GateView) : Type 0 where
   pub first : count_by is_first views ≡ min (number_of asked) 1
   pub later : min (count_by is_later views) 1 ≡ number_of asked - 1
@@ -49,7 +49,7 @@ pub record KeptAt (asked : Asked) (views : List GateView) : Type 0 where
 abbrev pub LooksAt : GateView → Asked → Asked → GateView → Type 0
 LooksAt v before after w = w ≡ record { place = v.place; seen = after; looks = v.looks + 1 }
 
--- the user is the first to ask, where nobody had; elsewhere it sees how many had
+-- the user is the first to ask if nobody had; otherwise it sees how many had
 abbrev pub first_asked : GateView → Asked → GateView
 first_asked v Nobody = record { place = First; seen = One; looks = v.looks }
 first_asked v One = record { place = v.place; seen = One; looks = v.looks }

@@ -5,7 +5,7 @@ use Rattle.crossbeam_utils.specs.Seq.{cell_view}
 use Rattle.edge_gates.specs.declared.asked.GateView.{GateView}
 use Rattle.edge_gates.specs.declared.gate.Gate.{Gate}
 
--- the gate's name, which tells it from every other gate
+-- the gate's name, which no other gate has
 abbrev pub name_of : {R : Type 0} → Gate R → TableId
 name_of gate = (arc_value gate.asked).table.shared.table_id
 

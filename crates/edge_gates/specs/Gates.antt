@@ -55,11 +55,11 @@ dialer_user dialer = view_of dialer.gate
 abbrev pub given_of : {R : Type 0} → GateLink R → ℕ
 given_of link = link.at
 
--- how many bytes the next receive into so much room gives, where it isn't held
+-- how many bytes the next receive into this much room gives, if it isn't held
 abbrev pub next_given : {R : Type 0} → GateLink R → ℕ → ℕ
 next_given link room = min room (length gate_reply - given_of link)
 
--- what a link tells: what it gave, but not what was sent
+-- what a link shows: what it gave, but not what was sent
 abbrev pub gate_link_view : {R : Type 0} → GateLink R → LinkView
 gate_link_view link = record {
   origin = record { host = link.host; port = link.port };
@@ -70,7 +70,7 @@ gate_link_view link = record {
   faults = link.faults;
 }
 
--- what its dialer tells, which never fails
+-- what its dialer shows, which never fails
 abbrev pub gate_dialer_view : DialerView
 gate_dialer_view = record { exchanges = untold []; faults = 0 }
 
@@ -78,11 +78,11 @@ gate_dialer_view = record { exchanges = untold []; faults = 0 }
 abbrev pub any_exchange : List ℕ → List ℕ → Type 0
 any_exchange sent given = ⊤
 
--- what a station tells
+-- what a station shows
 abbrev pub gate_station_view : {R : Type 0} → GateStation R → StationView
 gate_station_view station = record { runs = untold []; faults = station.faults; overruns = 0 }
 
--- what a station's run does: it waits for a run of the other one, the other one waits for it, or it has to be alone
+-- what a station's run does: it waits for a run of the other one, the other one waits for it, or it has to run by itself
 pub data Role : Type 0 where
   Waiting : Role
   Awaited : Role

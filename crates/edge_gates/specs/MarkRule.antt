@@ -1,4 +1,4 @@
--- What the users of a mark know, the rule that ties it to the mark, and what each kind of step tells.
+-- What the users of a mark know, the rule that ties it to the mark, and what each kind of step shows.
 use Rattle.std.specs.Prelude.{◌≡◌, ℕ, Bool, true, false, List, [], ◌∷◌, ◌++◌, count_by}
 use Rattle.edge_gates.specs.declared.marked.Marked.{Marked}
 use Rattle.edge_gates.specs.declared.marked.Marked.TheVariants.{Clear, Set}
@@ -17,11 +17,11 @@ is_inside v = v.inside
 abbrev pub outsider : MarkView
 outsider = record { inside = false; turns = [] }
 
--- one user is inside where the mark is set, and none where it is clear
+-- exactly one user is inside if the mark is set, and none if it is clear
 abbrev pub KeptAt : Marked → List MarkView → Type 0
 KeptAt marked views = count_by is_inside views ≡ marks_of marked
 
--- the user enters where the mark was clear, and is refused where it was set
+-- the user enters if the mark was clear, and is refused if it was set
 abbrev pub tried : MarkView → Marked → MarkView
 tried v Clear = record { inside = true; turns = v.turns ++ Entered ∷ [] }
 tried v Set = record { inside = v.inside; turns = v.turns ++ Refused ∷ [] }

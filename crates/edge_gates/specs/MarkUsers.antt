@@ -5,7 +5,7 @@ use Rattle.crossbeam_utils.specs.Seq.{cell_view}
 use Rattle.edge_gates.specs.declared.marked.MarkView.{MarkView}
 use Rattle.edge_gates.specs.declared.mark.Mark.{Mark}
 
--- the mark's name, which tells it from every other mark
+-- the mark's name, which no other mark has
 abbrev pub name_of : {R : Type 0} → Mark R → TableId
 name_of mark = (arc_value mark.marked).table.shared.table_id
 

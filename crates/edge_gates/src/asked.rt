@@ -14,7 +14,7 @@ pub enum Asked {
 }
 
 impl Asked {
-    /// So many at least: 0, 1 or 2.
+    /// At least this many have asked: 0, 1 or 2.
     pub(crate) fn number(self) -> u64
         ensures { result ≡ number_of self }
     {
@@ -81,7 +81,7 @@ impl Outcome<Asked, GateView> for Looks {
     ghost then = { LooksAt };
 }
 
-/// The user asks, where nobody has. Where somebody has, it sees so.
+/// The user asks if nobody has. If somebody has, it sees so.
 pub struct AsksFirst;
 
 impl Outcome<Asked, GateView> for AsksFirst {
@@ -90,7 +90,7 @@ impl Outcome<Asked, GateView> for AsksFirst {
     ghost then = { AsksFirstAt };
 }
 
-/// The user asks, where somebody else has.
+/// The user asks after somebody else has.
 pub struct AsksLater;
 
 impl Outcome<Asked, GateView> for AsksLater {

@@ -99,7 +99,7 @@ impl<'a, R: Wait> Link for GateLink<'a, R> {
 }
 
 /// Dials peers that all give one reply, of status 0. Two dialers share a gate, which holds the reply of the first of
-/// their exchanges until a second one's request is whole. So both are given their replies only where they run at the
+/// their exchanges until a second one's request is whole. So both are given their replies only if they run at the
 /// same time.
 ///
 /// A request counts as whole at the first receive on its link, before which the whole of it has to be sent. The first
@@ -115,7 +115,7 @@ impl<'a, R: Wait> GateDialer<'a, R> {
     ghost use Rattle.edge_gates.specs.GateRule.{newcomer};
     ghost use Rattle.edge_gates.specs.Gates.{dialer_gate, dialer_user};
 
-    /// Two dialers with one gate, at which nobody has asked. It alone takes memory beside `dial`.
+    /// Two dialers with one gate, at which nobody has asked. Only it and `dial` take memory.
     pub fn pair(
         rt: &'a R,
         alloc: Global,

@@ -68,7 +68,7 @@ impl<'a, R: Wait> Gate<'a, R> {
         })
     }
 
-    /// The user asks, where it hasn't.
+    /// The user asks, if it hasn't yet.
     pub(crate) fn ask(&mut self)
         ensures one { name_of self.new ≡ name_of self.old }
         ensures asked { (view_of self.new).place ≢ NotYet }
@@ -87,7 +87,7 @@ impl<'a, R: Wait> Gate<'a, R> {
         self.place == Place::First
     }
 
-    /// Asks where the user hasn't, and waits for a second user where it was the first. Answers whether it needn't wait
+    /// Asks if the user hasn't yet, and waits for a second user if it was the first. Returns whether it needn't wait
     /// any longer.
     pub(crate) fn is_let_through(&mut self) -> bool
         ensures one { name_of self.new ≡ name_of self.old }
@@ -105,7 +105,7 @@ impl<'a, R: Wait> Gate<'a, R> {
         self.wait_for(Asked::Several)
     }
 
-    /// Lets other threads run until so many have asked, 1,000,000 times at most, and answers whether they have.
+    /// Lets other threads run until `least` have asked, 1,000,000 times at most, and returns whether they have.
     pub(crate) fn wait_for(&mut self, least: Asked) -> bool
         ensures one { name_of self.new ≡ name_of self.old }
         ensures place { (view_of self.new).place ≡ (view_of self.old).place }
@@ -145,7 +145,7 @@ fn look<R: Wait>(rt: &R, asked: &SharedAsked, pass: &mut Pass<Asked, GateView>) 
     asked.load_as::<Looks, R>(rt, pass)
 }
 
-/// Lets other threads run until so many have asked, 1,000,000 times at most, and answers whether they have.
+/// Lets other threads run until `least` have asked, 1,000,000 times at most, and returns whether they have.
 fn wait_until<R: Wait>(
     rt: &R,
     asked: &SharedAsked,

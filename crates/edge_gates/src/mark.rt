@@ -50,7 +50,7 @@ impl<'a, R: Wait> Mark<'a, R> {
         Ok((first, second))
     }
 
-    /// Enters, lets other threads run 100,000 times and leaves, where the mark is clear. Answers whether it was.
+    /// If the mark is clear: enters, lets other threads run 100,000 times and leaves. Returns whether it was clear.
     pub(crate) fn run_alone(&mut self) -> bool
         ensures one { name_of self.new ≡ name_of self.old }
         ensures turn { (view_of self.new).turns ≡ (view_of self.old).turns ++ turn_of result ∷ [] }
@@ -59,7 +59,7 @@ impl<'a, R: Wait> Mark<'a, R> {
     }
 }
 
-/// Enters, lets other threads run 100,000 times and leaves, where the mark is clear. Answers whether it was.
+/// If the mark is clear: enters, lets other threads run 100,000 times and leaves. Returns whether it was clear.
 fn stay<R: Wait>(rt: &R, marked: &SharedMarked, pass: &mut Pass<Marked, MarkView>) -> bool
     requires cell { pass.old.table_id ≡ marked.now.table.shared.table_id }
     requires outside { (cell_view pass.old).inside ≡ false }
@@ -77,7 +77,7 @@ fn stay<R: Wait>(rt: &R, marked: &SharedMarked, pass: &mut Pass<Marked, MarkView
     true
 }
 
-/// Enters where the mark is clear, and answers whether it was.
+/// Enters if the mark is clear, and returns whether it was.
 fn enter<R: Wait>(rt: &R, marked: &SharedMarked, pass: &mut Pass<Marked, MarkView>) -> bool
     requires cell { pass.old.table_id ≡ marked.now.table.shared.table_id }
     requires outside { (cell_view pass.old).inside ≡ false }

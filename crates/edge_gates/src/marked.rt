@@ -67,7 +67,7 @@ impl Protocol<Marked, MarkView> for OneInside {
     ghost first = { outsider };
 }
 
-/// The user enters where the mark is clear, and is refused where it is set.
+/// The user enters if the mark is clear, and is refused if it is set.
 pub struct Enters;
 
 impl Outcome<Marked, MarkView> for Enters {

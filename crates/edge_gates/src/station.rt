@@ -13,7 +13,7 @@ enum Part<'a, R> {
     Waits(Gate<'a, R>),
     // The other one waits for it.
     IsAwaited(Gate<'a, R>),
-    // It has to be alone.
+    // It has to run by itself.
     Alone(Mark<'a, R>),
 }
 
@@ -31,7 +31,7 @@ impl<'a, R: Wait> GateStation<'a, R> {
     ghost use Rattle.edge_gates.specs.MarkRule.{outsider};
     ghost use Rattle.edge_gates.specs.Gates.{Waiting, Awaited, Alone, gate_station_view, part_of, unused_station, shared_of, asked_of, tried_of};
 
-    /// Two stations, of which the first waits in its run until a run of the second was called. It lets other threads
+    /// Two stations. The first waits in its run until a run of the second was called. It lets other threads
     /// run, 1,000,000 times at most, and then fails. A run of the second doesn't fail.
     pub fn pair(
         rt: &'a R,

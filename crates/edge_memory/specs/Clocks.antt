@@ -13,6 +13,6 @@ pub record ClockState : Type 0 where
 abbrev pub clock_state : MemClock → ClockState
 clock_state clock = record { moments = clock.moments; given = clock.given }
 
--- What it tells: the moments of its calls. Once the count stands still, nothing is told any more.
+-- What it shows: the moments of its calls. Once the count is the greatest u64, they are no longer told.
 abbrev pub clock_shows : ClockState → ClockView
 clock_shows state = record { moments = record { known = nat_lt state.given greatest; value = moments_of state.moments state.given } }

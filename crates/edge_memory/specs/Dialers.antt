@@ -29,12 +29,12 @@ dialer_state dialer = record {
   exchanges = dialer.exchanges;
 }
 
--- what it tells
+-- what it shows
 abbrev pub dialer_shows : DialerState → DialerView
 dialer_shows dialer = record { exchanges = told dialer.exchanges; faults = failed_calls dialer.fails dialer.made }
 
--- The next dial may answer this. One that isn't to fail gives a link of the next script, or one that ends at once where the scripts
--- are used up. Each dial may want memory, since its entry takes some.
+-- The next dial may return this. One that isn't to fail gives a link of the next script, or one that ends at once if the scripts
+-- are used up. Each dial may run out of memory, since its entry takes some.
 abbrev pub IsDialAnswer : DialerState → HostName → ℕ → Result MemLink EdgeFault → Type 0
 IsDialAnswer dialer host port (Ok link) = (names_next dialer.fails dialer.made ≡ false)
     × (link_state link ≡ new_link (first_or ends_at_once dialer.links) (record { host = host; port = port }) true false)
@@ -46,7 +46,7 @@ abbrev pub links_after : {L : Type 0} → List LinkScript → Result L EdgeFault
 links_after links (Ok link) = drop 1 links
 links_after links (Err fault) = links
 
--- how many dials there were after one: one that wanted memory doesn't count, and its number is the next one's
+-- how many dials there were after one: one that ran out of memory doesn't count, and its number is the next one's
 abbrev pub dials_after : {L : Type 0} → ℕ → Result L EdgeFault → ℕ
 dials_after made (Ok link) = one_more made
 dials_after made (Err Failed) = one_more made

@@ -35,12 +35,12 @@ keeper_state keeper = record {
   pending = keeper.pending;
 }
 
--- what a pending put tells, which is all of it
+-- what a pending put shows, which is all of it
 abbrev pub pending_of : Option Put → Option PendingPut
 pending_of (Some put) = Some (record { path = put.path; bytes = told put.bytes })
 pending_of None = None
 
--- what it tells
+-- what it shows
 abbrev pub keeper_shows : KeeperState → KeeperView
 keeper_shows keeper = record {
   files = told keeper.files;
@@ -92,8 +92,8 @@ pub record IsHeld (keeper : KeeperState) (path : List ℕ) (bound : ℕ) (bytes 
   pub there : get keeper.files path ≡ Some bytes
   pub within : length bytes ≤ bound
 
--- The next fetch may answer this. The script alone decides which fetches fail; of the others only one that has a file to give may
--- want memory.
+-- The next fetch may return this. Only the script decides which fetches fail. Of the others only one that has a file to give may
+-- run out of memory.
 abbrev pub IsFetchAnswer : KeeperState → List ℕ → ℕ → Result (List ℕ) FetchFault → Type 0
 IsFetchAnswer keeper path bound (Ok bytes) = (names_next keeper.fails keeper.made ≡ false) × IsHeld keeper path bound bytes
 IsFetchAnswer keeper path bound (Err Failed) = names_next keeper.fails keeper.made ≡ true

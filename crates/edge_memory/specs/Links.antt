@@ -54,7 +54,7 @@ new_link script origin may_hang_up may_leave = record {
   may_leave = may_leave;
 }
 
--- what it tells
+-- what it shows
 abbrev pub link_shows : LinkState → LinkView
 link_shows link = record {
   origin = link.origin;

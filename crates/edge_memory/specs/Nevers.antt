@@ -21,7 +21,7 @@ use Rattle.edge_memory.specs.Keepers.{KeeperState, keeper_state, keeper_shows}
 use Rattle.edge_memory.specs.Sources.{SourceState, source_state, source_shows}
 use Rattle.edge_memory.specs.Sinks.{SinkState, sink_state, sink_shows}
 
--- what each device is in, and what it tells
+-- what each device is in, and what it shows
 abbrev pub never_link_state : MemNeverLink → LinkState
 never_link_state link = link_state link.inner
 

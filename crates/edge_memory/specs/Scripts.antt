@@ -3,7 +3,7 @@ use Rattle.std.specs.Prelude.{List, [], ◌∷◌}
 use Rattle.edge_memory.specs.declared.script.Moves.{Moves}
 use Rattle.edge_memory.specs.declared.script.LinkScript.{LinkScript}
 
--- the first element, or another value where there is none
+-- the first element, or another value if there is none
 abbrev pub first_or : {T : Type 0} → T → List T → T
 first_or other [] = other
 first_or other (x ∷ xs) = x

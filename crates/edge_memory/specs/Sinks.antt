@@ -23,7 +23,7 @@ sink_state sink = record {
   stopped = sink.stopped;
 }
 
--- what it tells
+-- what it shows
 abbrev pub sink_shows : SinkState → SinkView
 sink_shows sink = record { written = told sink.written; stopped = sink.stopped; faults = failed_calls sink.moves.fails sink.made }
 

@@ -32,7 +32,7 @@ source_state source = record {
 abbrev pub left_of : SourceState → List ℕ
 left_of source = drop source.given source.text
 
--- what it tells
+-- what it shows
 abbrev pub source_shows : SourceState → SourceView
 source_shows source = record {
   read = told (take source.given source.text);
@@ -41,7 +41,7 @@ source_shows source = record {
   faults = failed_calls source.fails source.made;
 }
 
--- what the next read answers, into a room of so many bytes
+-- what the next read returns, into a room of this many bytes
 abbrev pub read_answer : SourceState → ℕ → Result ℕ EdgeFault
 read_answer source limit =
     if names_next source.fails source.made then Err Failed else Ok (min (min limit (length (left_of source))) source.most)

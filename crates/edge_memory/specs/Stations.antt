@@ -33,15 +33,15 @@ station_state station = record {
   runs = station.runs;
 }
 
--- what it tells
+-- what it shows
 abbrev pub station_shows : StationState → StationView
 station_shows station = record { runs = told station.runs; faults = failed_calls station.fails station.made; overruns = station.overruns }
 
--- the run as these words leave it: with no object where no word stands for it
+-- the run as these words leave it: without an object if the words have no output
 abbrev pub as_left : List Word → Ran → Ran
 as_left words ran = if has_output words then ran else record ran { object = [] }
 
--- the run that is next, which is one of status 0 with nothing in it where the script is used up
+-- the run that is next, which is one of status 0 with nothing in it if the script is used up
 abbrev pub next_ran : StationState → List Word → Ran
 next_ran station words = as_left words (first_or nothing_ran station.rans)
 
@@ -53,7 +53,7 @@ first_over bounds ran =
     else if nat_lt bounds.object (length ran.object) then Some (Object, length ran.object)
     else None
 
--- The next run may answer this. The script alone decides which runs fail and which are above a bound; of the others one may want memory.
+-- The next run may return this. Only the script decides which runs fail and which are above a bound. Any of the others may run out of memory.
 abbrev pub IsRunAnswer : StationState → List Word → Bounds → Result Ran StationFault → Type 0
 IsRunAnswer station words bounds (Ok ran) = (names_next station.fails station.made ≡ false)
     × (first_over bounds (next_ran station words) ≡ None) × (ran ≡ next_ran station words)

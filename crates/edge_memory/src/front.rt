@@ -7,7 +7,7 @@ use edge_traits::CallNumbers;
 use farm_types::Bytes;
 use std::alloc::Global;
 
-/// Takes the first element out. Where there is none, it gives the other value.
+/// Takes the first element out. If there is none, it gives the other value.
 pub fn take_first_or<T: Drop>(script: &mut Vec<T>, other: T) -> T
     ensures first { result ≡ first_or other script.old.items }
     ensures rest { script.new.items ≡ drop 1 script.old.items }

@@ -69,7 +69,7 @@ impl MemLink {
         }
     }
 
-    /// The same link before any call, where no call fails.
+    /// The same link before any call, if no call fails.
     pub(crate) fn without_fails(self) -> MemLink
         ensures { link_state result ≡ record (link_state self) { script = never_script (link_state self).script; made = 0 } }
     {

@@ -4,7 +4,7 @@ ghost use Rattle.edge_memory.specs.Moving.{next_size};
 
 use edge_traits::{CallNumbers, Calls};
 
-/// How many bytes the next call moves, where so many could be moved.
+/// How many bytes the next call moves, if `limit` bytes could be moved.
 pub fn next_count(calls: &Calls, zeros: &CallNumbers, most: u32, limit: usize) -> usize
     ensures { result ≡ next_size zeros.now most calls.now.made limit }
 {
@@ -15,7 +15,7 @@ pub fn next_count(calls: &Calls, zeros: &CallNumbers, most: u32, limit: usize) -
     }
 }
 
-/// Puts the piece in front of the room.
+/// Puts the piece at the front of the room.
 pub fn put_front(room: &mut [u8], piece: &[u8])
     requires { length piece.now ≤ length room.old }
     ensures { take (length piece.now) room.new ≡ piece.now }

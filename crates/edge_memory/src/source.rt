@@ -20,7 +20,7 @@ impl MemSource {
     ghost use Rattle.std.specs.Prelude.{◌≡◌, ◌<◌, false};
     ghost use Rattle.edge_memory.specs.Sources.{source_state};
 
-    /// A source of this text, of which one read gives at most so many bytes. It takes no memory.
+    /// A source of this text, of which one read gives at most `most` bytes. It takes no memory.
     pub fn new(text: Bytes, fails: CallNumbers, most: u32) -> MemSource
         requires { 0 < most }
         ensures { source_state result ≡ record { text = text; fails = fails; most = most; made = 0; given = 0; ended = false } }

@@ -56,7 +56,7 @@ fn copy_first(alloc: Global, rans: &[Ran]) -> Result<Ran, AllocError>
     }
 }
 
-/// The run as these words leave it: with no object where no word stands for it.
+/// The run as these words leave it: without an object if the words have no output.
 fn as_left(alloc: Global, words: &[Word], mut ran: Ran) -> Ran
     ensures { result ≡ as_left words.now ran }
 {

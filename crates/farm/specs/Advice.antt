@@ -1,4 +1,4 @@
--- What is told of words that are no command.
+-- What is printed about words that are no command.
 use Rattle.std.specs.Prelude.{ℕ, zero, suc, ◌||◌, Bool, List, [], ◌∷◌, length, codes, bytes_eq, nat_lt, if◌then◌else◌}
 use Rattle.farm.specs.declared.advice.Advice.{Advice}
 use Rattle.farm.specs.declared.advice.Advice.TheVariants.{NoCommand, HelpByOption, UnknownCommand, BehindOption, MissingWord}

@@ -1,4 +1,4 @@
--- What the faults of host lists, job lists and lines of needs are told as.
+-- What is printed for the faults of host lists, job lists and lines of needs.
 use Rattle.std.specs.Prelude.{ℕ, List, codes}
 use Rattle.host_list.specs.declared.fault.HostFault.{HostFault}
 use Rattle.host_list.specs.declared.fault.HostFault.TheVariants as host

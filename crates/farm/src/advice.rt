@@ -1,9 +1,9 @@
-//! What is told of words that are no command.
+//! What is printed about words that are no command.
 
 ghost use Rattle.std.specs.Prelude.{◌≡◌, map, string_bytes};
 ghost use Rattle.farm.specs.Advice.{advice_on, asks_for_help, behind_option, first_advice};
 
-/// What is told of words that are no command.
+/// What is printed about words that are no command.
 #[derive(Clone, Copy, Debug, PartialEq, Eq)]
 pub enum Advice {
     /// There is no word.
@@ -12,7 +12,7 @@ pub enum Advice {
     HelpByOption,
     /// The first word is no command.
     UnknownCommand,
-    /// `--help` and `--version` are alone, or `--help` after a command.
+    /// `--help` and `--version` are used by themselves, or `--help` after a command.
     BehindOption,
     /// A word is missing at the end.
     MissingWord,
@@ -20,7 +20,7 @@ pub enum Advice {
     UnfitWord,
 }
 
-/// What is told of words of which the one at this place doesn't fit.
+/// What is printed about words if the one at this place doesn't fit.
 pub fn advice_on(words: &[String], place: usize) -> Advice
     ensures { result ≡ advice_on (map string_bytes words.now) place }
 {
@@ -40,7 +40,7 @@ pub fn advice_on(words: &[String], place: usize) -> Advice
     }
 }
 
-// What is told of a first word that is no command.
+// What is printed about a first word that is no command.
 fn first_advice(word: &str) -> Advice
     ensures { result ≡ first_advice word.now }
 {

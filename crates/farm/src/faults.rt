@@ -1,4 +1,4 @@
-//! What the faults of host lists, job lists and lines of needs are told as.
+//! What is printed for the faults of host lists, job lists and lines of needs.
 
 ghost use Rattle.std.specs.Prelude.{◌≡◌};
 ghost use Rattle.farm.specs.Faults.{host_reason, job_reason, needs_reason};

@@ -1,4 +1,4 @@
-// What a refusal is told as in plain words, on the standard error, behind the line that has its numbers.
+// What is printed for a refusal in plain words, on the standard error, after the line that has its numbers.
 use crate::advice::{Advice, advice_on};
 use crate::faults::{host_reason, job_reason, needs_reason};
 use farm_program::Refusal;
@@ -17,7 +17,7 @@ pub struct Given<'a> {
     pub variables: &'a [(String, String)],
 }
 
-/// Tells why this was refused.
+/// Prints why this was refused.
 pub fn tell_refusal<R: Eprint>(rt: &R, given: Given<'_>, refusal: &Refusal) {
     match refusal {
         Refusal::Words { place } => tell_words(rt, given.words, *place),
@@ -66,7 +66,7 @@ fn tell_words<R: Eprint>(rt: &R, words: &[String], place: usize) {
     };
 }
 
-/// Tells which word of `farm share` doesn't fit, or that one is missing.
+/// Prints which word of `farm share` doesn't fit, or that one is missing.
 pub fn tell_bad_share<R: Eprint>(rt: &R, word: Option<&String>) {
     let _ = match word {
         Some(word) => {
@@ -87,7 +87,7 @@ fn tell_period<R: Eprint>(rt: &R, variables: &[(String, String)]) {
     );
 }
 
-// The text of the option `--hosts`, where the command has it.
+// The text of the option `--hosts`, if the command has it.
 fn hosts_option<'a>(command: Option<Command<'a>>) -> Option<&'a str> {
     match command {
         Some(Command::Build(options) | Command::Watch(options) | Command::Graph(options)) => {
@@ -98,7 +98,7 @@ fn hosts_option<'a>(command: Option<Command<'a>>) -> Option<&'a str> {
     }
 }
 
-// Tells a fault of the host list, by the word that has it.
+// Prints a fault of the host list, by the word that has it.
 fn tell_hosts<R: Eprint>(rt: &R, given: Given<'_>, at: u64, fault: HostFault) {
     let option = given.hosts.or(hosts_option(given.command));
     let text = host_text(option, given.variables).as_bytes();
@@ -111,7 +111,7 @@ fn tell_hosts<R: Eprint>(rt: &R, given: Given<'_>, at: u64, fault: HostFault) {
     let _ = eprintln!(rt; "farm: {word} of {origin}: {}", host_reason(fault));
 }
 
-// Tells why a line of the job list is wrong, or the whole list, which is line 0.
+// Prints why a line of the job list is wrong, or the whole list, which is line 0.
 fn tell_line<R: Eprint>(rt: &R, list: &[u8], line: u32, reason: &str) {
     let _ = if line == 0 {
         eprintln!(rt; "farm: {reason}")
@@ -123,7 +123,7 @@ fn tell_line<R: Eprint>(rt: &R, list: &[u8], line: u32, reason: &str) {
     };
 }
 
-/// Tells a line of the job list that ends with CR LF, since the CR is a part of the line.
+/// Prints that a line of the job list ends with CR LF, since the CR is a part of the line.
 pub fn tell_carriage_return<R: Eprint>(rt: &R, line: u32) {
     let _ = eprintln!(rt;
         "farm: line {line} of the job list ends with CR LF: the CR is a part of its last word"

@@ -17,7 +17,7 @@ use std::thread::Threads;
 /// How many milliseconds a pause lasts between two looks at how far a build has come; a line follows after 100 of them.
 const LOOK_MILLIS: u64 = 10;
 
-/// How many milliseconds a pause of the last kit's clock lasts: on that clock the lines which tell of a build wait for one another.
+/// How many milliseconds a pause of the last kit's clock lasts: on that clock the lines which show a build wait for one another.
 fn last_pause(words: &[String]) -> u64 {
     if is_watched(words) {
         LOOK_MILLIS

@@ -13,7 +13,7 @@ pub const FALLBACK: &str = "DISTCC_FALLBACK";
 /// The variables that `farm` reads.
 const VARIABLES: [&str; 3] = [HOSTS, FALLBACK, "DISTCC_BACKOFF_PERIOD"];
 
-/// The text of the host list, which begins elsewhere for each process if it has `--randomize`.
+/// The text of the host list, which begins at another entry for each process if it has `--randomize`.
 fn turned_for(rt: &HostRuntime, text: String) -> Result<String, AllocError> {
     let share = spread(process::id(rt.process()));
     let bytes = turned(rt.alloc(), text.as_bytes(), share)?;
@@ -38,7 +38,7 @@ pub fn variables_of(
     Ok(variables)
 }
 
-/// What is told of exchanges with hosts.
+/// What is printed about exchanges with hosts.
 pub fn notices_of(rt: &HostRuntime) -> Result<Notices, AllocError> {
     let value = variable(rt, "FARM_NOTICES")?;
     Ok(Notices::by(value.as_ref().map(|value| value.as_str())))

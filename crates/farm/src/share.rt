@@ -164,7 +164,7 @@ fn start(
     Ok(command.spawn(rt))
 }
 
-// The command with the variables that tell its compiles of the desk.
+// The command with the variables by which its compiles find the desk.
 fn command_for(
     alloc: Global,
     whole: &Whole<'_>,

@@ -36,7 +36,7 @@ impl SharedSlot {
 }
 
 /// Waits for a slot of this run: a local one if the command is done here anyway. Then the variables have the entry only that was lent, or none. None if the
-/// command goes on without the desk, which is told.
+/// command goes on without the desk, which is printed.
 pub fn share_slot(
     rt: &HostRuntime,
     run: &SharedRun<'_>,
@@ -85,7 +85,7 @@ fn set_hosts(variables: &mut Vec<(String, String)>, text: String) {
     }
 }
 
-// Whether lines that tell of hosts are wanted.
+// Whether lines about hosts are wanted.
 fn is_told(rt: &HostRuntime) -> Result<bool, AllocError> {
     let value = variable(rt, "FARM_NOTICES")?;
     Ok(value.as_ref().map(|value| value.as_str()) != Some("0"))

@@ -24,7 +24,7 @@ fn words_of(rt: &HostRuntime) -> Result<Vec<String>, AllocError> {
     Ok(words)
 }
 
-// Tells that a text of the database ends with a carriage return, as `"gcc -c x.c\r"` does: it is a part of the last word.
+// Prints that a text of the database ends with a carriage return, as `"gcc -c x.c\r"` does: it is a part of the last word.
 fn tell_carriage_return<R: Eprint>(rt: &R, database: &[u8]) {
     let mut last = [0u8; 3];
     for byte in database {
@@ -39,7 +39,7 @@ fn tell_carriage_return<R: Eprint>(rt: &R, database: &[u8]) {
     }
 }
 
-// Runs `farm_jobs` on these words and the standard streams, and answers its exit status.
+// Runs `farm_jobs` on these words and the standard streams, and returns its exit status.
 fn run(rt: &HostRuntime, words: &[String]) -> u8 {
     let mut input = KeptSource::new(
         rt.alloc(),

@@ -9,15 +9,15 @@ stopped_status = 100
 abbrev pub bad_words_status : ℕ
 bad_words_status = 101
 
--- no link to a host came about
+-- no link to a host could be made
 abbrev pub no_link_status : ℕ
 no_link_status = 103
 
--- a wait status that tells of no exit code of its own
+-- a wait status that gives no exit code of its own
 abbrev pub no_code_status : ℕ
 no_code_status = 104
 
--- memory was wanting
+-- memory ran out
 abbrev pub memory_status : ℕ
 memory_status = 105
 
@@ -45,7 +45,7 @@ no_host_status = 116
 abbrev pub skipped_status : ℕ
 skipped_status = 117
 
--- 0 for status 0; else the program's own code, where it ended by itself and has one
+-- 0 for status 0; else the program's own code, if it ended by itself with a code other than 0; else 104
 abbrev pub exit_code_of : ℕ → ℕ
 exit_code_of status =
     if status == 0 then 0

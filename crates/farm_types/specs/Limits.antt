@@ -1,4 +1,4 @@
--- The limits of the farm, in bytes where nothing else is said.
+-- The limits of the farm, in bytes if nothing else is said.
 use Rattle.std.specs.Prelude.{ℕ}
 
 -- the most words of a request
@@ -53,7 +53,7 @@ jobs_max = 512
 abbrev pub workers_max : ℕ
 workers_max = 16
 
--- the workers where no number is given
+-- the workers if no number is given
 abbrev pub workers_default : ℕ
 workers_default = 4
 
@@ -69,7 +69,7 @@ slots_max = 255
 abbrev pub period_max : ℕ
 period_max = 1000000
 
--- the back-off period where none is given, in seconds
+-- the back-off period if none is given, in seconds
 abbrev pub period_default : ℕ
 period_default = 60
 
@@ -85,7 +85,7 @@ host_name_max = 255
 abbrev pub port_max : ℕ
 port_max = 65535
 
--- the port of a host and of `farmd` where none is given
+-- the port of a host and of `farmd` if none is given
 abbrev pub port_default : ℕ
 port_default = 3632
 
@@ -101,7 +101,7 @@ compilers_max = 64
 abbrev pub cache_max : ℕ
 cache_max = 128
 
--- the most lines that tell of a build while it goes on
+-- the most lines that show a build while it runs
 abbrev pub lines_max : ℕ
 lines_max = 100
 

@@ -63,7 +63,7 @@ impl Bytes {
         self.stored.is_empty()
     }
 
-    /// None exactly where `at` isn't below the length.
+    /// None exactly if `at` isn't below the length.
     pub fn get(&self, at: usize) -> Option<u8>
         ensures { result ≡ slice_get self.now at }
     {
@@ -93,7 +93,7 @@ impl Bytes {
         self.stored.extend_from_slice(piece)
     }
 
-    /// Keeps the first `len` bytes alone. It takes no memory.
+    /// Keeps only the first `len` bytes. It takes no memory.
     pub fn truncate(&mut self, len: usize)
         ensures { self.new ≡ take len self.old }
     {

@@ -1,12 +1,12 @@
-//! Copies that can fail for want of memory alone.
+//! Copies that can fail only for lack of memory.
 
 ghost use Rattle.std.specs.Prelude.{◌≡◌, IfOk};
 
 use std::alloc::AllocError;
 
-/// A value of which an equal one can be made.
+/// A value that can be copied.
 pub trait TryCopy: Drop {
-    /// An equal value. It fails for want of memory alone.
+    /// An equal value. It fails only for lack of memory.
     fn try_copy(&self) -> Result<Self, AllocError>
         ensures { IfOk result (λ made. made ≡ self.now) };
 }

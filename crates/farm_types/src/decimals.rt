@@ -4,8 +4,8 @@ ghost use Rattle.std.specs.Prelude.{ℕ, ◌≡◌, ◌≤◌, IfSome, IfNone};
 ghost use Rattle.farm_types.specs.Decimals.{IsDecimal, IsPlainDecimal};
 ghost use Rattle.farm_types.specs.Decimals as decimals;
 
-/// The number from the least to the greatest that the text is, in 1 to so many decimal digits; a zero may stand in front. It takes
-/// no memory.
+/// The number from `least` to `greatest` that the text is, in 1 to `digits` decimal digits; it may begin with zeros. None if the text
+/// is no such number. It takes no memory.
 pub fn read_decimal(text: &[u8], digits: usize, least: u32, greatest: u32) -> Option<u32>
     requires { digits ≤ 9 }
     ensures found { IfSome result (IsDecimal digits least greatest text.now) }
@@ -28,7 +28,7 @@ pub fn read_decimal(text: &[u8], digits: usize, least: u32, greatest: u32) -> Op
     }
 }
 
-// Whether a zero stands in front of other bytes.
+// Whether the text begins with a zero, and at least one byte follows.
 fn leads_by_zero(text: &[u8]) -> bool
     ensures { result ≡ decimals.leads_by_zero text.now }
 {
@@ -38,7 +38,7 @@ fn leads_by_zero(text: &[u8]) -> bool
     }
 }
 
-/// As `read_decimal`, but None where a zero stands in front of other digits. It takes no memory.
+/// As `read_decimal`, but also None if a zero is before the other digits. It takes no memory.
 pub fn read_plain_decimal(text: &[u8], digits: usize, least: u32, greatest: u32) -> Option<u32>
     requires { digits ≤ 9 }
     ensures found { IfSome result (IsPlainDecimal digits least greatest text.now) }

@@ -1,4 +1,4 @@
-//! The exit statuses of the programs, and the exit code that tells of a wait status.
+//! The exit statuses of the programs, and the exit code of a wait status.
 
 ghost use Rattle.std.specs.Prelude.{◌≡◌};
 ghost use Rattle.farm_types.specs.Exits.{exit_code_of};
@@ -7,11 +7,11 @@ ghost use Rattle.farm_types.specs.Exits.{exit_code_of};
 pub const STOPPED: u8 = 100;
 /// The words of a command, or what its environment says, don't fit.
 pub const BAD_WORDS: u8 = 101;
-/// No link to a host came about.
+/// No link to a host could be made.
 pub const NO_LINK: u8 = 103;
-/// A wait status that tells of no exit code of its own.
+/// A wait status that gives no exit code of its own.
 pub const NO_CODE: u8 = 104;
-/// Memory was wanting.
+/// Memory ran out.
 pub const NO_MEMORY: u8 = 105;
 /// The host list has a fault.
 pub const BAD_HOSTS: u8 = 106;
@@ -26,8 +26,8 @@ pub const NO_HOST: u8 = 116;
 /// A job was left out, since one that it needs went wrong.
 pub const SKIPPED: u8 = 117;
 
-/// The exit code of a Unix wait status: 0 for status 0, the compiler's own code where it ended by itself
-/// with one, and 104 for everything else, as death by a signal. It takes no memory.
+/// The exit code of a Unix wait status: 0 for status 0, the compiler's own code if it ended by itself
+/// with one other than 0, and 104 for everything else, such as death by a signal. It takes no memory.
 pub fn exit_code(status: u32) -> u8
     ensures { result ≡ exit_code_of status }
 {

@@ -55,7 +55,7 @@ impl<T> Items<T> {
         self.stored.is_empty()
     }
 
-    /// None exactly where `at` isn't below the length.
+    /// None exactly if `at` isn't below the length.
     pub fn get(&self, at: usize) -> Option<&T>
         ensures { option_copied result ≡ slice_get self.now at }
     {

@@ -7,9 +7,9 @@ use crate::request::Words;
 /// The words of each job, in the order of the job list.
 pub type Jobs = Items<Words>;
 
-/// How jobs are run: on which hosts, whether a job that no host could do is compiled here, whether one that
-/// a host answered with a failure is compiled here once more, for how many seconds a host that broke an
-/// exchange is left alone, and with how many hosts a job may make an exchange, 1 to 16.
+/// How jobs are run: on which hosts, and with how many of them a job may make an exchange, 1 to 16. Whether
+/// a job that no host could do is compiled here, and whether one that a host answered with a failure is
+/// compiled here once more. For how many seconds a host that broke an exchange isn't used.
 #[derive(Debug, Drop)]
 pub struct JobConfig {
     pub hosts: Hosts,

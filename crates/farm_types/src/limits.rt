@@ -1,4 +1,4 @@
-//! The limits of the farm, in bytes where nothing else is said.
+//! The limits of the farm, in bytes if nothing else is said.
 
 /// The most words of a request.
 pub const WORDS_MAX: usize = 1_024;
@@ -26,7 +26,7 @@ pub const JOB_LIST_MAX: usize = 16_777_216;
 pub const JOBS_MAX: usize = 512;
 /// The most workers of `farm` and of `farmd`.
 pub const WORKERS_MAX: usize = 16;
-/// The workers where no number is given.
+/// The workers if no number is given.
 pub const WORKERS_DEFAULT: usize = 4;
 /// The most entries of a host list.
 pub const HOSTS_MAX: usize = 16;
@@ -34,7 +34,7 @@ pub const HOSTS_MAX: usize = 16;
 pub const SLOTS_MAX: u8 = 255;
 /// The longest back-off period, in seconds.
 pub const PERIOD_MAX: u32 = 1_000_000;
-/// The back-off period where none is given, in seconds.
+/// The back-off period if none is given, in seconds.
 pub const PERIOD_DEFAULT: u32 = 60;
 /// The most connections that one worker of `farmd` serves.
 pub const CONNECTIONS_MAX: u32 = 100_000;
@@ -42,7 +42,7 @@ pub const CONNECTIONS_MAX: u32 = 100_000;
 pub const HOST_NAME_MAX: usize = 255;
 /// The greatest port.
 pub const PORT_MAX: u32 = 65_535;
-/// The port of a host and of `farmd` where none is given.
+/// The port of a host and of `farmd` if none is given.
 pub const PORT_DEFAULT: u16 = 3_632;
 /// The most access rules of `farmd`.
 pub const RULES_MAX: usize = 64;
@@ -50,7 +50,7 @@ pub const RULES_MAX: usize = 64;
 pub const COMPILERS_MAX: usize = 64;
 /// The most MiB of the cache of one door.
 pub const CACHE_MAX: u32 = 128;
-/// The most lines that tell of a build while it goes on.
+/// The most lines that show a build while it runs.
 pub const LINES_MAX: u32 = 100;
 /// The most bytes that one receive, or one read of what a program left, has room for.
 pub const PIECE_MAX: usize = 65_536;

@@ -19,7 +19,7 @@ pub enum Ext {
 /// A word of a command that a station runs.
 #[derive(Debug, Drop)]
 pub enum Word {
-    /// The word as it stands.
+    /// The word as it is.
     Text(Bytes),
     /// A file name of the station's own with this ending, which holds the input.
     Input(Ext),

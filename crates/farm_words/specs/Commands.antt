@@ -39,15 +39,15 @@ abbrev pub command_meant : Result Command ℕ → Result Meaning ℕ
 command_meant (Ok found) = Ok (meaning found)
 command_meant (Err place) = Err place
 
--- at most so many words stand behind the first word of the command line
+-- the meaning, if at most this many words follow the first of the command line; else the place of the first word too many
 abbrev pub at_most : ℕ → Meaning → List (List ℕ) → Result Meaning ℕ
 at_most most meant words = if nat_le (length words) most then Ok meant else Err (1 + most)
 
--- at least one word stands behind the command's name
+-- the meaning, if at least one word follows the command's name; else place 1
 abbrev pub at_least_one : Meaning → List (List ℕ) → Result Meaning ℕ
 at_least_one meant words = if length words == 0 then Err 1 else Ok meant
 
--- a number of jobs, and no word behind it
+-- a number of jobs, and no word after it
 abbrev pub counted : Option ℕ → List (List ℕ) → Result Meaning ℕ
 counted None words = Err 1
 counted (Some jobs) words = at_most 1 (Rehearse jobs) words
@@ -60,11 +60,11 @@ abbrev pub with_options : (Given → Meaning) → Result Given ℕ → Result Me
 with_options meant (Ok options) = Ok (meant options)
 with_options meant (Err place) = Err place
 
--- a command with the options that the words behind its name are
+-- a command with the options that the words after its name are
 abbrev pub OptionCommand : CommandName → (Given → Meaning) → List (List ℕ) → Result Meaning ℕ → Type 0
 OptionCommand name meant words answer = (read : Result Given ℕ) × OptionsRead name words read × (answer ≡ with_options meant read)
 
--- a command by the words behind its name
+-- a command by the words after its name
 abbrev pub NamedCommand : CommandName → List (List ℕ) → Result Meaning ℕ → Type 0
 NamedCommand name.Build words answer = OptionCommand name.Build Build words answer
 NamedCommand name.Watch words answer = OptionCommand name.Watch Watch words answer
@@ -74,7 +74,7 @@ NamedCommand name.Hosts words answer = OptionCommand name.Hosts (λ options. Hos
 NamedCommand name.Scan words answer = answer ≡ at_least_one (Scan words) words
 NamedCommand name.Rehearse words answer = answer ≡ rehearse_words words
 
--- `--help` stands behind a command's name; where any words may follow the name it is the only one
+-- the word after a command's name is `--help`; if any words may follow the name, `--help` is the only one
 abbrev pub is_help_first : CommandName → List ℕ → ℕ → Bool
 is_help_first name word more = bytes_eq word (codes "--help") && ((more == 0) || not (takes_any_words name))
 
@@ -82,7 +82,7 @@ abbrev pub asks_help : CommandName → List (List ℕ) → Bool
 asks_help name [] = false
 asks_help name (word ∷ more) = is_help_first name word (length more)
 
--- what the first word asks for, with the others behind it
+-- what the first word asks for, with the others after it
 abbrev pub ByFirstWord : Option FirstWord → List (List ℕ) → Result Meaning ℕ → Type 0
 ByFirstWord None words answer = answer ≡ Err 0
 ByFirstWord (Some first.Help) words answer = answer ≡ at_most 0 (Help None) words

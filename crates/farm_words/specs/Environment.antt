@@ -4,7 +4,7 @@ use Rattle.std.specs.Prelude.{if◌then◌else◌}
 use Rattle.farm_types.specs.Limits.{period_default}
 use Rattle.farm_words.specs.Numbers.{IsPeriod}
 
--- the value of a variable, each of which is a name and a value: of a name that stands twice the first holds
+-- the value of the first variable of this name; each variable is a name and a value
 abbrev pub value_of : List (List ℕ × List ℕ) → List ℕ → Option (List ℕ)
 value_of [] name = None
 value_of (variable ∷ variables) name =
@@ -23,11 +23,11 @@ is_zero (Some value) = bytes_eq value (codes "0")
 abbrev pub is_fallback_on : Bool → List (List ℕ × List ℕ) → Bool
 is_fallback_on fallback variables = fallback && not (is_zero (value_of variables (codes "DISTCC_FALLBACK")))
 
--- the back-off period in seconds: that of `DISTCC_BACKOFF_PERIOD`, or the default where the name doesn't stand
+-- the back-off period in seconds: that of `DISTCC_BACKOFF_PERIOD`, or the default if there is no such variable
 abbrev pub PeriodOf : List (List ℕ × List ℕ) → ℕ → Type 0
 PeriodOf variables period =
     MatchOption (value_of variables (codes "DISTCC_BACKOFF_PERIOD")) (period ≡ period_default) (λ value. IsPeriod value period)
 
--- the name stands, and its value is no period
+-- there is such a variable, and its value is no period
 abbrev pub HasBadPeriod : List (List ℕ × List ℕ) → Type 0
 HasBadPeriod variables = MatchOption (value_of variables (codes "DISTCC_BACKOFF_PERIOD")) ⊥ (λ value. (n : ℕ) → ¬ (IsPeriod value n))

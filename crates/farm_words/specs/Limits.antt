@@ -1,4 +1,4 @@
--- The limits of what the words and the environment say, and what holds where they say nothing.
+-- The limits of what the words and the environment say, and what holds if they say nothing.
 use Rattle.std.specs.Prelude.{ℕ}
 use Rattle.farm_types.specs.Limits.{hosts_max}
 
@@ -14,11 +14,11 @@ tries_digits = 2
 abbrev pub tries_max : ℕ
 tries_max = hosts_max
 
--- the exchanges where no number is given
+-- the exchanges if no number is given
 abbrev pub tries_default : ℕ
 tries_default = 1
 
--- the lines of a watched build where no number is given
+-- the lines of a watched build if no number is given
 abbrev pub lines_default : ℕ
 lines_default = 10
 

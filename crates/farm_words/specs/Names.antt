@@ -41,7 +41,7 @@ option_named word =
     else (if bytes_eq word (option_text option.NoRetry) then Some option.NoRetry
     else None)))))
 
--- a word stands behind it
+-- whether a word follows it, which is its value
 abbrev pub takes_value : OptionName → Bool
 takes_value option.NoFallback = false
 takes_value option.NoRetry = false

@@ -42,13 +42,13 @@ worker_count given = unwrap_or given.workers workers_default
 abbrev pub try_count : Given → ℕ
 try_count given = unwrap_or given.tries tries_default
 
--- how many lines tell of a build while it goes on
+-- how many lines show a build while it runs
 abbrev pub line_count : Given → ℕ
 line_count given = unwrap_or given.lines lines_default
 
 -- ---- the options by their words
 
--- what is known of an option of the command: each stands at most once
+-- what is known of an option of the command; none may be given twice
 abbrev pub row_of : CommandName → Option OptionName → Option Row
 row_of command None = None
 row_of command (Some name) = if has_option command name then Some (record { takes_value = takes_value name; repeats = false }) else None
@@ -79,7 +79,7 @@ given_by items = record {
   retry = not (stands_in (option_text option.NoRetry) items);
 }
 
--- What words say as options; or the place, on the command line, of the first that doesn't fit: the first of these words stands at place 1.
+-- What words say as options; or the place, on the command line, of the first that doesn't fit. The first of these words is at place 1.
 abbrev pub OptionsRead : CommandName → List (List ℕ) → Result Given ℕ → Type 0
 OptionsRead command words (Ok says) = (items : List Item) × AreOptions (options_of command) words items × (says ≡ given_by items)
 OptionsRead command words (Err place) = (at : ℕ) × BadOptionAt (options_of command) words at × (place ≡ 1 + at)

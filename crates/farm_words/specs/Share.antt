@@ -1,4 +1,4 @@
--- The words of `farm share`, behind its name.
+-- The words of `farm share`, after its name.
 use Rattle.std.specs.Prelude.{ℕ, ◌&&◌, ◌==◌, Bool, List, [], ◌∷◌, length, map, string_bytes, codes, bytes_eq, Option, Some, None}
 use Rattle.std.specs.Prelude.{Result, Ok, Err, if◌then◌else◌}
 use Rattle.std.specs.Option.{option_copied}
@@ -20,12 +20,12 @@ abbrev pub share_meant : Result Share ℕ → Result Shared ℕ
 share_meant (Ok found) = Ok (shared found)
 share_meant (Err place) = Err place
 
--- behind the host list, if one is given: a command, which has a word at least
+-- after the host list, if one is given: a command, which has a word at least
 abbrev pub command_behind : ℕ → Option (List ℕ) → List (List ℕ) → Result Shared ℕ
 command_behind place hosts [] = Err place
 command_behind place hosts (word ∷ words) = Ok (Run hosts (word ∷ words))
 
--- behind `--hosts`: the host list, and then the command
+-- after `--hosts`: the host list, and then the command
 abbrev pub hosts_behind : List (List ℕ) → Result Shared ℕ
 hosts_behind [] = Err 2
 hosts_behind (hosts ∷ words) = command_behind 3 (Some hosts) words
@@ -34,7 +34,7 @@ hosts_behind (hosts ∷ words) = command_behind 3 (Some hosts) words
 abbrev pub is_option : List ℕ → Bool
 is_option word = starts_with nat_eq word (codes "--")
 
--- What the words ask for, or the place of the first that doesn't fit, where the name has place 0; that of a missing word is the number of
+-- What the words ask for, or the place of the first that doesn't fit. The name has place 0; the place of a missing word is the number of
 -- all words
 abbrev pub share_read : List (List ℕ) → Result Shared ℕ
 share_read [] = Err 1

@@ -26,13 +26,13 @@ pub enum Command<'a> {
     Scan { words: &'a [String] },
     /// `rehearse` and its number of jobs, 1 to 512.
     Rehearse { jobs: u16 },
-    /// `--help`, alone or behind the name of a command.
+    /// `--help`, by itself or after the name of a command.
     Help(Option<CommandName>),
     /// `--version`.
     Version,
 }
 
-// A command with at most so many words behind the first of the command line.
+// A command with at most this many words after the first of the command line.
 fn with_at_most<'a>(
     command: Command<'a>,
     words: &[String],
@@ -48,7 +48,7 @@ fn with_at_most<'a>(
     }
 }
 
-// A command with at least one word behind its name.
+// A command with at least one word after its name.
 fn with_words<'a>(command: Command<'a>, words: &[String]) -> Result<Command<'a>, usize>
     ensures { command_meant result ≡ at_least_one (meaning command.entry) (map string_bytes words.now) }
 {
@@ -65,7 +65,7 @@ fn is_help_word(name: CommandName, word: &str, more: usize) -> bool
     is_help(word) && (more == 0 || !name.takes_any_words())
 }
 
-// Whether the words behind a command's name ask for its help.
+// Whether the words after a command's name ask for its help.
 fn is_help_asked(name: CommandName, words: &[String]) -> bool
     ensures { result ≡ asks_help name (map string_bytes words.now) }
 {
@@ -132,7 +132,7 @@ fn parse_rehearse(words: &[String]) -> Result<Command<'_>, usize>
     }
 }
 
-// The command with this name, by the words behind it.
+// The command with this name, by the words after it.
 fn parse_named(name: CommandName, words: &[String]) -> Result<Command<'_>, usize>
     ensures { NamedCommand name (map string_bytes words.now) (command_meant result) }
 {

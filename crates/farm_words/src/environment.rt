@@ -14,8 +14,8 @@ fn has_name(variable: &(String, String), name: &str) -> bool
     variable.0.as_str() == name
 }
 
-/// The value of a variable of the environment, which is a list of names and values: of a name that stands twice the first
-/// holds. None where the name doesn't stand. Takes no memory.
+/// The value of the first variable of this name in the environment, which is a list of names and values. None if there is
+/// none. Takes no memory.
 pub fn lookup<'a>(env: &'a [(String, String)], name: &str) -> Option<&'a str>
     ensures { option_copied result ≡ value_of (map (λ v. (string_bytes v.0, string_bytes v.1)) env.now) name.now }
 {
@@ -41,7 +41,7 @@ pub fn host_text<'a>(option: Option<&'a str>, env: &'a [(String, String)]) -> &'
     }
 }
 
-/// Whether a job that no host compiled is compiled here: not with `--no-fallback`, nor where `DISTCC_FALLBACK` is exactly
+/// Whether a job that no host compiled is compiled here: not with `--no-fallback`, nor if `DISTCC_FALLBACK` is exactly
 /// `0`.
 pub fn is_fallback_on(options: &Options<'_>, env: &[(String, String)]) -> bool
     ensures { result ≡ is_fallback_on options.now.fallback
@@ -59,8 +59,8 @@ fn is_off(value: Option<&str>) -> bool
     }
 }
 
-/// For how many seconds a host that broke an exchange is left alone: the number of `DISTCC_BACKOFF_PERIOD`, 0 to 1,000,000 in 1
-/// to 7 decimal digits, or 60 where the name doesn't stand. None where its value is anything else. Takes no memory.
+/// For how many seconds a host that broke an exchange isn't used: the number of `DISTCC_BACKOFF_PERIOD`, 0 to 1,000,000 in 1
+/// to 7 decimal digits, or 60 if there is no such variable. None if its value is anything else. Takes no memory.
 pub fn back_off_period(env: &[(String, String)]) -> Option<u32>
     ensures { MatchOption result
         (HasBadPeriod (map (λ v. (string_bytes v.0, string_bytes v.1)) env.now))

@@ -204,7 +204,7 @@ pub fn share_help() -> &'static [u8]
     SHARE_HELP
 }
 
-/// The help of a command, or of the program where no command is named.
+/// The help of a command, or of the program if no command is named.
 pub fn help_text(name: Option<CommandName>) -> &'static [u8]
     ensures { result.now ≡ help_of name }
 {

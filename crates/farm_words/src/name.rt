@@ -63,7 +63,7 @@ impl CommandName {
 }
 
 impl OptionName {
-    // Whether the word behind the option's name is its value.
+    // Whether the word after the option's name is its value.
     pub(crate) fn takes_value(self) -> bool
         ensures { result ≡ takes_value self }
     {

@@ -19,7 +19,7 @@ const TRIES_MAX: u32 = HOSTS_MAX as u32;
 /// The most decimal digits of a back-off period.
 const PERIOD_DIGITS: usize = 7;
 
-// The number within these two that a word spells in at most so many decimal digits, with nothing beside them.
+// The number within these two that a word spells in at most `digits` decimal digits, with nothing beside them.
 fn parse_number(word: &str, digits: usize, least: u32, greatest: u32) -> Option<u32>
     requires { digits ≤ 9 }
     ensures { MatchOption result ((n : ℕ) → ¬ (IsDecimal digits least greatest word.now n)) (IsDecimal digits least greatest word.now) }

@@ -30,10 +30,10 @@ pub struct Options<'a> {
     pub retry: bool,
 }
 
-/// The exchanges that a job may make where `--tries` isn't given.
+/// The exchanges that a job may make if `--tries` isn't given.
 const TRIES_DEFAULT: u8 = 1;
 
-/// The lines that tell of a build while it goes on, where `--lines` isn't given.
+/// The lines that show a build while it runs, if `--lines` isn't given.
 const LINES_DEFAULT: u8 = 10;
 
 impl Options<'_> {
@@ -51,7 +51,7 @@ impl Options<'_> {
         self.tries.unwrap_or(TRIES_DEFAULT)
     }
 
-    /// How many lines tell of a build while it goes on: the number of `--lines`, or else 10.
+    /// How many lines show a build while it runs: the number of `--lines`, or else 10.
     pub fn line_count(&self) -> u8
         ensures { result ≡ line_count (given_in self.now) }
     {
@@ -146,7 +146,7 @@ fn options_in(command: CommandName, words: &[String]) -> Options<'_>
     }
 }
 
-// What the options of a command say, or the place of the first word that doesn't fit. The first of these words stands at
+// What the options of a command say, or the place of the first word that doesn't fit. The first of these words is at
 // place 1 of the command line.
 pub(crate) fn parse_options(command: CommandName, words: &[String]) -> Result<Options<'_>, usize>
     ensures { OptionsRead command (map string_bytes words.now) (options_meant result) }

@@ -6,7 +6,7 @@ ghost use Rattle.farm_words.specs.Share.{command_behind, hosts_behind, is_option
 
 use crate::name::is_help;
 
-/// What the words behind `share` ask for.
+/// What the words after `share` ask for.
 #[derive(Clone, Copy, Debug)]
 pub enum Share<'a> {
     /// `--help`
@@ -18,7 +18,7 @@ pub enum Share<'a> {
     },
 }
 
-// A command behind the host list that is given.
+// A command after the host list that is given.
 fn command_behind<'a>(
     place: usize,
     hosts: Option<&'a str>,
@@ -50,7 +50,7 @@ fn is_option(word: &str) -> bool
     word.starts_with("--")
 }
 
-/// What the words behind `share` ask for. Err is the place of the first that doesn't fit, where `share` has place 0; that of a missing word is the
+/// What the words after `share` ask for. Err is the place of the first that doesn't fit; `share` has place 0. That of a missing word is the
 /// number of all words. Takes no memory.
 pub fn parse_share(words: &[String]) -> Result<Share<'_>, usize>
     ensures { share_meant result ≡ share_read (map string_bytes words.now) }

@@ -4,7 +4,7 @@ use Rattle.host_list.specs.declared.fault.HostFault.{HostFault}
 use Rattle.host_list.specs.declared.fault.HostFault.TheVariants.{Ssh, HostOption, Zeroconf, BadPort, BadLimit, BadName, TooMany}
 use Rattle.host_list.specs.declared.fault.HostFault.TheVariants.{UnknownOption}
 
--- the number that stands for a fault in messages
+-- the number of a fault in messages
 abbrev pub host_fault_number : HostFault → ℕ
 host_fault_number Ssh = 1
 host_fault_number HostOption = 2

@@ -54,7 +54,7 @@ asks_randomize (Entry host ∷ ms) = asks_randomize ms
 asks_randomize (LocalSlots n ∷ ms) = asks_randomize ms
 asks_randomize (LocalCpp n ∷ ms) = asks_randomize ms
 
--- the entries in order, and the last option of each kind; 4 local slots and 8 local preprocessors where none are given
+-- the entries in order, and the last option of each kind; 4 local slots and 8 local preprocessors if none are given
 abbrev pub hosts_of : List Meaning → Hosts
 hosts_of ms = record {
   list = hosts_in ms;
@@ -74,7 +74,7 @@ pub record HostListOf (text : List ℕ) (hosts : Hosts) : Type 0 where
 
 -- ---- the fault
 
--- what is wrong with a word behind this many entries: by itself, or as the 17th entry
+-- what is wrong with a word after this many entries: by itself, or as the 17th entry
 abbrev pub IsWrongWord : ℕ → TextWord → ℕ → HostFault → Type 0
 IsWrongWord count word at fault =
     ((place : ℕ) × WordFault word.bytes place fault × (at ≡ word.at + place))
@@ -121,7 +121,7 @@ pub record IsHost (host : Host) : Type 0 where
   pub port_high : host.port ≤ port_max
   pub limit_low : 1 ≤ host.limit
   pub limit_high : host.limit ≤ slots_max
-  -- a local entry is `localhost`, and has the port that stands where none is given
+  -- a local entry is `localhost`, and has the default port
   pub here : host.local ≡ true → (host.name.text ≡ codes "localhost") × (host.port ≡ port_default)
 
 -- what a host list has

@@ -22,7 +22,7 @@ SpellsPort part port = (digits : List ℕ) × IsPort digits port × (part ≡ co
 abbrev pub SpellsLimit : List ℕ → ℕ → Type 0
 SpellsLimit part limit = (digits : List ℕ) × IsLimit digits limit × (part ≡ slash ∷ digits)
 
--- `:PORT` and `/LIMIT`, each where it is given, in either order
+-- `:PORT` and `/LIMIT`, each if it is given, in either order
 abbrev pub SpellsParts : Option ℕ → Option ℕ → List ℕ → Type 0
 SpellsParts None None parts = parts ≡ []
 SpellsParts (Some port) None parts = SpellsPort parts port
@@ -35,7 +35,7 @@ SpellsParts (Some port) (Some limit) parts =
 abbrev pub names_this_machine : List ℕ → Option ℕ → Bool
 names_this_machine name port = bytes_eq name (codes "localhost") && is_none port
 
--- the entry of a name with the port and limit that are given: the port is 3632 where none is,
+-- the entry of a name with the port and limit that are given: the port is 3632 if none is,
 -- and the limit 4, or 2 for a local entry
 abbrev pub host_of : List ℕ → Option ℕ → Option ℕ → Host
 host_of name port limit = record {
@@ -45,7 +45,7 @@ host_of name port limit = record {
   local = names_this_machine name port;
 }
 
--- a name, and behind it the port and the limit that are given
+-- a name, and after it the port and the limit that are given
 pub record SpellsHost (word : List ℕ) (host : Host) : Type 0 where
   pub name : List ℕ
   pub port : Option ℕ
@@ -56,7 +56,7 @@ pub record SpellsHost (word : List ℕ) (host : Host) : Type 0 where
   pub behind : SpellsParts port limit parts
   pub meant : host ≡ host_of name port limit
 
--- an option's name with its `=`, and a number behind it
+-- an option's name with its `=`, and a number after it
 abbrev pub SpellsSlots : List ℕ → List ℕ → ℕ → Type 0
 SpellsSlots option word n = (digits : List ℕ) × IsLimit digits n × (word ≡ option ++ digits)
 
@@ -67,7 +67,7 @@ HostWord word (LocalSlots n) = SpellsSlots (codes "--localslots=") word n
 HostWord word (LocalCpp n) = SpellsSlots (codes "--localslots_cpp=") word n
 HostWord word Randomize = word ≡ codes "--randomize"
 
--- ---- what is wrong with a word, and where in it
+-- ---- what is wrong with a word, and at which place in it
 
 abbrev pub begins_with : List ℕ → List ℕ → Bool
 begins_with front word = starts_with nat_eq word front
@@ -79,7 +79,7 @@ has_byte c word = list_any (λ x. x == c) word
 abbrev pub IsAtStart : HostFault → ℕ → HostFault → Type 0
 IsAtStart expected at fault = (at ≡ 0) × (fault ≡ expected)
 
--- of a word that begins with an option's name and `=`: the number behind it isn't right
+-- of a word that begins with an option's name and `=`: the number after it isn't right
 abbrev pub SlotsFault : List ℕ → List ℕ → ℕ → HostFault → Type 0
 SlotsFault option word at fault =
     ((n : ℕ) → SpellsSlots option word n → ⊥) × (at ≡ length option) × (fault ≡ BadLimit)
@@ -115,14 +115,14 @@ abbrev pub EndsPart : List ℕ → Type 0
 EndsPart [] = Unit {0}
 EndsPart (c ∷ cs) = is_separator c ≡ true
 
--- a part behind its separator that can't stand there: its kind came before, or its number isn't right
+-- a part, after its separator, that isn't allowed: its kind came before, or its number isn't right
 abbrev pub WrongPart : ℕ → Option ℕ → Option ℕ → List ℕ → HostFault → Type 0
 WrongPart separator port limit number fault =
     ((separator ≡ colon) × (IsSome port ⊎ ((n : ℕ) → IsPort number n → ⊥)) × (fault ≡ BadPort))
     ⊎ ((separator ≡ slash) × (IsSome limit ⊎ ((n : ℕ) → IsLimit number n → ⊥)) × (fault ≡ BadLimit))
 
--- in what stands behind a name, which ends at this place, the first part that can't stand there,
--- at the byte after its separator; its number reaches to the next separator or to the word's end
+-- in the rest of a word after its name, which ends at this place: the first part that isn't allowed. The fault is
+-- at the byte after its separator, and its number reaches to the next separator or to the word's end
 pub record PartFault (from : ℕ) (behind : List ℕ) (at : ℕ) (fault : HostFault) : Type 0 where
   pub port : Option ℕ
   pub limit : Option ℕ

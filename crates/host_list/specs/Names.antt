@@ -10,7 +10,7 @@ use Rattle.farm_types.specs.Limits.{slots_max, host_name_max, port_max}
 abbrev pub is_host_name_byte : ℕ → Bool
 is_host_name_byte c = is_ascii_alphanumeric c || c == dot || c == dash || c == underscore
 
--- the name of a host: 1 to 255 bytes that a name may have, of which the first isn't `-`
+-- the name of a host: 1 to 255 bytes that a name may have; the first isn't `-`
 pub record IsHostName (name : List ℕ) : Type 0 where
   pub some : 1 ≤ length name
   pub few : length name ≤ host_name_max

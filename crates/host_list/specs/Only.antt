@@ -20,7 +20,7 @@ named_in hosts (wanted ∷ other ∷ more) = None
 abbrev pub only_of : Host → Hosts → Hosts
 only_of host hosts = record hosts { list = host ∷ [] }
 
--- a text of the list with this entry only, or none where there is no such entry
+-- a text of the list with this entry only, or none if there is no such entry
 abbrev pub OnlyText : Hosts → Option Host → Option (List ℕ) → Type 0
 OnlyText hosts None made = made ≡ None
 OnlyText hosts (Some host) None = ⊥

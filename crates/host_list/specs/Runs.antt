@@ -2,7 +2,7 @@
 use Rattle.std.specs.Prelude.{ℕ, ◌+◌, List, [], ◌∷◌, false, ◌==◌, if◌then◌else◌}
 use Rattle.host_list.specs.TextWords.{TextWord, is_blank_or_feed, without_comments}
 
--- a byte at this place goes to the front of a word that begins right behind it, or else is a word of its own
+-- a byte at this place goes to the front of a word that begins right after it, or else is a word of its own
 abbrev pub with_byte : ℕ → ℕ → List TextWord → List TextWord
 with_byte at c [] = record { at = at; bytes = c ∷ [] } ∷ []
 with_byte at c (w ∷ ws) =

@@ -12,7 +12,7 @@ use Rattle.host_list.specs.Runs.{runs, words_of}
 use Rattle.host_list.specs.HostWords.{HostWord}
 use Rattle.host_list.specs.HostLists.{HostWords, hosts_in, hosts_of}
 
--- one part more: a port or a limit where none was
+-- one part more: a port if there was none, or a limit if there was none
 abbrev pub AddsPart : Parts → ℕ → List ℕ → Parts → Type 0
 AddsPart old separator number new =
     ((separator ≡ colon) × (old.port ≡ None) × (port : ℕ) × IsPort number port × (new ≡ record { port = Some port; limit = old.limit }))

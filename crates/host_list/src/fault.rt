@@ -28,7 +28,7 @@ pub enum HostFault {
 }
 
 impl HostFault {
-    /// The number that stands for the fault in messages.
+    /// The number of the fault in messages.
     pub fn number(self) -> u8
         ensures { result ≡ host_fault_number self }
     {
@@ -48,7 +48,7 @@ impl HostFault {
 /// Why a text is no host list, or that memory ran out.
 #[derive(Debug, Drop, Error)]
 pub enum HostError {
-    /// This fault stands at this byte of the text.
+    /// The text has this fault at this byte.
     #[error("host list: fault {} at byte {at}", .fault.number())]
     Fault { at: u64, fault: HostFault },
     /// Memory ran out.

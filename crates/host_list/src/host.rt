@@ -12,9 +12,9 @@ use farm_types::limits::{HOST_NAME_MAX, PORT_DEFAULT};
 use farm_types::{Bytes, Host, HostName};
 use std::alloc::{AllocError, Global};
 
-/// The limit of a host where none is given.
+/// The limit of a host if none is given.
 pub const LIMIT_DEFAULT: u8 = 4;
-/// The limit of a local entry where none is given.
+/// The limit of a local entry if none is given.
 pub const LOCAL_LIMIT_DEFAULT: u8 = 2;
 
 /// The name of this machine, reached without the network.

@@ -17,9 +17,9 @@ use farm_types::limits::HOSTS_MAX;
 use farm_types::{HostVec, Hosts};
 use std::alloc::{AllocError, Global};
 
-/// The number of local slots where none is given.
+/// The number of local slots if none is given.
 pub const LOCAL_SLOTS_DEFAULT: u8 = 4;
-/// The number of local preprocessors where none is given.
+/// The number of local preprocessors if none is given.
 pub const LOCAL_CPP_DEFAULT: u8 = 8;
 
 // What a list is before its first word.
@@ -96,13 +96,13 @@ fn read_words(alloc: Global, text: &[u8]) -> Result<Hosts, HostError>
 }
 
 /// Reads the text of a host list: entries `NAME:PORT/LIMIT` and options, with blanks between them and
-/// comments behind `#`, by the rules of docs/hosts.md, which narrow those of distcc(1). The place of a
-/// fault counts bytes of the text from 0. Memory may run out in place of any answer.
+/// comments after `#`, by the rules of docs/hosts.md, which narrow those of distcc(1). The place of a
+/// fault counts bytes of the text from 0. Instead of any result, memory may run out.
 pub fn parse(alloc: Global, text: &[u8]) -> Result<Hosts, HostError>
     ensures list { IfOk result (λ hosts. HostListOf text.now hosts) }
     ensures fault { IfErr result (λ e. IsError (HostFaultStands text.now) e) }
 
-    // Nothing else is answered, unless memory ran out.
+    // Nothing else is returned, unless memory ran out.
     ensures only_list { (hosts : Hosts) → HostListOf text.now hosts → Gives hosts result }
     ensures only_fault { (at : ℕ) (fault : HostFault)
         → HostFaultStands text.now at fault → GivesFault at fault result }

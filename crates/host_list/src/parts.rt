@@ -1,4 +1,4 @@
-//! The parts of a host behind its name.
+//! The parts of a host after its name.
 
 ghost use Rattle.std.specs.Prelude.{ℕ, ◌≡◌, ◌≤◌, ◌+◌, true, not, length, drop, slice_range, IfOk, IfErr};
 ghost use Rattle.std.specs.List.{AllPass};
@@ -9,7 +9,7 @@ use crate::fault::{FaultAt, HostFault};
 use crate::number::{read_limit, read_port};
 use memchr::memchr2;
 
-/// The port and the limit of a host, where they are given.
+/// The port and the limit of a host, if they are given.
 #[derive(Clone, Copy, Debug)]
 pub struct Parts {
     pub port: Option<u16>,
@@ -55,7 +55,7 @@ fn read_part(parts: Parts, separator: u8, number: &[u8]) -> Result<Parts, HostFa
     }
 }
 
-/// Reads what stands behind a name, which ends at this place.
+/// Reads what follows a name, which ends at this place.
 pub fn read_parts(word: &[u8], from: usize) -> Result<Parts, FaultAt>
     requires within { from ≤ length word.now }
     requires ends { EndsPart (drop from word.now) }

@@ -13,7 +13,7 @@ use crate::printing::print;
 use farm_types::{Bytes, Host, HostVec, Hosts};
 use std::alloc::{AllocError, Global};
 
-/// The text of a host list that begins at another entry, where the list has `--randomize`: its entries are turned by a share of
+/// The text of a host list that begins at another entry, if the list has `--randomize`: its entries are turned by a share of
 /// the whole turn, in parts of 2^32. The options stay. Any other text stays as it is.
 pub fn turned(alloc: Global, text: &[u8], share: u32) -> Result<Bytes, AllocError>
     ensures turned { (hosts : Hosts) → HostListOf text.now hosts → hosts.randomize ≡ true →
@@ -60,7 +60,7 @@ fn turn(alloc: Global, list: &[Host], share: u32) -> Result<HostVec, AllocError>
     Ok(turned)
 }
 
-// The place to which a share points, among so many.
+// The place, among `count`, to which a share points.
 fn first_of(share: u32, count: usize) -> usize
     requires { count ≤ hosts_max }
     ensures value { result ≡ first_of share count }

@@ -31,7 +31,7 @@ fn holds(byte: u8, word: &[u8]) -> bool
     memchr(byte, word).is_some()
 }
 
-// The number behind an option's name.
+// The number after an option's name.
 fn read_slots(option: &[u8], word: &[u8]) -> Result<u8, FaultAt>
     requires { begins_with option.now word.now ≡ true }
     ensures found { IfOk result (λ n. SpellsSlots option.now word.now n) }
@@ -116,7 +116,7 @@ pub fn read_word(alloc: Global, word: &[u8]) -> Result<Meaning, HostError>
     ensures fault { IfErr result (λ e. IsError (WordFault word.now) e) }
     ensures place { IfErr result (λ e. IsError (λ at _. at ≤ length word.now) e) }
 
-    // Nothing else is answered, unless memory ran out.
+    // Nothing else is returned, unless memory ran out.
     ensures only_meaning { (meaning : Meaning) → HostWord word.now meaning → Gives meaning result }
     ensures only_fault { (at : ℕ) (fault : HostFault)
         → WordFault word.now at fault → GivesFault at fault result }

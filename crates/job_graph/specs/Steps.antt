@@ -59,7 +59,7 @@ abbrev pub all_steps_left : List Mark → ℕ
 all_steps_left [] = 0
 all_steps_left (m ∷ ms) = steps_left m + all_steps_left ms
 
--- where a look over needs stops
+-- the place at which a look over needs stops, by the cause
 abbrev pub Ends : List ℕ → List Mark → ℕ → Stop → Type 0
 Ends needs marks at stop.End = at ≡ length needs
 Ends needs marks at (stop.Fresh job) = (at < length needs) × (slice_index needs at ≡ job) × (mark_at marks job ≡ mark.Fresh)

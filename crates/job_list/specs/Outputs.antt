@@ -1,4 +1,4 @@
--- The outputs of jobs, and those of which two are the same.
+-- The outputs of jobs, and which two of them are the same.
 use Rattle.std.specs.Prelude.{ℕ, ◌≡◌, ◌<◌, List, map, Option, Some, None}
 use Rattle.std.specs.List.{slice_get}
 use Rattle.arg_scan.specs.declared.class.Scan.{Scan}

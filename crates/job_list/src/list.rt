@@ -119,7 +119,7 @@ fn read_jobs(alloc: Global, text: &[u8]) -> Result<Listed, JobError>
     Ok(listed)
 }
 
-// The jobs, of which no two have the same output.
+// The jobs; no two have the same output.
 fn check_outputs(alloc: Global, listed: Listed) -> Result<Jobs, JobError>
     requires few { length listed.jobs ≤ jobs_max }
     requires numbers { length listed.lines ≡ length listed.jobs }
@@ -150,12 +150,12 @@ fn read_list(alloc: Global, text: &[u8]) -> Result<Jobs, JobError>
 
 /// Reads the text of a job list: a command on each line, with quotes as a shell has them, and comments
 /// after `#`, by the rules of docs/job-list.md. The place of a fault is a line of the text, from 1, or 0
-/// for the whole text. Memory may run out in place of any answer.
+/// for the whole text. Instead of any result, memory may run out.
 pub fn parse(alloc: Global, text: &[u8]) -> Result<Jobs, JobError>
     ensures list { IfOk result (λ jobs. JobsOf text.now jobs) }
     ensures fault { IfErr result (λ e. IsError (JobFaultStands text.now) e) }
 
-    // Nothing else is answered, unless memory ran out.
+    // Nothing else is returned, unless memory ran out.
     ensures only_list { (jobs : List (List (List ℕ))) → JobsOf text.now jobs → Gives jobs result }
     ensures only_fault { (at : ℕ) (fault : JobFault)
         → JobFaultStands text.now at fault → GivesFault at fault result }

@@ -64,7 +64,7 @@ pub fn are_printable(words: &Words) -> bool
         .all(|word| is_printable(word.as_slice()))
 }
 
-/// A line that reads as these words, of which none may hold a line feed or a zero byte. Of UTF-8 words,
+/// A line that reads as these words. None of them may hold a line feed or a zero byte. Of UTF-8 words,
 /// at least one, it is a job, and by itself it is a job list of these words, if it has at most 16,777,216 bytes.
 pub fn print_words(alloc: Global, words: &Words) -> Result<Bytes, AllocError>
     requires { ArePrintable words.now }

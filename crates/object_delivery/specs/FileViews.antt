@@ -1,4 +1,4 @@
--- What files tell, and what the calls on them do.
+-- What files show, and what the calls on them do.
 use Rattle.std.specs.Prelude.{◌≡◌, ℕ, ◌<◌, ◌≤◌, ◌++◌, ◌⊎◌, List, [], length, take, Option, Some, None, Result, Ok, Err, IfOk, IsErrOf}
 use Rattle.std.specs.Prelude.{unwrap_or}
 use Rattle.std.specs.FinMap.{get, insert, remove}
@@ -15,7 +15,7 @@ pub record FilesView : Type 0 where
   pub faults : ℕ
   pub overruns : ℕ
 
--- a keeper of these files that tells neither its puts nor its fetches
+-- a keeper of these files whose puts and fetches aren't told
 abbrev pub as_keeper : FilesView → KeeperView
 as_keeper view = record {
   files = view.files;
@@ -26,11 +26,11 @@ as_keeper view = record {
   overruns = view.overruns;
 }
 
--- the content of a file, which is nothing where it isn't there
+-- the content of a file, which is nothing if it isn't there
 abbrev pub content_of : Files → List ℕ → List ℕ
 content_of files name = unwrap_or (get files name) []
 
--- the files with bytes added at the end of one, which is made where it isn't there
+-- the files with bytes added at the end of one, which is made if it isn't there
 abbrev pub appended : Files → List ℕ → List ℕ → Files
 appended files name bytes = insert files name (content_of files name ++ bytes)
 
@@ -45,8 +45,8 @@ abbrev pub Appends : Told Files → Told Files → List ℕ → List ℕ → Res
 Appends old new name piece (Ok count) = Became old new (appended old.value name (take count piece))
 Appends old new name piece (Err fault) = Became old new old.value ⊎ FrontAppended old new name piece
 
--- Why an append may answer a fault. It may take nothing of a piece with bytes only where the count rose, and wants memory only
--- where it stands still.
+-- Why an append may return what it does. It fails, or takes nothing of a piece with bytes, only if the count rose. It takes
+-- bytes, or runs out of memory, only if the count stays the same.
 pub record HasAppendCause (before now : ℕ) (piece : List ℕ) (result : Result ℕ EdgeFault) : Type 0 where
   pub later : before ≤ now
   pub failed : IsErrOf result Failed → Rose before now
@@ -59,7 +59,7 @@ abbrev pub with_moved : Files → List ℕ → List ℕ → Option (List ℕ) �
 with_moved files from to None = files
 with_moved files from to (Some content) = insert (remove files from) to content
 
--- the files with one under another name, in place of what had that name. Where it isn't there, they stay as they are.
+-- the files with one under another name, in place of what had that name. If it isn't there, they stay as they are.
 abbrev pub moved_file : Files → List ℕ → List ℕ → Files
 moved_file files from to = with_moved files from to (get files from)
 

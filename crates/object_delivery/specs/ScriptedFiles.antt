@@ -1,4 +1,4 @@
--- What files in memory are in, and what their calls answer and do.
+-- What files in memory are in, and what their calls return and do.
 use Rattle.std.specs.Prelude.{◌≡◌, ℕ, ◌<◌, ◌≤◌, List, [], length, take, true, false, Result, Ok, Err, Some, None}
 use Rattle.std.specs.FinMap.{get}
 use Rattle.edge_traits.specs.declared.faults.EdgeFault.{EdgeFault}
@@ -30,7 +30,7 @@ files_state files = record {
   overruns = files.overruns;
 }
 
--- what they tell
+-- what they show
 abbrev pub files_shows : FilesState → FilesView
 files_shows files = record { files = told files.files; faults = failed_calls files.fails files.made; overruns = files.overruns }
 
@@ -56,7 +56,7 @@ pub record IsHeld (files : FilesState) (name : List ℕ) (bound : ℕ) (bytes : 
   pub there : get files.files name ≡ Some bytes
   pub within : length bytes ≤ bound
 
--- The next load may answer this. The script alone decides which loads fail; of the others only one that has a file to give may want memory.
+-- The next load may return this. Only the script decides which loads fail. Of the others only one that has a file to give may run out of memory.
 abbrev pub IsLoadAnswer : FilesState → List ℕ → ℕ → Result (List ℕ) FetchFault → Type 0
 IsLoadAnswer files name bound (Ok bytes) = (names_next files.fails files.made ≡ false) × IsHeld files name bound bytes
 IsLoadAnswer files name bound (Err Failed) = names_next files.fails files.made ≡ true

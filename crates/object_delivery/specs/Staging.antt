@@ -84,12 +84,12 @@ pub record ChangesOnly (old new : Told Files) (name : List ℕ) : Type 0 where
   pub known : IsTrue new.known → IsTrue old.known
   pub others : IsTrue new.known → remove new.value name ≡ remove old.value name
 
--- how many calls failed at least, where the removal after a put that answers this failed too
+-- at least this many calls failed, if the removal after a put with this fault failed too
 abbrev pub with_removal : EdgeFault → ℕ
 with_removal Failed = 2
 with_removal Memory = 1
 
--- Nothing was done, for want of memory for the name under which the file is written.
+-- Nothing was done, for lack of memory for the name under which the file is written.
 pub record IsUntouched (old new : FilesView) (fault : EdgeFault) : Type 0 where
   pub memory : fault ≡ Memory
   pub same : new ≡ old
@@ -99,19 +99,19 @@ pub record IsLeft (old new : FilesView) (name : List ℕ) (fault : EdgeFault) : 
   pub files : ChangesOnly old.files new.files name
   pub rose : RoseBy (with_removal fault) old.faults new.faults
 
--- after this fault what was being written under this name was taken away, or left where that failed
+-- after this fault what was being written under this name was taken away, or left if that failed
 abbrev pub RemovedOrLeft : FilesView → FilesView → List ℕ → EdgeFault → Type 0
 RemovedOrLeft old new name fault = Became old.files new.files (remove old.files.value name) ⊎ IsLeft old new name fault
 
--- what a put that was given up does to the files: what was being written is taken away, or left where that fails
+-- what a put that was given up does to the files: what was being written is taken away, or left if that fails
 abbrev pub DroppedPut : FilesView → FilesView → List ℕ → EdgeFault → Type 0
 DroppedPut old new path fault = RemovedOrLeft old new (staged path) fault
 
--- the same where nothing had failed before
+-- the same, if nothing had failed before
 abbrev pub AbandonedPut : FilesView → FilesView → List ℕ → Type 0
 AbandonedPut old new path = Became old.files new.files (remove old.files.value (staged path))
     ⊎ (Became old.files new.files old.files.value × Rose old.faults new.faults)
 
--- what a failed put does to the files: it takes away what was being written, or leaves it where that fails
+-- what a failed put does to the files: it takes away what was being written, or leaves it if that fails; or it changes nothing, for lack of memory
 abbrev pub FailedPut : FilesView → FilesView → List ℕ → EdgeFault → Type 0
 FailedPut old new path fault = DroppedPut old new path fault ⊎ IsUntouched old new fault

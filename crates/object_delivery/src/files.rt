@@ -20,8 +20,8 @@ pub trait Files {
         ensures overruns { (shows self.new).overruns ≡ (shows self.old).overruns }
         ensures cause { HasCause (shows self.old).faults (shows self.new).faults result };
 
-    /// Adds the front of the piece at the end of the file, and answers how many bytes were taken.
-    /// A call that takes none of a piece with bytes counts as a failed one, though it answers no fault. One that answers an `Err` may have
+    /// Adds the front of the piece at the end of the file, and returns how many bytes were taken.
+    /// A call that takes none of a piece with bytes counts as a failed one, though it returns no fault. One that returns an `Err` may have
     /// added a front of the piece.
     fn append(&mut self, alloc: Global, name: &Bytes, piece: &[u8]) -> Result<usize, EdgeFault>
         ensures bound { IfOk result (λ n. n ≤ length piece.now) }

@@ -125,7 +125,7 @@ impl<F: Files> Keeper for FileKeeper<F> {
         finish(&mut self.files, alloc, &staging.name, &staging.path)
     }
 
-    /// Takes away the file that is being written, if there is one. It stays where its removal fails.
+    /// Takes away the file that is being written, if there is one. It stays if its removal fails.
     fn abandon(&mut self)
         ensures dropped { (path : List ℕ) → self.old.pending ≡ Some path → AbandonedPut (F.shows self.old.files) (F.shows self.new.files) path }
         ensures idle { self.old.pending ≡ None → self.new ≡ self.old }

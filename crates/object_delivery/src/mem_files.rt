@@ -35,7 +35,7 @@ impl MemFiles {
         }
     }
 
-    /// What the file holds, which is nothing where it isn't there.
+    /// What the file holds, which is nothing if it isn't there.
     fn content(&self, alloc: Global, name: &Bytes) -> Result<Bytes, AllocError>
         ensures { IfOk result (λ bytes. bytes ≡ content_of (files_state self.now).files name.now) }
     {
@@ -141,7 +141,7 @@ impl Files for MemFiles {
     }
 }
 
-/// Gives a file another name, where it is there.
+/// Gives a file another name, if it is there.
 fn move_file(files: &mut FileList, from: &Bytes, to: &Bytes) -> Result<(), AllocError>
     ensures ok { OnOk result (files.new ≡ moved_file files.old from.now to.now) }
     ensures err { OnErr result (files.new ≡ files.old) }

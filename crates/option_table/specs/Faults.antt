@@ -1,4 +1,4 @@
--- What makes rows unfit for a table, and where.
+-- What makes rows unfit for a table, and at which place.
 use Rattle.std.specs.Prelude.{◌≡◌, ℕ, ◌<◌, ◌≤◌, List, length}
 use Rattle.option_table.specs.declared.row.OptionRow.{OptionRow}
 use Rattle.option_table.specs.declared.fault.TableFault.{TableFault}
@@ -20,7 +20,7 @@ pub record AreFirstAlike (rows : List OptionRow) (first second : ℕ) : Type 0 w
   pub alike : AreAlike rows first second
   pub least : (i j : ℕ) → AreAlike rows i j → second ≤ j
 
--- the first spelling with fewer than two bytes stands at this place, and none is doubled
+-- the first spelling with fewer than two bytes is at this place, and no spelling is doubled
 pub record IsFirstShort (rows : List OptionRow) (at : ℕ) : Type 0 where
   pub apart : AreApart rows
   pub within : at < length rows

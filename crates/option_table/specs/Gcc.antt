@@ -225,7 +225,7 @@ gcc_rows =
     row (codes "-gcc-toolchain") form.Next (effect.Local reason.side_file) ∷
     row (codes "-R") form.Next (effect.Local reason.side_file) ∷
     row (codes "-G") form.Next effect.Keep ∷
-    -- used in preprocessing alone
+    -- used only in preprocessing
     row (codes "-MV") form.None effect.Strip ∷
     row (codes "-nostdlibinc") form.None effect.Strip ∷
     row (codes "-nobuiltininc") form.None effect.Strip ∷

@@ -30,7 +30,7 @@ abbrev pub constants_fit : {N : ℕ} → Held N → Bool
 constants_fit (Own rows places starts) = true
 constants_fit (Constant rows places starts) = list_all (λ r. nat_le (length r.spelling.now) SPELLING_MAX) rows.now
 
--- so many rows, with their index
+-- N rows, with their index
 pub record IsHeld (N : ℕ) (held : Held N) : Type 0 where
   pub count : length (held_rows held) ≡ N
   pub indexed : IsIndexed (held_rows held) (held_places held) (held_starts held)

@@ -2,7 +2,7 @@
 use Rattle.std.specs.Prelude.{ℕ, Bool, ◌||◌, nat_eq, List, [], ◌∷◌, codes}
 use Rattle.std.specs.List.{starts_with}
 
--- whether the piece stands somewhere in the word
+-- whether the piece is somewhere in the word
 abbrev pub holds : List ℕ → List ℕ → Bool
 holds piece [] = starts_with nat_eq [] piece
 holds piece (b ∷ bs) = starts_with nat_eq (b ∷ bs) piece || holds piece bs

@@ -9,11 +9,11 @@ no_action = 1
 abbrev pub both_actions : ℕ
 both_actions = 2
 
--- the command preprocesses alone
+-- the command only preprocesses
 abbrev pub preprocess : ℕ
 preprocess = 3
 
--- the command lists dependencies alone
+-- the command only lists dependencies
 abbrev pub depend : ℕ
 depend = 4
 

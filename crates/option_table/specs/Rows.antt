@@ -53,7 +53,7 @@ fits_not word row = not (fits_equal word row || fits_begin word row)
 abbrev pub place_of : List OptionRow → List ℕ → Option ℕ
 place_of rows word = option_or (position (fits_equal word) rows) (position (fits_longest rows word) rows)
 
--- the row that fits the word, by its place, and where its attached operand begins
+-- the row that fits the word, by its place, and the byte at which its attached operand begins
 abbrev pub found : List OptionRow → List ℕ → Option Found
 found rows word = option_map (λ at. record { row = at; joined = length (row_at rows at).spelling }) (place_of rows word)
 

@@ -19,8 +19,8 @@ abbrev pub is_longer : List OptionRow → ℕ → Option ℕ → Bool
 is_longer rows place None = true
 is_longer rows place (Some best) = nat_lt (length_at rows best) (length_at rows place)
 
--- the word begins with the row at the best place, and with no longer one among the first `count` places; with none of them
--- where there is no best one
+-- the word begins with the row at the best place, and with no longer one among the first `count` places. If there is no best
+-- place, the word begins with none of them
 abbrev pub IsLongestIn : List OptionRow → List ℕ → List ℕ → ℕ → Option ℕ → Type 0
 IsLongestIn rows word places count None = (k : ℕ) → k < count → begin_at rows word (slice_index places k) ≡ false
 IsLongestIn rows word places count (Some best) =

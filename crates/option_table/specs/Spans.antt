@@ -8,7 +8,7 @@ use Rattle.option_table.specs.Rows.{row_at, is_table}
 abbrev pub spelling_at : List OptionRow → ℕ → List ℕ
 spelling_at rows place = (row_at rows place).spelling
 
--- the second byte of the spelling at a place; 0 where there is none
+-- the second byte of the spelling at a place; 0 if there is none
 abbrev pub letter_at : List OptionRow → ℕ → ℕ
 letter_at rows place = slice_index (spelling_at rows place) 1
 
@@ -30,7 +30,7 @@ AreAllPlaces rows places = (place : ℕ) → place < length rows → list_any (n
 abbrev pub AreSorted : List OptionRow → List ℕ → Type 0
 AreSorted rows places = IsNonDecreasingBy (letter_at rows) places
 
--- where the span of each second byte starts
+-- the places at which the spans of the second bytes start
 abbrev pub AreStarts : List OptionRow → List ℕ → List ℕ → Type 0
 AreStarts rows places starts = (letter : ℕ) → letter < 257 → IsStart rows places letter (slice_index starts letter)
 

@@ -15,7 +15,7 @@ pub enum TableFault {
     Short { row: u32 },
 }
 
-// The fault of the rows; None where they make a table.
+// The fault of the rows; None if they make a table.
 pub(crate) fn fault_of(rows: &[OptionRow]) -> Option<TableFault>
     requires { length rows.now < 2 ^ 32 }
     ensures { MatchOption result (IsTrue (is_table rows.now)) (λ fault. TableFaultStands rows.now fault) }

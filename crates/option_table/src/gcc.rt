@@ -242,7 +242,7 @@ static ROWS: [ConstantRow; GCC_ROWS] = rows! {
     "-gcc-toolchain" Next Local(reasons::SIDE_FILE);
     "-R" Next Local(reasons::SIDE_FILE);
     "-G" Next Keep;
-    // Used in preprocessing alone.
+    // Used only in preprocessing.
     "-MV" None Strip;
     "-nostdlibinc" None Strip;
     "-nobuiltininc" None Strip;
@@ -264,7 +264,7 @@ static PLACES: [u32; GCC_ROWS] = [
     133, 60, 50, 37,
 ];
 
-// Where the span of each second byte starts; `tools/option-index` prints them.
+// The place at which the span of each second byte starts; `tools/option-index` prints them.
 static STARTS: [u32; LETTERS] = [
     0, 0, 0, 0, 0, 0, 0, 0, 0, 0, 0, 0, 0, 0, 0, 0, 0, 0, 0, 0, 0, 0, 0, 0, 0, 0, 0, 0, 0, 0, 0, 0,
     0, 0, 0, 0, 1, 1, 1, 1, 1, 1, 1, 1, 1, 1, 29, 29, 29, 29, 29, 29, 29, 29, 29, 29, 29, 29, 29,

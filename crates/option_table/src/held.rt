@@ -1,4 +1,4 @@
-//! Where a table has its rows and their index.
+//! The two places in which a table may have its rows and their index.
 
 ghost use Rattle.std.specs.Prelude.{◌≡◌, ◌≤◌, ◌<◌, length, MatchOption};
 ghost use Rattle.option_table.specs.Rows.{row_at};
@@ -7,7 +7,7 @@ ghost use Rattle.option_table.specs.Held.{held_rows, entry_row, IsEntry};
 use crate::index::LETTERS;
 use crate::row::{ConstantRow, Effect, Form, OptionRow};
 
-// The rows of a table, their places sorted, and for each second byte where its span starts.
+// The rows of a table, their places sorted, and for each second byte the start of its span.
 #[derive(Debug, Drop)]
 pub(crate) enum Held<const N: usize> {
     // Made at run time.

@@ -8,7 +8,7 @@ ghost use Rattle.option_table.specs.Spans.{spelling_at, letter_at, sort_key, IsS
 use crate::row::OptionRow;
 use std::cmp::Ordering;
 
-/// One more than there are bytes: the span of a byte ends where that of the next one starts.
+/// One more than there are bytes: the span of a byte ends at the start of the next one's.
 pub(crate) const LETTERS: usize = 257;
 
 // The places of the rows, sorted by the spelling's second byte and then by the spelling.
@@ -39,7 +39,7 @@ fn listed_places<const N: usize>() -> [u32; N]
     places
 }
 
-// Where the span of each second byte starts.
+// The place at which the span of each second byte starts.
 pub(crate) fn spans(rows: &[OptionRow], places: &[u32]) -> [u32; LETTERS]
     requires few { length places.now < 2 ^ 32 }
     requires sorted { AreSorted rows.now places.now }
@@ -92,7 +92,7 @@ fn letter_at(rows: &[OptionRow], place: u32) -> u8
     second_byte(spelling_at(rows, place))
 }
 
-/// The second byte of a text; 0 where there is none.
+/// The second byte of a text; 0 if there is none.
 pub(crate) fn second_byte(text: &[u8]) -> u8
     ensures { result ≡ slice_index text.now 1 }
 {

@@ -4,9 +4,9 @@
 pub const NO_ACTION: u8 = 1;
 /// `-c` and `-S` are both asked for.
 pub const BOTH_ACTIONS: u8 = 2;
-/// The command preprocesses alone.
+/// The command only preprocesses.
 pub const PREPROCESS: u8 = 3;
-/// The command lists dependencies alone.
+/// The command only lists dependencies.
 pub const DEPEND: u8 = 4;
 /// No source is named.
 pub const NO_INPUT: u8 = 5;

@@ -31,7 +31,7 @@ pub enum Effect {
     Output,
     /// The command stays on this machine, for the reason with this number of `reasons`.
     Local(u8),
-    /// The command stays on this machine where the word asks for a listing or for dependencies;
+    /// The command stays on this machine if the word asks for a listing or for dependencies;
     /// otherwise the word is kept.
     Listing,
 }

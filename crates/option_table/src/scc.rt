@@ -33,7 +33,7 @@ static ROWS: [ConstantRow; 6] = rows! {
 // The places of the rows, sorted; `tools/option-index` prints them.
 static PLACES: [u32; 6] = [1, 3, 0, 5, 4, 2];
 
-// Where the span of each second byte starts; `tools/option-index` prints them.
+// The place at which the span of each second byte starts; `tools/option-index` prints them.
 static STARTS: [u32; LETTERS] = [
     0, 0, 0, 0, 0, 0, 0, 0, 0, 0, 0, 0, 0, 0, 0, 0, 0, 0, 0, 0, 0, 0, 0, 0, 0, 0, 0, 0, 0, 0, 0, 0,
     0, 0, 0, 0, 0, 0, 0, 0, 0, 0, 0, 0, 0, 0, 0, 0, 0, 0, 0, 0, 0, 0, 0, 0, 0, 0, 0, 0, 0, 0, 0, 0,

@@ -19,7 +19,7 @@ use std::marker::Model;
 pub struct Found {
     /// The row's place in the array that the table was made of, from 0.
     pub row: u32,
-    /// Where the attached operand begins in the word: behind the spelling.
+    /// The byte of the word at which the attached operand begins: the one after the spelling.
     pub joined: usize,
 }
 
@@ -51,7 +51,7 @@ impl<const N: usize> OptionTable<N> {
 
     /// The table of these rows. It takes no memory.
     ///
-    /// It is refused where two rows have one spelling, or one has fewer than two bytes.
+    /// It is refused if two rows have one spelling, or if one has fewer than two bytes.
     pub fn new(rows: [OptionRow; N]) -> Result<OptionTable<N>, TableFault>
         requires { N < 2 ^ 32 }
         ensures ok { IfOk result (λ table. table ≡ rows.entry) }
@@ -87,7 +87,7 @@ impl<const N: usize> OptionTable<N> {
         }
     }
 
-    /// The row that fits a word, or None where no row does.
+    /// The row that fits a word, or None if no row does.
     pub fn find(&self, word: &Bytes) -> Option<Found>
         ensures value { result ≡ found self.now word.now }
         ensures within { IfSome result (λ f. f.row < N) }

@@ -1,12 +1,12 @@
 -- Options, and the words that they are.
 use Rattle.std.specs.Prelude.{ℕ, Bool, true, false, List, [], ◌∷◌, Option, Some, None, bytes_eq, if◌then◌else◌}
 
--- an option: its name, and the word behind it where that is its value
+-- an option: its name, and the word after it if that is its value
 pub record Item : Type 0 where
   pub name : List ℕ
   pub value : Option (List ℕ)
 
--- a value, where there is one, and these words
+-- a value, if there is one, and these words
 abbrev pub value_words : Option (List ℕ) → List (List ℕ) → List (List ℕ)
 value_words None words = words
 value_words (Some value) words = value ∷ words
@@ -33,6 +33,6 @@ first_value (item ∷ items) = item.value
 abbrev pub stands_in : List ℕ → List Item → Bool
 stands_in name items = is_one (from_name name items)
 
--- the value of the first option of this name, where it has one
+-- the value of the first option of this name, if it has one
 abbrev pub value_in : List ℕ → List Item → Option (List ℕ)
 value_in name items = first_value (from_name name items)

@@ -13,19 +13,19 @@ abbrev pub NoValue : Table → List Item → List ℕ → List (List ℕ) → Ty
 NoValue table before name [] = Unit {0}
 NoValue table before name (value ∷ more) = table.Fits (items_words before) name value → ⊥
 
--- an option may stand here, and the word behind it doesn't fit
+-- the option takes a value, and the word after it doesn't fit as one, or there is none: its place is 1
 pub record ValueStop (table : Table) (before : List Item) (name : List ℕ) (more : List (List ℕ)) (behind : ℕ) : Type 0 where
   pub takes : has_value (table.known name) ≡ true
   pub none : NoValue table before name more
   pub at : behind ≡ 1
 
--- Behind these options the words don't go on as options: the word at this place, counted from 0 among these words, doesn't fit.
+-- After these options the words don't go on as options: the word at this place, counted from 0 among these words, doesn't fit.
 abbrev pub StopAt : Table → List Item → List (List ℕ) → ℕ → Type 0
 StopAt table before [] behind = ⊥
 StopAt table before (word ∷ more) behind = MatchBool (follows table before word) (ValueStop table before word more behind) (behind ≡ 0)
 
--- The words are no options of the command, and this is the place, from 0, of the first that doesn't fit: options stand in front of it,
--- one after another. That of a missing word is behind the last.
+-- The words aren't options of the command, and this is the place, from 0, of the first that doesn't fit: options are before it,
+-- one after another. The place of a missing word is after the last.
 pub record BadOptionAt (table : Table) (words : List (List ℕ)) (place : ℕ) : Type 0 where
   pub items : List Item
   pub rest : List (List ℕ)

@@ -19,7 +19,7 @@ fn takes_value<T: OptionTable>(table: &T, name: &str) -> bool
     }
 }
 
-// The words behind a value, where there is one.
+// The words after a value, if there is one.
 fn behind_value(takes: bool, words: &[String]) -> &[String]
     ensures rest { result.now ≡ (if takes then drop 1 words.now else words.now) }
     ensures fewer { length result.now ≤ length words.now }
@@ -31,7 +31,7 @@ fn behind_value(takes: bool, words: &[String]) -> &[String]
     }
 }
 
-// The words from the first option of this name on; none where none has it.
+// The words from the first option of this name on; none if none has it.
 fn from_option<'a, T: OptionTable>(table: &T, words: &'a [String], name: &str) -> &'a [String]
     ensures { (options : List Item) → AreShaped (T.table table.now) options → map string_bytes words.now ≡ items_words options
         → map string_bytes result.now ≡ items_words (from_name name.now options) }
@@ -46,7 +46,7 @@ fn from_option<'a, T: OptionTable>(table: &T, words: &'a [String], name: &str) -
     rest
 }
 
-/// Whether an option of this name stands among the words, where these are options. Takes no memory.
+/// Whether an option of this name is among the words, if these are options. Takes no memory.
 pub fn stands<T: OptionTable>(table: &T, words: &[String], name: &str) -> bool
     ensures { (options : List Item) → AreOptions (T.table table.now) (map string_bytes words.now) options
         → result ≡ stands_in name.now options }
@@ -54,7 +54,7 @@ pub fn stands<T: OptionTable>(table: &T, words: &[String], name: &str) -> bool
     !from_option(table, words, name).is_empty()
 }
 
-/// The value of the first option of this name among the words, where these are options. Takes no memory.
+/// The value of the first option of this name among the words, if these are options. Takes no memory.
 pub fn value_of<'a, T: OptionTable>(table: &T, words: &'a [String], name: &str) -> Option<&'a str>
     ensures { (options : List Item) → AreOptions (T.table table.now) (map string_bytes words.now) options
         → option_copied result ≡ value_in name.now options }

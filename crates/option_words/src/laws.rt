@@ -12,7 +12,7 @@ pub fn one_reading<T: OptionTable>(table: &T)
     ensures once { (words : List (List ℕ)) (one other : Result (List Item) ℕ)
         → OptionsRead (T.table table.now) words one → OptionsRead (T.table table.now) words other → one ≡ other }
 
-    // Where it can be told which values fit, all words have a reading.
+    // If each word either fits as a value or doesn't, all words have a reading.
     ensures some { CanTell (T.table table.now) → (words : List (List ℕ))
         → (read : Result (List Item) ℕ) × OptionsRead (T.table table.now) words read }
 {}

@@ -6,9 +6,9 @@ ghost use Rattle.option_words.specs.Tables.{Table};
 /// What is known of an option by its name.
 #[derive(Clone, Copy, Debug, PartialEq, Eq)]
 pub struct Row {
-    /// Whether the word behind the name is the option's value.
+    /// Whether the word after the name is the option's value.
     pub takes_value: bool,
-    /// Whether the option may stand more than once.
+    /// Whether the option may be given more than once.
     pub repeats: bool,
 }
 
@@ -17,11 +17,11 @@ pub trait OptionTable {
     /// What the table says.
     ghost table: { Self → Table };
 
-    /// What is known of the option that a word names. None where the word names no option of the command.
+    /// What is known of the option that a word names. None if the word names no option of the command.
     fn row(&self, word: &str) -> Option<Row>
         ensures { result ≡ (table self.now).known word.now };
 
-    /// Whether a word may be the value of the option of this name, behind these words.
+    /// Whether a word may be the value of the option of this name, after these words.
     fn fits(&self, before: &[String], name: &str, value: &str) -> bool
         ensures yes { result ≡ true → (table self.now).Fits (map string_bytes before.now) name.now value.now }
         ensures no { result ≡ false → (table self.now).Fits (map string_bytes before.now) name.now value.now → ⊥ };

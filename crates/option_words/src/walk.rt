@@ -8,7 +8,7 @@ ghost use Rattle.option_words.specs.Readings.{AreOptions, BadOptionAt, StopAt};
 use crate::finding::stands;
 use crate::table::{OptionTable, Row};
 
-// Whether an option with this row may stand behind these.
+// Whether an option with this row may come after these.
 fn may_stand<T: OptionTable>(table: &T, before: &[String], name: &str, row: Row) -> bool
     ensures { (options : List Item) → AreItems (T.table table.now) options → map string_bytes before.now ≡ items_words options
         → result ≡ may_stand (Some row) (stands_in name.now options) }
@@ -16,7 +16,7 @@ fn may_stand<T: OptionTable>(table: &T, before: &[String], name: &str, row: Row)
     row.repeats || !stands(table, before, name)
 }
 
-// How many words the option is whose name is this word, behind these and before those. Err: which of its words doesn't fit,
+// The number of words of the option with this name, between these words and those. Err: which of its words doesn't fit,
 // from 0; that of a missing value is 1.
 fn option_length<T: OptionTable>(
     table: &T,

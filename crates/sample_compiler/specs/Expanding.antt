@@ -10,7 +10,7 @@ use Rattle.sample_compiler.specs.Lines.{source_lines}
 use Rattle.sample_compiler.specs.Words.{begins, replaced}
 use Rattle.sample_compiler.specs.Directives.{Definition, include_of, define_of}
 
--- ---- where an included file is
+-- ---- the path of an included file
 
 -- `DIR/F` for each folder, in order
 abbrev pub find_in : Files → List (List ℕ) → List ℕ → Option (List ℕ)

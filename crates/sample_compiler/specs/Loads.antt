@@ -39,7 +39,7 @@ pub record WasTooLong (old now : KeeperView) (bytes : ℕ) : Type 0 where
   pub above : source_max < bytes
   pub long : IsTrue now.files.known → (path : List ℕ) × HasLength now.files.value path bytes
 
--- When a load that failed may answer so. It is out of memory only if no fetch had failed.
+-- When a load that failed may return this. It is out of memory only if no fetch had failed.
 abbrev pub LoadCause : KeeperView → KeeperView → LoadFault → Type 0
 LoadCause old now Failed = Rose old.faults now.faults
 LoadCause old now (TooMuch bytes) = WasTooLong old now bytes

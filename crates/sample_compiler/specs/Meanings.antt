@@ -39,7 +39,7 @@ with_operand sign.Output operand = meaning.Output operand
 abbrev pub option_of : Sign → ℕ → List ℕ → Reading
 option_of s from word = if nat_lt from (length word) then Whole (with_operand s (drop from word)) else Awaits s
 
--- an option of the table, by its row there, and where the spelling ends: `-I`, `-D`, `-o`, `-E`, `-c` and `-S`
+-- an option of the table, by its row there, and the place at which the spelling ends: `-I`, `-D`, `-o`, `-E`, `-c` and `-S`
 abbrev pub row_reading : ℕ → ℕ → List ℕ → Reading
 row_reading row from word =
     if row == 0 then option_of sign.Folder from word

@@ -102,7 +102,7 @@ SampleOf files words ran = LeavesAsked files (task_of words) ran
 
 -- ---- the preprocessed text only
 
--- the same task, but for what is made
+-- the same task, except for what is made
 abbrev pub as_text : Task → Task
 as_text task = record { product = Text; input = task.input; dirs = task.dirs; defines = task.defines }
 

@@ -78,7 +78,7 @@ RunStops files words input fault.Memory = Unit {0}
 abbrev pub station_files : SampleStation → Files
 station_files s = s.files
 
--- it tells its runs, and no call of it fails
+-- it shows its runs, and no call of it fails
 abbrev pub station_shows : SampleStation → StationView
 station_shows s = record { runs = told s.runs; faults = 0; overruns = s.overruns }
 

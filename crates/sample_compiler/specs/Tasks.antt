@@ -71,7 +71,7 @@ abbrev pub unnamed_product : Command → List ℕ → Option Product
 unnamed_product Expand input = Some Text
 unnamed_product (Build action) input = derived_product action input (ending_of (last_name input))
 
--- by the names of `-o`, of which there is at most one
+-- by the names of `-o`; there is at most one
 abbrev pub product_of : Command → List ℕ → List (List ℕ) → Option Product
 product_of command input [] = unnamed_product command input
 product_of command input (output ∷ []) = named_product command output
@@ -102,6 +102,6 @@ with_command g (command ∷ more) = with_only_input g command g.inputs
 abbrev pub asked : Gathered → Option Task
 asked g = if g.lacking then None else with_command g g.commands
 
--- what the words ask for, of which the first names the compiler; none if they are bad
+-- what the words ask for; the first names the compiler; none if they are bad
 unfoldable pub task_of : List (List ℕ) → Option Task
 task_of words = asked (gathered (meanings (drop 1 words)))

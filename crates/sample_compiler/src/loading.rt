@@ -151,8 +151,8 @@ fn load_task<K: Keeper>(alloc: Global, task: &Task, keeper: &mut K) -> Result<Fi
 }
 
 /// Fetches the files that the compiler looks up for these words, in the order in which it looks them up first, each once, and no others. A name is left out
-/// where its fetch answered that it isn't there, and where it ends in `.farm~`, which isn't fetched. So the words leave the
-/// same over these files as over all of the keeper's, but for those names. A file has at most `SOURCE_MAX` bytes. It puts nothing.
+/// if its fetch returned that it isn't there, or if it ends in `.farm~`, which isn't fetched. So the words leave the
+/// same over these files as over all of the keeper's, except those names. A file has at most `SOURCE_MAX` bytes. It puts nothing.
 pub fn load<K: Keeper>(alloc: Global, words: &Words, keeper: &mut K) -> Result<FileMap, LoadFault>
     requires idle { IsIdle (K.shows keeper.old) }
     ensures same { IfOk result (λ files. IsTrue (K.shows keeper.new).files.known

@@ -1,4 +1,4 @@
-//! Where the files of a run are looked up.
+//! The files of a run, and the lookups in them.
 
 ghost use Rattle.std.specs.Prelude.{◌≡◌, ◌++◌, ◌∷◌, [], codes, false, IfOk};
 ghost use Rattle.std.specs.Option.{option_copied};
@@ -39,7 +39,7 @@ fn is_listed(names: &[Bytes], name: &[u8]) -> bool
     false
 }
 
-/// A file, if it is there. A name of which that isn't known stops the run.
+/// A file, if it is there. A name for which that isn't known stops the run.
 pub fn look<'a>(sources: Sources<'a>, path: &Bytes) -> Result<Option<&'a Bytes>, ExpandStop>
     ensures found { (files : Files) → Agrees sources.entry.files.now sources.entry.absent.now sources.entry.whole files
         → Looked (λ found. option_copied found) sources.entry.whole (get files path.now) result }

@@ -34,7 +34,7 @@ pub enum Sign {
 #[derive(Debug, Drop)]
 pub enum Meaning {
     Command(Command),
-    /// A folder where included files are looked up.
+    /// A folder in which included files are looked up.
     Folder(Bytes),
     Define(Define),
     /// The name of the object.
@@ -163,7 +163,7 @@ pub struct FirstMeaning<'a> {
     pub left: &'a [Bytes],
 }
 
-/// Takes the first word, with its operand where it has one.
+/// Takes the first word, with its operand if it has one.
 pub fn first_meaning<'a>(
     alloc: Global,
     table: &OptionTable<6>,

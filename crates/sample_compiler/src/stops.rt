@@ -16,7 +16,7 @@ pub enum ExpandFault {
     TooDeep,
 }
 
-/// Why a text wasn't preprocessed: a fault on a line of its file, a name of which it isn't known whether it is a file,
+/// Why a text wasn't preprocessed: a fault on a line of its file, a name for which it isn't known whether it is a file,
 /// or out of memory.
 #[derive(Debug, Drop)]
 pub enum ExpandStop {

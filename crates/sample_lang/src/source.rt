@@ -69,7 +69,7 @@ fn line_feeds(bytes: &[u8]) -> u64
     count
 }
 
-// Passes over the blanks in front.
+// Passes over the leading blanks.
 fn skip_blanks(left: Left<'_>) -> Left<'_>
     requires { left.line + length left.text.now < 2 ^ 64 }
     ensures line { result.line ≡ left.entry.line + tokens.lines (take_while is_blank_or_line_feed left.entry.text.now) }
@@ -125,11 +125,11 @@ fn read_source(alloc: Global, text: &[u8]) -> Result<SampleFile, ReadError>
 }
 
 /// Reads a source of the sample language, by the rules of docs/sample-language.md. A fault is that of
-/// the first token that has one; its line counts from 1. Memory may run out in place of any answer.
+/// the first token that has one; its line counts from 1. Instead of any result, memory may run out.
 pub fn parse(alloc: Global, text: &Bytes) -> Parsed
     ensures right { IsParsed (SourceOf text.now) (FaultStands text.now) result }
 
-    // Nothing else is answered, unless memory ran out.
+    // Nothing else is returned, unless memory ran out.
     ensures only_program { (items : List Item) → SourceOf text.now items → GivesProgram items result }
     ensures only_fault { (line : ℕ) (message : List ℕ)
         → FaultStands text.now line message → GivesFault line message result }

@@ -1,4 +1,4 @@
--- Where the definitions that are left lead.
+-- The ways along the definitions that are left.
 use Rattle.std.specs.Prelude.{ℕ, ◌≡◌, List, true, false, length, drop, get_or, ◌<◌, ◌≤◌}
 use Rattle.std.specs.List.{Contains, IsDistinct, list_all, list_any}
 use Rattle.std.specs.Str.{bytes_eq}
@@ -30,7 +30,7 @@ AreStuck placed defined =
     (at : ℕ) (item : Item) → At defined at item → is_named placed (name_of item) ≡ false → list_all (is_known placed) (code_of item) ≡ true
     → ⊥
 
--- where no definition can be placed: the name is that of one that is left
+-- no definition can be placed, and the name is that of one that is left
 pub record IsLeft (table placed : NameTable) (defined : List Item) (name : List ℕ) : Type 0 where
   pub before : List Item
   pub lists : Lists placed before

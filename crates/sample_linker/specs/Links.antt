@@ -1,4 +1,4 @@
--- What linking answers.
+-- What linking returns.
 use Rattle.std.specs.Prelude.{ℕ, ◌≡◌, List, [], ◌∷◌, ◌++◌, codes, Bool, true, false, if◌then◌else◌, Option, Some, None, MatchOption}
 use Rattle.std.specs.Prelude.{MatchResult}
 use Rattle.std.specs.List.{filter, flat_map}
@@ -45,7 +45,7 @@ OrderedTo defined (linked.Fault (Doubled name)) = ⊥
 OrderedTo defined (linked.Fault (Unresolved name)) = ⊥
 OrderedTo defined linked.Memory = ⊥
 
--- the answer for the items of all files, by file and line
+-- the result for the items of all files, by file and line
 abbrev pub ItemsLinkTo : List Item → Linked → Type 0
 ItemsLinkTo items answer =
     MatchOption (doubled [] (definitions items))
@@ -54,7 +54,7 @@ ItemsLinkTo items answer =
     (λ name. answer ≡ linked.Fault (Unresolved name)))
     (λ name. answer ≡ linked.Fault (Doubled name))
 
--- the answer for these objects
+-- the result for these objects
 abbrev pub LinkTo : List (List ℕ) → Linked → Type 0
 LinkTo objects answer =
     MatchResult (objects_items [] 1 objects) (λ items. ItemsLinkTo items answer) (λ at. answer ≡ linked.Fault (BadObject at.0 at.1))

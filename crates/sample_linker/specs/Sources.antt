@@ -65,7 +65,7 @@ MainFits texts items (values.Fault NoMain) = is_named (definitions items) main_n
 MainFits texts items (values.Fault (BadImage line)) = ⊥
 MainFits texts items values.Memory = Unit {0}
 
--- an image comes exactly where the objects can be linked; then one assignment fits, and running the image gives its number of `main`
+-- an image comes exactly if the objects can be linked; then one assignment fits, and running the image gives its number of `main`
 abbrev pub Promised : List (List ℕ) → List Item → Linked → Type 0
 Promised texts items (linked.Image image) = CanLink items × FitOnce texts items
     × ((value : Value) → IsValue image value → MainFits texts items value)
@@ -76,7 +76,7 @@ Promised texts items linked.Memory = Unit {0}
 abbrev pub together : List (List Item) → List Item
 together files = flat_map (λ items. items) files
 
--- whatever linking the objects of sources answers keeps the promise
+-- whatever linking the objects of sources returns keeps the promise
 abbrev pub LinksSources : Type 0
 LinksSources = (texts : List (List ℕ)) (files : List (List Item)) (answer : Linked) → AreSources texts files
     → IsLinked (map items_text files) answer → Promised texts (together files) answer

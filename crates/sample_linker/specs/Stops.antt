@@ -48,7 +48,7 @@ IsNamedStop items name (Fault (Unresolved other)) = ⊥
 IsNamedStop items name (Fault (Circular names)) = ⊥
 IsNamedStop items name Memory = Unit {0}
 
--- the fault is the answer for these objects, or memory ran out
+-- the fault is the result for these objects, or memory ran out
 abbrev pub IsLinkStop : List (List ℕ) → LinkStop → Type 0
 IsLinkStop objects (Fault fault) = LinkTo objects (linked.Fault fault)
 IsLinkStop objects Memory = Unit {0}

@@ -38,7 +38,7 @@ pub fn one_assignment()
         → ItemsHold a items → ItemsHold b items → is_named items name ≡ true → a name ≡ b name }
 {}
 
-/// Linking the objects of sources gives an image exactly where no name is defined twice, each needed name is defined, and no
+/// Linking the objects of sources gives an image exactly if no name is defined twice, each needed name is defined, and no
 /// definition uses itself through others. Then an assignment fits the sources, all that fit have the same numbers for the defined
 /// names, and running the image gives that of `main`, or says that it isn't defined.
 pub fn linked_sources()

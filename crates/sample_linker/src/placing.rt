@@ -32,7 +32,7 @@ pub struct Progress {
     pub(crate) waiters: Vec<Vec<usize>>,
     /// Those that are to be looked at.
     pub(crate) seen: BTreeSet<usize>,
-    /// Where the name is in each code for which it waited last.
+    /// For each code, the place in it of the name for which it waited last.
     pub(crate) passed: Vec<usize>,
 }
 
@@ -96,7 +96,7 @@ fn place(
     )
 }
 
-// Notes up to where a code was read.
+// Notes the place up to which a code was read.
 fn note_place(passed: &mut Vec<usize>, at: usize, found: usize) {
     if let Some(place) = passed.get_mut(at) {
         *place = found;

@@ -58,7 +58,7 @@ fn combined(operator: &Part, left: u64, right: u64) -> u64
     }
 }
 
-// Runs an operator on the stack. It answers whether it found its operands.
+// Runs an operator on the stack. It returns whether it found its operands.
 fn run_operator(operator: &Part, stack: &mut Stack) -> Result<bool, AllocError>
     ensures { IfOk result (λ ran. Leaves (on_two (runs.combine operator.now) stack.old (λ s. Some s)) ran stack.new) }
 {
@@ -72,7 +72,7 @@ fn run_operator(operator: &Part, stack: &mut Stack) -> Result<bool, AllocError>
     Ok(true)
 }
 
-// Runs a part of a code on the stack. It answers whether an operator found its operands.
+// Runs a part of a code on the stack. It returns whether an operator found its operands.
 fn run_part(numbers: &NameTable, part: &Part, stack: &mut Stack) -> Result<bool, AllocError>
     ensures { IfOk result (λ ran. Leaves (stack_behind (number_in numbers.now) (part.now ∷ []) stack.old) ran stack.new) }
 {

@@ -1,4 +1,4 @@
--- What is told of the program itself.
+-- What the program prints about itself.
 use Rattle.std.specs.Prelude.{ℕ, List, [], ◌∷◌, ◌++◌, codes, bytes_eq, if◌then◌else◌, Option, None, Some}
 
 -- the version

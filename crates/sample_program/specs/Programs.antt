@@ -23,7 +23,7 @@ use Rattle.sample_program.specs.Puts.{PutBy, puts_of, no_memory_text, file_fault
 
 -- ---- a run
 
--- the words with the compiler's name in front
+-- the compiler's name, and then the words
 abbrev pub named : List (List ℕ) → List (List ℕ)
 named words = codes "scc" ∷ words
 
@@ -44,7 +44,7 @@ abbrev pub OverrunsStandBy : List (List ℕ) → KeeperView → KeeperView → T
 OverrunsStandBy words old new = IsTrue new.files.known
     → Still old.overruns new.overruns ⊎ HasAbsent old.files.value (looked_up old.files.value words)
 
--- The run is that of the compiler over some files: those of the keeper, if they are told, but for names that end in
+-- The run is that of the compiler over some files: those of the keeper, if they are told, except names that end in
 -- `.farm~`. The object of one that ended well was put, and nothing else. Each file that the words look up was fetched once,
 -- and no other, and no fault rose.
 pub record DidRun (words : List (List ℕ)) (old new : KeeperView) (ran : Ran) : Type 0 where
@@ -100,7 +100,7 @@ abbrev pub Told : List ℕ → SinksView → SinksView → ℕ → Type 0
 Told text sinks sinks_now answer = Printing no_memory_text (output text ∷ []) 0 sinks sinks_now answer
     ⊎ WantOf no_memory_text [] sinks sinks_now answer
 
--- what is done by the words, of which the first may name another form
+-- what is done by the words; the first may name another form
 abbrev pub DoesWords : List (List ℕ) → KeeperView → KeeperView → SinksView → SinksView → ℕ → Type 0
 DoesWords [] old new sinks sinks_now answer = Compiled [] old new sinks sinks_now answer
 DoesWords (first ∷ words) old new sinks sinks_now answer =

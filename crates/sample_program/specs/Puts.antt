@@ -32,7 +32,7 @@ abbrev pub object_put : Product → List ℕ → List Put
 object_put Text object = []
 object_put (Object output) object = record { path = output; bytes = object } ∷ []
 
--- the object of a run that ended well, where one was asked for
+-- the object of a run that ended well, if one was asked for
 abbrev pub puts_of : Option Task → Ran → List Put
 puts_of (Some task) ran = if ran.status == 0 then object_put task.product ran.object else []
 puts_of None ran = []
@@ -53,7 +53,7 @@ pub record NoneFetched (old new : KeeperView) : Type 0 where
   pub fetches : Grew old.fetches new.fetches []
   pub overruns : Still old.overruns new.overruns
 
--- when a put that failed may be told so
+-- when a put that failed may be reported so
 abbrev pub PutStop : KeeperView → KeeperView → RunStop → Type 0
 PutStop old new File = Rose old.faults new.faults
 PutStop old new Memory = IsRemoval old.faults new.faults

@@ -32,7 +32,7 @@ impl From<AllocError> for RunStop {
     }
 }
 
-// The words with the compiler's name in front.
+// The compiler's name, and then the words.
 fn with_name(alloc: Global, words: &[String]) -> Result<Words, AllocError>
     ensures { IfOk result (λ made. made ≡ codes "scc" ∷ map string_bytes words.now) }
 {
@@ -66,7 +66,7 @@ pub fn put_file<K: Keeper>(
     }
 }
 
-// Puts the object of a run that ended well, where one was asked for.
+// Puts the object of a run that ended well, if one was asked for.
 fn put_object<K: Keeper>(
     alloc: Global,
     asked: &Option<Task>,

@@ -13,7 +13,7 @@ use std::process::Abort;
 use std::test::Fail;
 
 /// One call: its words, which calls of the keeper fail, and of each sink which writes fail and which take nothing; and what
-/// it answers, prints and puts.
+/// it returns, prints and puts.
 #[derive(Clone, Copy)]
 pub(crate) struct Row {
     pub(crate) words: &'static [&'static str],

@@ -1,4 +1,4 @@
-//! Rows of the program `scc` where its first word is `--link` or `--run`.
+//! Rows of the program `scc` with `--link` or `--run` as its first word.
 
 ghost use Rattle.std.specs.Prelude.{IfOk};
 ghost use Rattle.edge_memory.specs.Keepers.{keeper_state, keeper_shows};

@@ -91,7 +91,7 @@ const ROWS: &[Row] = &[
         status: 100,
         ..PLAIN
     },
-    // The keeper fails, and that can't be told.
+    // The keeper fails, and that can't be printed.
     Row {
         fails: &[1],
         err_moves: (&[1], &[]),

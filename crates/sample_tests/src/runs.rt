@@ -154,7 +154,7 @@ fn runs(rt: HostRuntime) -> Result<(), Fail> {
     expect_text(&rt, rt.alloc(), &files)
 }
 
-// How many files are within one another below the input, and what its text comes to.
+// How many files are within one another below the input, and the result of its text.
 const CHAINS: &[(u32, Left)] = &[
     (16, (0, b"int a = 1;\n", b"", b"")),
     (17, (256, b"", b"line 1: includes too deep\n", b"")),

@@ -1,4 +1,4 @@
-//! Rows of sources, with what they mean or where they are wrong.
+//! Rows of sources, with what they mean or the line at which they are wrong.
 
 use crate::same::same_bytes;
 use farm_types::Bytes;
@@ -76,7 +76,7 @@ fn answer_to(alloc: Global, text: &[u8]) -> Result<Bytes, AllocError> {
     parsed_text(alloc, &parse(alloc, &text))
 }
 
-// A source, and the answer to it.
+// A source, and the result for it.
 type Source = (&'static [u8], &'static [u8]);
 
 const SOURCES: &[Source] = &[
@@ -166,7 +166,7 @@ fn put_number(text: &mut Bytes, len: u32, depth: u32) -> Result<(), AllocError> 
     text.try_push(b';')
 }
 
-// The bytes of a name, the parentheses, and the answer.
+// The bytes of a name, the parentheses, and the result.
 type Limit = (u32, u32, &'static [u8]);
 
 const LIMITS: &[Limit] = &[

@@ -44,7 +44,7 @@ pub record Later (old new : SinksView) : Type 0 where
   pub out : old.out.faults ≤ new.out.faults
   pub err : old.err.faults ≤ new.err.faults
 
--- the sink's count stands still, and no write took 0 bytes
+-- the sink's count stays the same, and no write took 0 bytes
 pub record GoesOn (old new : SinkView) : Type 0 where
   pub faults : Still old.faults new.faults
   pub stopped : new.stopped ≡ old.stopped
@@ -79,8 +79,8 @@ pub record IsCutPiece (pieces done : List Piece) (next : Piece) : Type 0 where
   pub within : count < length next.bytes
   pub cut_short : done ≡ first ++ cut count next ∷ []
 
--- The sinks got a part of the pieces. Where the printing stopped, it was because the next piece's sink did, and the other had not;
--- where memory was wanting, neither had.
+-- The sinks got a part of the pieces. If the printing stopped, it was because the next piece's sink did, and the other had not;
+-- if memory ran out, neither had.
 pub record PrintedPart (pieces : List Piece) (stop : PrintStop) (old new : SinksView) : Type 0 where
   pub done : List Piece
   pub next : Piece

@@ -1,4 +1,4 @@
-//! How a program ends: what it prints last, and the exit status that it answers.
+//! How a program ends: what it prints last, and the exit status that it returns.
 
 ghost use Rattle.std.specs.Prelude.{[], ◌∷◌};
 ghost use Rattle.stream_print.specs.Prints.{sinks_view};
@@ -8,8 +8,8 @@ use crate::{Piece, PrintStop, print, print_all};
 use edge_traits::Sink;
 use farm_types::exits::{NO_MEMORY, STOPPED};
 
-/// Prints the notice that memory is wanting on the sink of errors, and answers the exit status: `NO_MEMORY`, or
-/// `STOPPED` where that sink stopped.
+/// Prints on the sink of errors the notice that memory ran out, and returns the exit status: `NO_MEMORY`, or
+/// `STOPPED` if that sink stopped.
 pub fn no_memory<O: Sink, E: Sink>(notice: &[u8], out: &mut O, err: &mut E) -> u8
     ensures { WantOf notice.now [] (sinks_view O.shows E.shows out.old err.old)
         (sinks_view O.shows E.shows out.new err.new) result }
@@ -21,8 +21,8 @@ pub fn no_memory<O: Sink, E: Sink>(notice: &[u8], out: &mut O, err: &mut E) -> u
     }
 }
 
-/// Prints these texts, and answers this exit status. Where a sink stopped, nothing more is printed,
-/// and the answer is `STOPPED`; where one wanted memory, the notice follows, and the answer is that of `no_memory`.
+/// Prints these texts, and returns this exit status. If a sink stopped, nothing more is printed, and it returns
+/// `STOPPED`. If one ran out of memory, the notice follows, and it returns what `no_memory` does.
 pub fn finish<O: Sink, E: Sink>(
     pieces: &[Piece],
     status: u8,
@@ -40,7 +40,7 @@ pub fn finish<O: Sink, E: Sink>(
     }
 }
 
-/// Prints a text on the sink of errors, and answers this exit status, as `finish` does.
+/// Prints a text on the sink of errors, and returns this exit status, as `finish` does.
 pub fn complain<O: Sink, E: Sink>(
     text: &[u8],
     status: u8,

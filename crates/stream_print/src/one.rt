@@ -11,7 +11,7 @@ use edge_traits::{EdgeFault, Sink};
 pub enum PrintStop {
     /// The sink failed, or took 0 bytes.
     Stopped,
-    /// The sink wanted memory.
+    /// The sink ran out of memory.
     Memory,
 }
 

@@ -16,8 +16,8 @@ pub enum Input {
     Unread,
 }
 
-/// Reads the input to its end, until it has given so many bytes, or until its count rose. It wants memory only where that
-/// count stands still, and never reads more than so many bytes.
+/// Reads the input to its end, until it has given `limit` bytes, or until its count rose. It runs out of memory only if that
+/// count stays the same, and never reads more than `limit` bytes.
 pub fn read_input<R: Source>(
     alloc: Global,
     source: &mut R,

@@ -61,7 +61,7 @@ fn time<M: Measured, R: Runtime>(
     Ok(u64::try_from(taken).unwrap_or(u64::MAX))
 }
 
-/// Makes the task and a copy by turns.
+/// Makes the task and a copy alternately.
 fn measure<M: Measured, R: Runtime>(rt: &R, alloc: Global, measured: &M) -> anyhow::Result<Times> {
     let mut times = Times {
         task: u64::MAX,

@@ -20,7 +20,7 @@ fn put_all(alloc: Global, files: &mut FileMap, all: &[(&[u8], &[u8])]) -> Result
     Ok(())
 }
 
-/// Whether the file of this path holds just this, or isn't there.
+/// Whether the file of this path holds exactly this content, or isn't there if none is given.
 fn stands(files: &FileMap, path: &Bytes, content: Option<&[u8]>) -> bool {
     files.find(path).map(|content| content.as_slice()) == content
 }

@@ -4,7 +4,7 @@ ghost use Rattle.std.specs.Prelude.{◌≡◌, length, IfOk};
 use farm_types::Bytes;
 use std::alloc::{AllocError, Global};
 
-/// So many bytes.
+/// This many bytes.
 pub fn repeated(alloc: Global, len: usize) -> Result<Bytes, AllocError>
     ensures { IfOk result (λ bytes. length bytes ≡ len) }
 {

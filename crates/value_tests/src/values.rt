@@ -31,7 +31,7 @@ fn exit_codes(rt: HostRuntime) {
     expect_codes(&rt, EXIT_CODES);
 }
 
-// Texts, and the numbers from 1 to 255 that they are in at most 3 digits: where a zero may stand in front, and where none may.
+// Texts, and the numbers from 1 to 255 that they are in at most 3 digits: if they may begin with zeros, and if they may not.
 const DECIMALS: &[(&[u8], Option<u32>, Option<u32>)] = &[
     (b"", None, None),
     (b"0", None, None),

@@ -1,4 +1,4 @@
--- When a command is run here as it stands, after its job.
+-- When a command is run here as it is, after its job.
 use Rattle.std.specs.Prelude.{Bool, false, not, ◌&&◌, List, [], ◌∷◌}
 use Rattle.farm_machine.specs.declared.reports.Report.{Report}
 use Rattle.report_text.specs.Pieces.{is_done_well}

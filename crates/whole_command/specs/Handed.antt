@@ -10,7 +10,7 @@ use Rattle.whole_command.specs.declared.words.Mode.TheVariants.{Read, Write, Bot
 abbrev pub mode_of : ℕ → Mode
 mode_of access = if nat_eq access 0 then Read else (if nat_eq access 1 then Write else Both)
 
--- Whether what a descriptor leads to can be opened again. A pipe can if it has no name, as the text of its link tells: a named one might wait.
+-- Whether what a descriptor leads to can be opened again. A pipe can if it has no name, by the text of its link: a named one might wait.
 abbrev pub opens_again : Kind → List ℕ → Bool
 opens_again File link = true
 opens_again Device link = true

@@ -1,4 +1,4 @@
--- When what is at an output asks for the command as it stands.
+-- When what is at an output asks for the command as it is.
 use Rattle.std.specs.Prelude.{Bool, true, false}
 use Rattle.arg_scan.specs.declared.verdict.Action.{Action}
 use Rattle.arg_scan.specs.declared.verdict.Action.TheVariants.{Compile, Assemble}

@@ -11,7 +11,7 @@ is_for_text word = starts_with nat_eq word (codes "-D") || (starts_with nat_eq w
 abbrev pub is_other : List ℕ → Bool
 is_other word = starts_with nat_eq word (codes "-") && not (is_for_text word)
 
--- Some part behind a comma is one.
+-- Some part after a comma is one.
 abbrev pub has_other_part : List ℕ → Bool
 has_other_part [] = false
 has_other_part (byte ∷ bytes) = (nat_eq byte 44 && is_other bytes) || has_other_part bytes

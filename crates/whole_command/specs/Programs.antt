@@ -1,4 +1,4 @@
--- Where a program may be.
+-- The path at which a program may be.
 use Rattle.std.specs.Prelude.{ℕ, List, [], ◌∷◌, ◌++◌, codes}
 
 -- The path of a name in a folder of `PATH`; an empty folder is that of the process.

@@ -30,7 +30,7 @@ is_gap byte = (nat_eq byte 32 || nat_eq byte 9) || (nat_eq byte 40 || nat_eq byt
 abbrev pub after_gap : List ℕ → List ℕ
 after_gap text = drop (position_or_len (λ byte. not (is_gap byte)) text) text
 
--- `GCC target` or `GCC optimize` behind five bytes and a gap
+-- `GCC target` or `GCC optimize`, after five bytes and a gap
 abbrev pub changes_options : List ℕ → Bool
 changes_options pragma =
     starts_with nat_eq (after_gap (drop 5 pragma)) (codes "GCC")

@@ -1,4 +1,4 @@
--- The program and the arguments that run a command as it stands.
+-- The program and the arguments that run a command as it is.
 use Rattle.std.specs.Prelude.{ℕ, List, [], ◌∷◌, ◌++◌, codes, map, string_bytes}
 use Rattle.std.specs.Fmt.{decimal}
 use Rattle.std.specs.List.{flat_map}
@@ -14,7 +14,7 @@ sign Read = codes "<"
 sign Write = codes ">>"
 sign Both = codes "<>"
 
--- Opens a descriptor of this process again under its number. Without `command` a shell of POSIX's manner would end where that is refused.
+-- Opens a descriptor of this process again under its number. Without `command` a shell of POSIX's manner would end if that is refused.
 abbrev pub opening_text : ℕ → ℕ → Mode → List ℕ
 opening_text process number mode = codes "{ command exec " ++ decimal number ++ sign mode ++ codes "/proc/" ++ decimal process
     ++ codes "/fd/" ++ decimal number ++ codes "; } 2>/dev/null\n"
@@ -22,7 +22,7 @@ opening_text process number mode = codes "{ command exec " ++ decimal number ++ 
 abbrev pub opening_texts : ℕ → List Descriptor → List ℕ
 opening_texts process descriptors = flat_map (λ descriptor. opening_text process descriptor.number descriptor.mode) descriptors
 
--- Takes the words from the command line of this process, behind its first two, if they aren't known.
+-- Takes the words from the command line of this process, after its first two, if they aren't known.
 abbrev pub taking_text : Given → ℕ → List ℕ
 taking_text (Words words) process = []
 taking_text OwnLine process = codes "mapfile -d '' -t words </proc/" ++ decimal process ++ codes "/cmdline; set -- \"${words[@]:2}\"\n"

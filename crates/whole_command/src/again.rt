@@ -6,7 +6,7 @@ ghost use Rattle.report_text.specs.Pieces as pieces;
 
 use farm_machine::{End, Report};
 
-/// Whether the command of a job is run here as it stands, after these reports of it.
+/// Whether the command of a job is run here as it is, after these reports of it.
 ///
 /// It is, if fallback is on and the one job ended otherwise than with status 0 of a program. Then nothing was put for it. Reports of no job, or
 /// of several, are those of no single command.

@@ -15,7 +15,7 @@ pub fn needs_folder(driver: &[u8], words: &[Bytes]) -> bool
     is_clang(driver) && asks_debug(words) && !names_folder(words)
 }
 
-/// Whether a command wants `-Qunused-arguments`: its driver is clang, and it has `-fmacro-prefix-map=`, of which clang warns in preprocessed text.
+/// Whether a command wants `-Qunused-arguments`: its driver is clang, and it has `-fmacro-prefix-map=`, about which clang warns in preprocessed text.
 pub fn needs_quiet(driver: &[u8], words: &[Bytes]) -> bool
     ensures { result ≡ needs_quiet driver.now words.now }
 {

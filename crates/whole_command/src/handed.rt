@@ -25,9 +25,9 @@ pub enum Kind {
     Other,
 }
 
-/// The descriptors that this process was handed, beside the standard streams, and that can be handed on: those that it doesn't close for a
-/// program which it becomes, if they lead to a regular file, a character device or a pipe without a name. All that it opens itself it closes. None
-/// if the system doesn't tell them.
+/// The descriptors that this process was handed, beside the standard streams, and that can be handed on. It doesn't close them for a program
+/// which it becomes, and they lead to a regular file, a character device or a pipe without a name. All that it opens itself it closes. The
+/// list is empty if the system doesn't list them.
 ///
 /// Each is opened anew: who reads a regular file begins at its start, and who writes to one adds to its end. A socket can't be opened again, and
 /// to open a pipe with a name may wait for ever.
@@ -107,7 +107,7 @@ fn kind_of(found: FileType) -> Kind {
     }
 }
 
-// The mode of a descriptor by what the system tells of it; None if it is closed for other programs.
+// The mode of a descriptor by what the system says of it; None if it is closed for other programs.
 fn mode_told(text: &str) -> Option<Mode> {
     let flags = text.lines().find_map(|line| line.strip_prefix("flags:"))?;
     let flags = u32::from_str_radix(flags.trim(), 8).ok()?;

@@ -1,4 +1,4 @@
-//! The command of `farm cc` as it stands: when it is run here in place of a job, and how.
+//! The command of `farm cc` as it is: when it is run here in place of a job, and how.
 #![tactic(auto)]
 
 mod again;

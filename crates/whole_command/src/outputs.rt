@@ -1,4 +1,4 @@
-//! Before a job: whether what is at its output asks for the command as it stands.
+//! Before a job: whether what is at its output asks for the command as it is.
 
 ghost use Rattle.std.specs.Prelude.{◌≡◌};
 ghost use Rattle.whole_command.specs.Outputs.{takes_whole_command};
@@ -18,7 +18,7 @@ pub enum Found {
     Other,
 }
 
-/// Whether a command with this action is run here as it stands, for what is at its output.
+/// Whether a command with this action is run here as it is, for what is at its output.
 ///
 /// gcc's assembler makes a regular file anew, as a job does. Through anything else it writes, and the compiler itself writes into whatever is
 /// there.

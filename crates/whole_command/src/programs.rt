@@ -1,4 +1,4 @@
-//! Where a program is, and which driver it is.
+//! The place of a program, and which driver it is.
 
 ghost use Rattle.std.specs.Prelude.{◌≡◌, IfOk, string_bytes};
 ghost use Rattle.whole_command.specs.Programs.{path_in};
@@ -13,7 +13,7 @@ use std::fs;
 use std::os::unix::fs::PermissionsExt;
 use std::rt::Files;
 
-/// Where programs are sought if there is no `PATH`.
+/// The folders in which programs are sought if there is no `PATH`.
 const FOLDERS: &str = "/bin:/usr/bin";
 
 /// Whether a program is there: by its path, or in a folder of `PATH`. If `PATH` isn't UTF-8, it counts as there.
@@ -38,7 +38,7 @@ pub fn driver_of<R: Files + Env + AllocGlobal>(rt: &R, program: &str) -> Result<
     }
 }
 
-// Where a program is.
+// The place of a program.
 #[derive(Drop)]
 enum Place {
     Nowhere,

@@ -1,4 +1,4 @@
-//! A run of a command as it stands.
+//! A run of a command as it is.
 
 ghost use Rattle.std.specs.Prelude.{◌≡◌, []};
 
@@ -13,7 +13,7 @@ use std::os::unix::process::ExitStatusExt;
 use std::process::{ExitStatus, Processes};
 use std::rt::Files;
 
-/// Runs a command as it stands, and returns its exit code.
+/// Runs a command as it is, and returns its exit code.
 ///
 /// It has the standard streams, the folder and the environment of this process. Its exit code is its own, 104 if a signal ended it, and 107 if
 /// it can't be started or the system keeps no end of it; a line on the standard error says which signal, and why.
@@ -38,7 +38,7 @@ pub fn run_whole<R: Processes + Env + Files + Eprint + AllocGlobal>(
     })
 }
 
-// The number of the fault of a wait for a child of which the system keeps no end.
+// The number of the fault of a wait for a child whose end the system doesn't keep.
 const NO_CHILD: i32 = 10;
 
 // Starts a command, and waits for it.

@@ -99,7 +99,7 @@ fn begins_pragma(text: &[u8]) -> bool
     text.starts_with(b"ragma") && changes_options(text)
 }
 
-// Whether it goes on so behind the first five bytes.
+// Whether it goes on so after the first five bytes.
 fn changes_options(pragma: &[u8]) -> bool
     ensures { result ≡ changes_options pragma.now }
 {
@@ -108,7 +108,7 @@ fn changes_options(pragma: &[u8]) -> bool
     asked.starts_with(b"GCC") && (name.starts_with(b"target") || name.starts_with(b"optimize"))
 }
 
-// The text behind blanks, brackets and quotes.
+// The text after blanks, brackets and quotes.
 fn after_gap(text: &[u8]) -> &[u8]
     ensures { result.now ≡ after_gap text.now }
 {

@@ -7,9 +7,9 @@ use edge_traits::{Bounds, Station, StationFault, has_output};
 use farm_types::{Ran, Word};
 use std::alloc::Global;
 
-/// A station for a job whose command is run as it stands if no host compiles it. It runs what leaves no object, as a preprocessor does.
+/// A station for a job whose command is run as it is, if no host compiles it. It runs what leaves no object, as a preprocessor does.
 ///
-/// Unless it compiles too, each other run answers out of memory, which a station may always do: the one below isn't asked, and no count rises. So
+/// Unless it compiles too, each other run returns out of memory, which a station may always do: the one below isn't asked, and no count rises. So
 /// the job ends without a compile here of its preprocessed text, whose messages and object may differ from those of the command.
 #[derive(Drop)]
 pub struct PreprocessorStation<S> {

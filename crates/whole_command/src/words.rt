@@ -1,4 +1,4 @@
-//! The program and the words that run a command as it stands.
+//! The program and the words that run a command as it is.
 
 ghost use Rattle.std.specs.Prelude.{◌≡◌, ◌∷◌, ◌++◌, None, IfOk, OnOk, codes, map, string_bytes};
 ghost use Rattle.std.specs.Fmt.{decimal};
@@ -23,15 +23,15 @@ pub struct Descriptor {
     pub mode: Mode,
 }
 
-/// The words of a command as it stands.
+/// The words of a command as it is.
 #[derive(Clone, Copy)]
 pub enum Given<'a> {
     Words(&'a [String]),
-    /// They are those of this process's command line behind `farm cc`: one of them isn't UTF-8.
+    /// They are those of this process's command line after `farm cc`: one of them isn't UTF-8.
     OwnLine,
 }
 
-/// A command as it stands.
+/// A command as it is.
 #[derive(Clone, Copy)]
 pub struct Whole<'a> {
     pub given: Given<'a>,

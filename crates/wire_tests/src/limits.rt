@@ -11,7 +11,7 @@ use farm_types::{Bytes, Words};
 use std::alloc::{AllocError, Global};
 use wire_tokens::{ARGC, ARGV, DIST, push_body, push_token};
 
-// A word of so many letters.
+// A word of this many letters.
 fn word_of(alloc: Global, len: usize) -> Result<Bytes, AllocError>
     ensures { IfOk result (λ word. length word ≡ len) }
 {

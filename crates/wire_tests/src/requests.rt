@@ -7,7 +7,7 @@ use std::process::Abort;
 use std::test::Fail;
 use wire_tokens::{RequestFault, Which};
 
-/// What a text in pieces came to, without its bytes.
+/// The result of a text in pieces, without its bytes.
 #[derive(Clone, Copy, Debug, PartialEq, Eq)]
 enum Shown {
     More,
@@ -45,7 +45,7 @@ const WORDS: &[&str] = &["scc", "-c", "a.i", "-o", "a.o"];
 
 const PIECES: &[usize] = &[1, 2, 7, 12, 1_000];
 
-/// A text, and what it came to.
+/// A text, and its result.
 type Case = (&'static str, &'static [u8], Shown);
 
 const READ: &[Case] = &[
@@ -222,7 +222,7 @@ fn full_of_words(alloc: Global) -> Result<Bytes, AllocError> {
     front_of(alloc, words.as_slice())
 }
 
-/// What a text comes to in pieces of these lengths.
+/// The result of a text in pieces of these lengths.
 fn expect_pieces<R: Abort>(
     rt: &R,
     alloc: Global,
@@ -288,7 +288,7 @@ fn reads_the_words(rt: HostRuntime) -> Result<(), Fail> {
     Ok(())
 }
 
-/// Words that have all their bytes, and what they come to with this behind them.
+/// Words that have all their bytes, and their result with these bytes after them.
 fn expect_full<R: Abort>(
     rt: &R,
     alloc: Global,

@@ -1,8 +1,8 @@
-//! Comparisons. Each stands here alone, so that a proof reads it once and not in each test.
+//! Comparisons. Each is a function of its own, so that a proof reads it once and not in each test.
 use std::fmt::Debug;
 use std::process::Abort;
 
-/// Two values, and the row that they stand in.
+/// Two values, and the row that they are in.
 pub(crate) fn same<R: Abort, T: PartialEq + Debug, W: Debug>(
     rt: &R,
     shown: &T,
@@ -12,7 +12,7 @@ pub(crate) fn same<R: Abort, T: PartialEq + Debug, W: Debug>(
     assert_eq!(rt; shown, wanted, "{row:?}");
 }
 
-/// Two texts, and the row that they stand in.
+/// Two texts, and the row that they are in.
 pub(crate) fn same_bytes<R: Abort, W: Debug>(rt: &R, shown: &[u8], wanted: &[u8], row: &W) {
     assert_eq!(rt; shown, wanted, "{row:?}");
 }

@@ -6,7 +6,7 @@ use std::process::Abort;
 use std::test::Fail;
 use wire_tokens::{DOTO, Name4, ReplyFault, SERR, Which, push_body};
 
-/// What a text in pieces came to.
+/// The result of a text in pieces.
 #[derive(Clone, Copy, Debug, PartialEq, Eq)]
 enum Shown {
     More,
@@ -17,7 +17,7 @@ enum Shown {
 
 const PIECES: &[usize] = &[1, 2, 5, 7, 12, 61, 1_000];
 
-/// A text, the bytes of its object, and what it came to.
+/// A text, the bytes of its object, and its result.
 type Case = (&'static str, &'static [u8], &'static [u8], Shown);
 
 const CASES: &[Case] = &[
@@ -162,7 +162,7 @@ const CASES: &[Case] = &[
     ),
 ];
 
-// What a part came to, where the pieces before it had so many bytes. It adds the object's bytes.
+// The result of a part, if the pieces before it had `before` bytes. It adds the object's bytes.
 fn summary(part: Part, piece: &[u8], before: usize, object: &mut Bytes) -> Result<Shown, Fail> {
     Ok(match part {
         Part::More { used, object: span } => {
@@ -212,7 +212,7 @@ fn read(alloc: Global, text: &[u8], len: usize) -> Result<(Shown, Bytes), Fail> 
     Ok((last, object))
 }
 
-/// What this text comes to in pieces of this length, and the bytes of its object.
+/// The result of this text in pieces of this length, and the bytes of its object.
 fn expect_read<R: Abort>(
     rt: &R,
     alloc: Global,
@@ -247,7 +247,7 @@ fn a_reply_is_read_in_pieces(rt: HostRuntime) -> Result<(), Fail> {
 
 const WHOLE: &[u8] = b"DONE00000001STAT00000000SERR00000000SOUT00000000DOTO0000000dSCO1\ndef a 1\n";
 
-/// What a text that isn't whole comes to in pieces, and the length of its object.
+/// The result of a text that isn't whole in pieces, and the length of its object.
 fn expect_cut<R: Abort>(rt: &R, alloc: Global, text: &[u8]) -> Result<(), Fail> {
     for size in PIECES {
         let (shown, object) = read(alloc, text, *size)?;
@@ -303,7 +303,7 @@ fn is_spent_after_a_reply(rt: HostRuntime) {
     holds(&rt, reader.is_spent(), &"after");
 }
 
-/// A text, and behind it a part of this name with so many bytes.
+/// A text, and after it a part of this name with `len` bytes.
 fn with_body(
     alloc: Global,
     text: &[u8],

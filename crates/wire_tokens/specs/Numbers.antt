@@ -1,4 +1,4 @@
--- The numbers that stand for faults in printed text (docs/wire.md, "Faults").
+-- The numbers of the faults in printed text (docs/wire.md, "Faults").
 use Rattle.std.specs.Prelude.{ℕ}
 use Rattle.wire_tokens.specs.declared.faults.RequestFault.{RequestFault}
 use Rattle.wire_tokens.specs.declared.faults.RequestFault.TheVariants.{WrongName, BadDigit, BadVersion, Count, TooLarge}
@@ -14,7 +14,7 @@ request_fault_number (BadVersion n) = 3
 request_fault_number (Count n) = 4
 request_fault_number (TooLarge which len) = 5
 
--- 4 is a fault of requests alone
+-- 4 is a fault of requests only
 abbrev pub reply_fault_number : ReplyFault → ℕ
 reply_fault_number ReplyWrongName = 1
 reply_fault_number ReplyBadDigit = 2

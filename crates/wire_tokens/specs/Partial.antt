@@ -7,7 +7,7 @@ use Rattle.wire_tokens.specs.declared.token.TokenFault.TheVariants as faults
 use Rattle.wire_tokens.specs.Scan.{scan_of}
 use Rattle.wire_tokens.specs.Format.{Due, Format}
 
--- a token's number where it is whole, or why it is none
+-- a token's number if it is whole, or why it is none
 abbrev pub number_in : Scan → Result (Option ℕ) TokenFault
 number_in (Number n) = Ok (Some n)
 number_in (WrongName at) = Err (faults.WrongName at)
@@ -18,7 +18,7 @@ number_in Short = Ok None
 abbrev pub number_so_far : List ℕ → List ℕ → Result (Option ℕ) TokenFault
 number_so_far name bytes = number_in (scan_of name bytes)
 
--- where in its token a fault stands
+-- the place of a fault in its token
 abbrev pub place_in_token : TokenFault → ℕ
 place_in_token (faults.WrongName at) = at
 place_in_token (faults.BadDigit at) = at

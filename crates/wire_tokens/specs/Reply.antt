@@ -62,10 +62,10 @@ reply_format = record { due = reply_due; wrong_name = WrongName; bad_digit = Bad
 abbrev pub BeginsReply : List ℕ → ℕ → Outcome → Type 0
 BeginsReply text used o = Begins SpellsReply text used o
 
--- this fault stands in text at this place
+-- text has this fault at this place
 abbrev pub ReplyFaultStands : List ℕ → ℕ → ReplyFault → Type 0
 ReplyFaultStands text at fault = Stands reply_format text at fault
 
--- no fault stands in text, and none of its prefixes spells an outcome
+-- text has no fault, and none of its prefixes spells an outcome
 abbrev pub IsShortReply : List ℕ → Type 0
 IsShortReply text = IsShort reply_format SpellsReply text

@@ -40,7 +40,7 @@ abbrev pub request_text : Request → List ℕ
 request_text q = token (codes "DIST") 1
     ++ (token (codes "ARGC") (length q.words) ++ (flat_map word_text q.words ++ (token (codes "DOTI") (length q.source) ++ q.source)))
 
--- what is wrong with a number: of the version, of the count, of a word's length after words of so many bytes, and of the source's length
+-- what is wrong with a number: of the version, of the count, of a word's length after words with this many bytes, and of the source's length
 abbrev pub version_fault : ℕ → Option RequestFault
 version_fault n = if n == 1 then None else Some (BadVersion n)
 
@@ -97,10 +97,10 @@ request_format = record { due = request_due; wrong_name = WrongName; bad_digit =
 abbrev pub BeginsRequest : List ℕ → ℕ → Request → Type 0
 BeginsRequest text used q = Begins SpellsRequest text used q
 
--- this fault stands in text at this place
+-- text has this fault at this place
 abbrev pub RequestFaultStands : List ℕ → ℕ → RequestFault → Type 0
 RequestFaultStands text at fault = Stands request_format text at fault
 
--- no fault stands in text, and none of its prefixes spells a request
+-- text has no fault, and none of its prefixes spells a request
 abbrev pub IsShortRequest : List ℕ → Type 0
 IsShortRequest text = IsShort request_format SpellsRequest text

@@ -7,11 +7,11 @@ use Rattle.std.specs.List.{AllPass}
 abbrev pub is_hex_digit : ℕ → Bool
 is_hex_digit c = (nat_le 48 c && nat_le c 57) || (nat_le 97 c && nat_le c 102) || (nat_le 65 c && nat_le c 70)
 
--- what a digit of either case stands for
+-- the value of a digit of either case
 abbrev pub digit_of : ℕ → ℕ
 digit_of c = if nat_le c 57 then c - 48 else if nat_le 97 c then c - 87 else c - 55
 
--- what digits stand for, the most significant first
+-- the value of digits, the most significant first
 abbrev pub number_of : List ℕ → ℕ
 number_of [] = 0
 number_of (c ∷ cs) = digit_of c * 16 ^ length cs + number_of cs
@@ -44,7 +44,7 @@ pub record IsWrongName (name text : List ℕ) (at : ℕ) : Type 0 where
   pub before : take at text ≡ take at name
   pub differs : slice_index text at ≢ slice_index name at
 
--- the name stands at the front of text, and the byte at this place is the first after it that is no digit
+-- text begins with the name, and the byte at this place is the first after it that is no digit
 pub record IsBadDigit (name text : List ℕ) (at : ℕ) : Type 0 where
   pub named : take 4 text ≡ name
   pub after_name : 4 ≤ at

@@ -22,7 +22,7 @@ pub fn one_reading_of_requests()
     ensures read_again { (q : Request) (more : List ℕ) → RequestFits q.words q.source
         → BeginsRequest (request_text q ++ more) (length (request_text q)) q }
 
-    // At most one fault stands, and it stands in every longer text at the same place.
+    // A text has at most one fault, and every longer text has it at the same place.
     ensures one_fault { (text : List ℕ) (i j : ℕ) (f g : RequestFault) → RequestFaultStands text i f → RequestFaultStands text j g → (i ≡ j) × (f ≡ g) }
     ensures longer { (text more : List ℕ) (at : ℕ) (fault : RequestFault) → RequestFaultStands text at fault → RequestFaultStands (text ++ more) at fault }
 
@@ -37,7 +37,7 @@ pub fn one_reading_of_requests()
     ensures empty { IsShortRequest [] }
     ensures cut { (text more : List ℕ) (q : Request) → SpellsRequest (text ++ more) q → (more ≡ [] → ⊥) → IsShortRequest text }
 
-    // A short text is shorter than the longest spelling, and may be shorter by one byte alone.
+    // A short text is shorter than the longest spelling, and may be shorter by only one byte.
     ensures len { (q : Request) → length (request_text q) ≡ 36 + (12 * length q.words + sum_by length q.words + length q.source) }
     ensures short { (text : List ℕ) → IsShortRequest text → length text ≤ 34615331 }
     ensures longest { (text : List ℕ) × IsShortRequest text × (length text ≡ 34615331) }
@@ -56,7 +56,7 @@ pub fn one_reading_of_replies()
     ensures read_again { (o : Outcome) (more : List ℕ) → OutcomeFits o.status o.err o.out o.object → o.status < 2 ^ 32
         → BeginsReply (reply_text o ++ more) (length (reply_text o)) o }
 
-    // At most one fault stands, and it stands in every longer text at the same place.
+    // A text has at most one fault, and every longer text has it at the same place.
     ensures one_fault { (text : List ℕ) (i j : ℕ) (f g : ReplyFault) → ReplyFaultStands text i f → ReplyFaultStands text j g → (i ≡ j) × (f ≡ g) }
     ensures longer { (text more : List ℕ) (at : ℕ) (fault : ReplyFault) → ReplyFaultStands text at fault → ReplyFaultStands (text ++ more) at fault }
 
@@ -71,7 +71,7 @@ pub fn one_reading_of_replies()
     ensures empty { IsShortReply [] }
     ensures cut { (text more : List ℕ) (o : Outcome) → SpellsReply (text ++ more) o → (more ≡ [] → ⊥) → IsShortReply text }
 
-    // A short text is shorter than the longest spelling, and may be shorter by one byte alone.
+    // A short text is shorter than the longest spelling, and may be shorter by only one byte.
     ensures len { (o : Outcome) → length (reply_text o) ≡ 60 + (length o.err + length o.out + length o.object) }
     ensures short { (text : List ℕ) → IsShortReply text → length text ≤ 35651643 }
     ensures longest { (text : List ℕ) × IsShortReply text × (length text ≡ 35651643) }

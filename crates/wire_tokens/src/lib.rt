@@ -1,5 +1,5 @@
 //! The wire between `farm` and its daemon: tokens, the texts of requests and replies, the faults
-//! of a text, and the laws of all these. The whole format stands in docs/wire.md.
+//! of a text, and the laws of all these. The whole format is in docs/wire.md.
 #![tactic(auto)]
 
 mod faults;

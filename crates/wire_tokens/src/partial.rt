@@ -32,9 +32,8 @@ impl PartialToken {
         }
     }
 
-    /// Takes the next byte of a token of the expected name. The answer is the token's number where
-    /// that was its last byte, nothing where more are wanted, or why it is no such token. It takes
-    /// no memory.
+    /// Takes the next byte of a token of the expected name. It returns the token's number if that was
+    /// its last byte, None if bytes are missing, or why it is no such token. It takes no memory.
     pub fn take(&mut self, byte: u8, expected: Name4) -> Result<Option<u32>, TokenFault>
         requires { length self.old < 12 }
         ensures bytes { self.new ≡ self.old ++ byte ∷ [] }

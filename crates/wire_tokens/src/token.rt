@@ -22,7 +22,7 @@ pub enum TokenFault {
 }
 
 impl TokenFault {
-    /// Where it stands.
+    /// Its place.
     pub fn at(self) -> u8
         ensures { result ≡ place_in_token self }
     {
@@ -87,7 +87,7 @@ fn digits_len(text: &[u8]) -> usize
     8
 }
 
-// What eight digits stand for.
+// The value of eight digits.
 fn number_of(digits: &[u8]) -> u32
     requires eight { length digits.now ≡ 8 }
     requires each { AllPass is_hex_digit digits.now }

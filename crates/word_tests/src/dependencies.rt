@@ -7,7 +7,7 @@ use std::alloc::{AllocError, Global};
 use std::process::Abort;
 use std::test::Fail;
 
-/// A command, and what is added behind it.
+/// A command, and what is added after it.
 type Row = (&'static str, &'static str);
 
 const ROWS: &[Row] = &[

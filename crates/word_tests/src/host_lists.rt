@@ -1,4 +1,4 @@
-//! Rows of texts, with what they are printed as or where they are wrong.
+//! Rows of texts, with what they are printed as or the place at which they are wrong.
 
 use crate::same::{same, same_bytes};
 use farm_types::{Bytes, Host};
@@ -81,7 +81,7 @@ fn expect_printed<R: Abort>(
     Ok(printed)
 }
 
-/// What is printed is printed again as it stands.
+/// What is printed is printed again unchanged.
 fn expect_right<R: Abort>(rt: &R, alloc: Global, rows: &[Right]) -> Result<(), Fail> {
     for (text, wanted) in rows {
         let printed = expect_printed(rt, alloc, text, wanted, text)?;
@@ -146,7 +146,7 @@ fn wrong_texts(rt: HostRuntime) {
     expect_wrong(&rt, rt.alloc(), WRONG);
 }
 
-/// A text, and the fault's number and place where it has one.
+/// A text, and the fault's number and place if it has one.
 type Long = (&'static [u8], Option<(u8, u64)>);
 
 const LONG: &[Long] = &[

@@ -1,4 +1,4 @@
-//! Rows of texts, with the job graphs that they list or where they are wrong, and which jobs of a depth run.
+//! Rows of texts, with the job graphs that they list or the place at which they are wrong, and which jobs of a depth run.
 
 ghost use Rattle.job_graph.specs.Graphs.{IsGraph};
 
@@ -9,7 +9,7 @@ use std::alloc::{AllocError, Global};
 use std::process::Abort;
 use std::test::Fail;
 
-/// Adds a number, and a comma behind it.
+/// Adds a number, and a comma after it.
 fn add_number(alloc: Global, shown: &mut Bytes, number: u32) -> Result<(), AllocError> {
     let digits = number.to_string(alloc)?;
     shown.try_extend(digits.as_bytes())?;
@@ -196,7 +196,7 @@ const WAVES: &[WaveRow] = &[
     (DIAMOND, 2, b"ggg?", b"3,||"),
 ];
 
-/// Adds the wave of this depth, where each job has a fate.
+/// Adds the wave of this depth, if each job has a fate.
 fn add_wave_of(
     alloc: Global,
     shown: &mut Bytes,
@@ -242,7 +242,7 @@ fn add_need(alloc: Global, text: &mut Bytes, number: u32) -> Result<(), AllocErr
     text.try_extend(digits.as_bytes())
 }
 
-/// Adds a line of needs that names so many jobs, from the first on.
+/// Adds a line of needs that names `count` jobs, from the first on.
 fn add_first_needs(alloc: Global, text: &mut Bytes, count: u32) -> Result<(), AllocError> {
     text.try_extend(b"needs:")?;
     for need in 0..count {
@@ -251,7 +251,7 @@ fn add_first_needs(alloc: Global, text: &mut Bytes, count: u32) -> Result<(), Al
     text.try_push(b'\n')
 }
 
-/// So many jobs, each of which needs all that stand before it.
+/// `jobs` jobs, each of which needs all that are before it.
 fn all_needed(alloc: Global, jobs: u32) -> Result<Bytes, AllocError> {
     let mut text = Bytes::new(alloc);
     for job in 0..jobs {

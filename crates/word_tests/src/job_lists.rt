@@ -1,4 +1,4 @@
-//! Rows of texts, with the words that they list or where they are wrong.
+//! Rows of texts, with the words that they list or the place at which they are wrong.
 
 use crate::same::{same, same_bytes};
 use farm_types::{Bytes, Words};
@@ -7,7 +7,7 @@ use std::alloc::{AllocError, Global};
 use std::process::Abort;
 use std::test::Fail;
 
-/// The words, with `|` behind each.
+/// The words, with `|` after each.
 fn shown(alloc: Global, words: &Words) -> Result<Bytes, AllocError> {
     let mut shown = Bytes::new(alloc);
     for word in words.as_slice() {
@@ -17,7 +17,7 @@ fn shown(alloc: Global, words: &Words) -> Result<Bytes, AllocError> {
     Ok(shown)
 }
 
-/// The words of the first job, with `|` behind each.
+/// The words of the first job, with `|` after each.
 fn words_text(alloc: Global, text: &[u8]) -> Result<Bytes, JobError> {
     let jobs = parse(alloc, text)?;
     match jobs.get(0) {
@@ -176,7 +176,7 @@ fn numbers(rt: HostRuntime) {
     expect_numbers(&rt, NUMBERS);
 }
 
-/// A text of as many lines `x`, and behind them another one.
+/// A text of as many lines `x`, and after them another one.
 fn lines_of_x(alloc: Global, count: usize, last: &[u8]) -> Result<Vec<u8>, AllocError> {
     let mut text = Vec::new(alloc);
     for _ in 0..count {
@@ -186,7 +186,7 @@ fn lines_of_x(alloc: Global, count: usize, last: &[u8]) -> Result<Vec<u8>, Alloc
     Ok(text)
 }
 
-/// The fault of as many lines `x`, and of another one behind them.
+/// The fault of as many lines `x`, and of another one after them.
 fn fault_of_lines(
     alloc: Global,
     count: usize,

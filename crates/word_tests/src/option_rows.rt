@@ -2,7 +2,7 @@
 
 use arg_scan::Why;
 
-/// Words in each form of their rows: the row, and where the operand begins.
+/// Words in each form of their rows: the row, and the byte at which the operand begins.
 pub(crate) const LATER_FORMS: &[(&str, u32, usize)] = &[
     ("--", 64, 2),
     ("--9", 64, 2),

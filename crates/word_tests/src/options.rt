@@ -9,7 +9,7 @@ use std::alloc::{AllocError, Global};
 use std::process::Abort;
 use std::test::Fail;
 
-/// A word, the row that it fits, and where its operand begins.
+/// A word, the row that it fits, and the byte at which its operand begins.
 type Fitting = (&'static str, u32, usize);
 
 /// A word, and what is found for it.

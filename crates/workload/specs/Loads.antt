@@ -9,12 +9,12 @@ use Rattle.file_map.specs.FileMaps.{Files}
 abbrev pub next_state : ℕ → ℕ
 next_state x = (1664525 * x + 1013904223) % 2 ^ 32
 
--- what comes so many steps after it
+-- what comes this many steps after it
 abbrev pub generator_after : ℕ → ℕ → ℕ
 generator_after x zero = x
 generator_after x (suc steps) = next_state (generator_after x steps)
 
--- the factor that a number of the generator stands for, below 1,000
+-- the factor that a number of the generator gives, below 1,000
 abbrev pub factor_of : ℕ → ℕ
 factor_of x = (x / 65536) % 1000
 
@@ -34,7 +34,7 @@ source_text job factor = (((((codes "int j" ++ decimal job) ++ codes " = ") ++ d
 abbrev pub job_words : ℕ → List (List ℕ)
 job_words job = codes "scc" ∷ codes "-c" ∷ job_source job ∷ codes "-o" ∷ job_object job ∷ []
 
--- the file of a job, where the generator began with n
+-- the file of a job, if the generator began with n
 abbrev pub job_file : ℕ → ℕ → List ℕ × List ℕ
 job_file n job = (job_source job, source_text job (factor_of (generator_after n job)))
 

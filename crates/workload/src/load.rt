@@ -19,8 +19,8 @@ pub struct Load {
 
 /// The workload of n, which is 1 to 512: n jobs, and a source for each.
 ///
-/// Job K, from 1 to n, has the words `scc -c jK.c -o jK.o`, and its file `jK.c` is `int jK = A * 7 + K;` with a line feed,
-/// where A is the factor of the generator's Kth number after n.
+/// Job K, from 1 to n, has the words `scc -c jK.c -o jK.o`, and its file `jK.c` is `int jK = A * 7 + K;` with a line feed.
+/// A is the factor of the generator's Kth number after n.
 pub fn make(alloc: Global, n: u32) -> Result<Load, AllocError>
     requires some { 1 ≤ n }
     requires most { n ≤ jobs_max }

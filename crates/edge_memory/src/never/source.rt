@@ -15,7 +15,7 @@ impl MemNeverSource {
     ghost use Rattle.std.specs.Prelude.{◌≡◌, ◌<◌, [], false};
     ghost use Rattle.edge_memory.specs.Nevers.{never_source_state};
 
-    /// A source of this text, of which one read gives at most so many bytes. It takes no memory.
+    /// A source of this text, of which one read gives at most `most` bytes. It takes no memory.
     pub fn new(text: Bytes, fails: CallNumbers, most: u32) -> MemNeverSource
         requires { 0 < most }
         ensures { never_source_state result ≡ record { text = text; fails = []; most = most; made = 0; given = 0; ended = false } }
