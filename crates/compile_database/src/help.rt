@@ -18,8 +18,8 @@ Options, in any order, each at most once:
                 of one directory
   --from N      pass over the first N of these, 0 to 999999999
   --count N     take at most N of the others, 1 to 512
-  --help        print this, where it is the only word
-  --version     print the version, where it is the only word
+  --help        print this, if it is the only word
+  --version     print the version, if it is the only word
 
 Exit status:
   0    the job list was written

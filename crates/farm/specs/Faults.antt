@@ -27,5 +27,5 @@ job_reason (job.SameOutput first second) = codes "an earlier job writes the same
 job_reason job.NotText = codes "the line isn't UTF-8, or holds a zero byte"
 
 abbrev pub needs_reason : GraphFault → List ℕ
-needs_reason BadNeed = codes "each word behind needs: has to be the number of a job"
-needs_reason NoJobAfter = codes "no job stands behind the line"
+needs_reason BadNeed = codes "each word after needs: has to be the number of a job"
+needs_reason NoJobAfter = codes "no job follows the line"

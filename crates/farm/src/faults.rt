@@ -43,7 +43,7 @@ pub fn needs_reason(fault: GraphFault) -> &'static str
     ensures { result.now ≡ needs_reason fault }
 {
     match fault {
-        GraphFault::BadNeed => "each word behind needs: has to be the number of a job",
-        GraphFault::NoJobAfter => "no job stands behind the line",
+        GraphFault::BadNeed => "each word after needs: has to be the number of a job",
+        GraphFault::NoJobAfter => "no job follows the line",
     }
 }

@@ -52,12 +52,12 @@ fn tell_words<R: Eprint>(rt: &R, words: &[String], place: usize) {
         Advice::UnknownCommand => eprintln!(rt; "farm: {word} is no command: farm --help has them"),
         Advice::BehindOption => {
             eprintln!(rt;
-                "farm: nothing stands behind {name}: farm --help, or farm build --help for a command"
+                "farm: no word may follow {name}: farm --help, or farm build --help for a command"
             )
         }
         Advice::MissingWord => {
             eprintln!(rt;
-                "farm: a word is missing behind {before}: farm {name} --help has what is taken"
+                "farm: a word is missing after {before}: farm {name} --help has what is taken"
             )
         }
         Advice::UnfitWord => {

@@ -27,10 +27,10 @@ Usage: farm COMMAND [WORD]...
 farm COMMAND --help says more of a command; farm --version prints the version.
 
 Environment:
-  DISTCC_HOSTS           the host list, where --hosts gives none
+  DISTCC_HOSTS           the host list, if --hosts gives none
   DISTCC_FALLBACK        if it is 0, as --no-fallback
-  DISTCC_BACKOFF_PERIOD  for how many seconds a host that failed is left alone,
-                         0 to 1000000; 60 where it isn't there
+  DISTCC_BACKOFF_PERIOD  for how many seconds a host that failed is not used,
+                         0 to 1000000; 60 by default
   TMPDIR                 the folder of farm's own files, in place of /tmp
 
 Exit status:
@@ -56,7 +56,7 @@ Faults by their numbers:
   job list    1 an open quote, 2 a backslash at the end of a line, 3 no jobs,
               4 more than 512 jobs, 5 more than 16777216 bytes, 6 an output that
               an earlier job has, 7 no UTF-8 or a zero byte
-  needs       1 a word that is no number of a job, 2 no job behind the line
+  needs       1 a word that is no number of a job, 2 no job after the line
   reply       1 a wrong name of a token, 2 a bad digit, 3 another version, 5 a
               length above its limit, 6 an object beside a failure
 ";
@@ -70,16 +70,15 @@ prints a line for each job, in their order.
 
 Options, in any order, each at most once:
   --hosts LIST   the host list, in place of DISTCC_HOSTS
-  --workers N    do at most N jobs at once, 1 to 16; 4 where it isn't given
-  --tries N      try at most N hosts for a job, 1 to 16; 1 where it isn't given
+  --workers N    do at most N jobs at once, 1 to 16; 4 by default
+  --tries N      try at most N hosts for a job, 1 to 16; 1 by default
   --no-fallback  don't compile here what no host compiled
   --no-retry     don't compile here what failed on a host
 
 The host list: words apart by blanks, 16 hosts at most; # begins a comment.
-  NAME[:PORT][/LIMIT]    a host, at port 3632 and with 4 jobs at once where nothing
-                         else is said
+  NAME[:PORT][/LIMIT]    a host, by default at port 3632 and with 4 jobs at once
   localhost[/LIMIT]      this machine, without the network: 2 jobs at once
-  --localslots=N         so many jobs at once here that no host does; 4
+  --localslots=N         N jobs at once here that no host does; 4
   --localslots_cpp=N     is read, and limits nothing
   --randomize            jobs begin at different hosts
 farm hosts prints it as it is read. A compile database becomes a job list by
@@ -94,7 +93,7 @@ build prints.
 
   watch I ended E of N busy B     line I: E of N jobs have ended, B are under way
   watch last ended N of N busy 0  all jobs have ended
-  watch last no memory            the same, where memory for the lines was wanting
+  watch last no memory            the same, without memory for the lines
 
   --lines N      print at most N lines before the last, 1 to 100; by default 10
 
@@ -105,7 +104,7 @@ that there may be keeps the time, so at most 15 jobs are done at once.
 /// What `farm graph --help` prints.
 pub const GRAPH_HELP: &[u8] = b"Usage: farm graph [OPTION]...
 Does the jobs on standard input as farm build does, but level by level: a job
-is run only when all that it needs were done with status 0. It is skipped where
+is run only when all that it needs were done with status 0. It is skipped if
 one of them wasn't. Then it prints a line for each job, in their order.
 
   needs: N...    a line of the list; the next job needs these jobs, by their
@@ -152,8 +151,8 @@ Prints the host list as farm reads it, one host a line.
 /// What `farm scan --help` prints.
 pub const SCAN_HELP: &[u8] = b"Usage: farm scan WORD...
 Prints the class of the compile command that the words are: remote, with its
-action, source and output, where it may be sent; or local, with the number and
-the place of the reason, where it has to be done here.
+action, source and output, if it may be sent; or local, with the number and
+the place of the reason, if it has to be done here.
 
 The reasons:
    1 neither -c nor -S         2 both of them            3 -E
