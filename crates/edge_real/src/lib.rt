@@ -43,7 +43,7 @@ pub use error_lines::{ErrorLines, Unhindered};
 pub use held_streams::HeldStreams;
 pub use kits::{KitSettings, SystemKit, system_kits, watch_kits};
 pub use notices::Notices;
-pub use run_folder::{RunNotes, SharedNotes};
+pub use run_folder::{RunNotes, SharedNotes, nameless_file};
 pub use run_watch::{DoorWatch, RunWatch, SharedWatch, Unwatched};
 pub use stream::{StdSink, StdSource};
 pub use tcp::{TcpDialer, TcpLink};

@@ -26,6 +26,8 @@ pub struct WaitingRoom<L, S> {
     poll: Poll,
     events: Events,
     places: Vec<Option<Pending<S>>>,
+    /// How many places are taken. While none is, no place is looked at.
+    taken: usize,
     /// The place where the bytes of one connection are looked at.
     scratch: Vec<u8>,
     access: AccessList,
@@ -69,6 +71,7 @@ impl<L: AsRawFd + Drop, S: Drop> WaitingRoom<L, S> {
             poll,
             events: Events::with_capacity(alloc, EVENTS)?,
             places,
+            taken: 0,
             scratch: Vec::from_elem(alloc, 0u8, SCRATCH)?,
             access,
             is_called: false,
@@ -126,6 +129,9 @@ impl<L, S> WaitingRoom<L, S> {
 
     /// The place of the one that has waited longest of those that are ready, or of those that aren't.
     fn oldest(&self, is_ready: bool) -> Option<usize> {
+        if self.taken == 0 {
+            return None;
+        }
         let mut found: Option<(usize, Duration)> = None;
         for (at, place) in self.places.iter().enumerate() {
             let Some(pending) = place else {
@@ -146,7 +152,9 @@ impl<L, S> WaitingRoom<L, S> {
     }
 
     fn remove(&mut self, at: usize) -> Option<Pending<S>> {
-        self.places.get_mut(at)?.take()
+        let pending = self.places.get_mut(at)?.take()?;
+        self.taken = self.taken.saturating_sub(1);
+        Some(pending)
     }
 
     /// Whether the rules deny this peer.
@@ -177,11 +185,15 @@ impl<L, S: OpenStream + AsRawFd + Drop> WaitingRoom<L, S> {
         pending.watch(&self.poll, Token(at));
         if let Some(place) = self.places.get_mut(at) {
             *place = Some(pending);
+            self.taken = self.taken.saturating_add(1);
         }
     }
 
     /// Looks at those of which something came.
     pub fn look(&mut self, alloc: Global) {
+        if self.taken == 0 {
+            return;
+        }
         for place in self.places.iter_mut() {
             if let Some(pending) = place {
                 pending.look(alloc, self.scratch.as_mut_slice());
@@ -241,6 +253,9 @@ impl<L: OpenListener<Stream = S> + AsRawFd, S: OpenStream + AsRawFd + Drop> Wait
 impl<L, S: Drop> WaitingRoom<L, S> {
     /// Leaves those whom the rules deny.
     fn leave_denied<R: Eprint + Clock>(&mut self, rt: &R) {
+        if self.taken == 0 {
+            return;
+        }
         for at in 0..PLACES {
             if matches!(self.places.get(at), Some(Some(pending)) if pending.leaving() == Leaving::Denied)
             {

@@ -11,6 +11,7 @@ mod settings;
 mod share;
 mod sharing;
 
+use child_ends::{Kind, start_again};
 use command::compile_command;
 use compile::{compile, compile_unread};
 use edge_real::{HeldStreams, command_words};
@@ -18,7 +19,7 @@ use farm_types::exits::{FAULT, NO_MEMORY};
 use run::run;
 use share::share;
 use std::alloc::AllocError;
-use std::process::ExitCode;
+use std::process::{self, ExitCode};
 use std::sync::Wait;
 use std::thread::Threads;
 
@@ -32,6 +33,14 @@ fn serve<W: Threads + Wait + Sync>(waits: &W, rt: &HostRuntime) -> Result<u8, Al
         let _ = eprintln!(rt; "farm: a word of the command line isn't UTF-8");
         return run(waits, rt, &[]);
     };
+    if let Some(status) = start_again(
+        rt,
+        process::id(rt.process()),
+        Kind::Command,
+        words.as_slice(),
+    )? {
+        return Ok(status);
+    }
     if compile_command(words.as_slice()).is_some() {
         return compile(waits, rt, words);
     }

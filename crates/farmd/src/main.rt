@@ -10,6 +10,7 @@ ghost use Rattle.edge_real.specs.Views.{policy_of as station_policy};
 
 use access_list::AccessList;
 use beginning::{is_root, tell_beginning, tell_folder};
+use child_ends::{Kind, start_again};
 use daemon_program::{DoorPlace, door_place, farmd};
 use daemon_words::{
     Command, Options, parse_words, rules_of, settings_of, tools_of, trusts_options,
@@ -24,7 +25,7 @@ use farm_types::exits::{FAULT, NO_MEMORY};
 use log::warn;
 use std::alloc::AllocError;
 use std::net::{TcpListener, TcpStream};
-use std::process::ExitCode;
+use std::process::{self, ExitCode};
 use std::sync::Arc;
 use std::time::Duration;
 
@@ -46,6 +47,19 @@ fn words_of(rt: &HostRuntime) -> Result<Vec<String>, AllocError> {
     let mut words = Vec::new(rt.alloc());
     words.push(String::new(rt.alloc()))?;
     Ok(words)
+}
+
+// The exit status, if this program had to be started again, so that the system keeps the ends of its compiles.
+fn started_again(rt: &HostRuntime) -> Result<Option<u8>, AllocError> {
+    match command_words(rt)? {
+        Some(words) => start_again(
+            rt,
+            process::id(rt.process()),
+            Kind::Daemon,
+            words.as_slice(),
+        ),
+        None => Ok(None),
+    }
 }
 
 // What the words say, if they are to serve.
@@ -232,6 +246,11 @@ fn main(rt: HostRuntime) -> ExitCode {
         let _ = eprintln!(rt; "farmd: neither / nor /dev/null can be opened");
         return ExitCode::from(FAULT);
     };
+    match started_again(&rt) {
+        Ok(None) => {}
+        Ok(Some(status)) => return ExitCode::from(status),
+        Err(AllocError) => return no_memory(&rt),
+    }
     let Ok(lines) = ErrorLines::new(&rt, rt.alloc()) else {
         return no_memory(&rt);
     };
