@@ -188,7 +188,7 @@ impl Exchange<'_> {
     pub fn compiler(&self) -> Shown<'_> {
         match self.asked.compiler.get(..self.asked.named) {
             Some(name) if !name.is_empty() => Shown(name),
-            _ if self.asked.has_first => Shown(b"''"),
+            _ if self.asked.has_first => Shown(b"(empty)"),
             _ => Shown(b"-"),
         }
     }

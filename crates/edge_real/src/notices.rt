@@ -279,7 +279,7 @@ fn tell_broken<R: Eprint>(rt: &R, parting: &Parting<'_>) {
         eprintln!(rt; "farm: {host}:{port}: {error}")
     } else if parting.ended && answered.bytes == 0 {
         eprintln!(rt;
-            "farm: {host}:{port}: no reply, as of a host that denies this one or doesn't run the compiler"
+            "farm: {host}:{port}: no reply, as of a host that denies this one or couldn't run the compiler"
         )
     } else if parting.ended {
         eprintln!(rt;
