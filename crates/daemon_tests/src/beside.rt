@@ -149,18 +149,20 @@ fn two_doors<S: Drop>(
     two_kits(alloc, first, second)
 }
 
-fn expect_side_by_side<R: Abort + Threads + Wait + RandomSource + Sync>(
-    rt: &R,
-    alloc: Global,
+// The run of a row over doors with such stations, which leave nothing.
+fn expect_gated(
+    rt: &HostRuntime,
     row: &Row,
+    doors: &mut Vec<DoorKit<MemDoor, GateStation<'_, HostRuntime>>>,
 ) -> Result<(), Fail> {
-    let (first, second) = GateStation::pair(rt, alloc)?;
-    let mut doors = two_doors(alloc, first, second)?;
-    expect(rt, alloc, row, &mut doors)
+    expect(rt, rt.alloc(), row, doors)
 }
 
 // The station of door 1 waits until that of door 2 was called, so both doors have to be served at one time.
 #[test]
 fn two_doors_at_one_time(rt: HostRuntime) -> Result<(), Fail> {
-    expect_side_by_side(&rt, rt.alloc(), &SIDE_BY_SIDE)
+    let alloc = rt.alloc();
+    let (first, second) = GateStation::pair(&rt, alloc)?;
+    let mut doors = two_doors(alloc, first, second)?;
+    expect_gated(&rt, &SIDE_BY_SIDE, &mut doors)
 }
