@@ -149,20 +149,11 @@ fn two_doors<S: Drop>(
     two_kits(alloc, first, second)
 }
 
-// The run of a row over doors with such stations, which leave nothing.
-fn expect_gated(
-    rt: &HostRuntime,
-    row: &Row,
-    doors: &mut Vec<DoorKit<MemDoor, GateStation<'_, HostRuntime>>>,
-) -> Result<(), Fail> {
-    expect(rt, rt.alloc(), row, doors)
-}
-
 // The station of door 1 waits until that of door 2 was called, so both doors have to be served at one time.
 #[test]
 fn two_doors_at_one_time(rt: HostRuntime) -> Result<(), Fail> {
     let alloc = rt.alloc();
     let (first, second) = GateStation::pair(&rt, alloc)?;
     let mut doors = two_doors(alloc, first, second)?;
-    expect_gated(&rt, &SIDE_BY_SIDE, &mut doors)
+    expect(&rt, alloc, &SIDE_BY_SIDE, &mut doors)
 }
