@@ -1,6 +1,6 @@
 //! A start of this program by a shell that waits for it.
 
-ghost use Rattle.std.specs.Prelude.{◌≡◌, ◌∷◌, ◌++◌, IfOk, codes, map, string_bytes};
+ghost use Rattle.std.specs.Prelude.{◌≡◌, ◌∷◌, ◌++◌, IfOk, OnOk, codes, map, string_bytes};
 ghost use Rattle.std.specs.Fmt.{decimal};
 ghost use Rattle.std.specs.Process.{command_args, command_program};
 ghost use Rattle.child_ends.specs.Starts.{ending_text, program_text, starting_text};
@@ -70,19 +70,44 @@ fn shell(alloc: Global, kind: Kind, place: &Place, words: &[String]) -> Result<C
     ensures arguments { IfOk result (λ command. command_args command ≡ codes "-c" ∷ starting_text kind ∷ codes "farm"
         ∷ ending_text place.now.process place.now.number ∷ program_text place.now.process ∷ map string_bytes words.now) }
 {
-    let (process, number) = (place.process, place.number);
-    let ending = format!(in alloc; "/proc/{process}/fd/{number}")?;
-    let program = format!(in alloc; "/proc/{process}/exe")?;
+    let ending = ending_of(alloc, place.process, place.number)?;
+    let program = program_of(alloc, place.process)?;
     let mut command = Command::new(alloc, "sh")?;
     command.arg("-c")?;
     command.arg(script_of(kind))?;
     command.arg("farm")?;
     command.arg(ending.as_str())?;
     command.arg(program.as_str())?;
+    add_all(&mut command, words)?;
+    Ok(command)
+}
+
+// Gives a command these words more.
+fn add_all(command: &mut Command, words: &[String]) -> Result<(), AllocError>
+    ensures program { OnOk result (command_program command.new ≡ command_program command.old) }
+    ensures arguments { OnOk result (command_args command.new ≡ command_args command.old ++ map string_bytes words.now) }
+{
     for word in words {
         command.arg(word.as_str())?;
     }
-    Ok(command)
+    Ok(())
+}
+
+// The file for the status, as another process opens it.
+fn ending_of(alloc: Global, process: u32, number: u32) -> Result<String, AllocError>
+    ensures { IfOk result (λ path. string_bytes path ≡ ending_text process number) }
+{
+    let mut path = format!(in alloc; "/proc/{process}/fd/")?;
+    let digits = number.to_string(alloc)?;
+    path.push_str(digits.as_str())?;
+    Ok(path)
+}
+
+// The program of a process.
+fn program_of(alloc: Global, process: u32) -> Result<String, AllocError>
+    ensures { IfOk result (λ path. string_bytes path ≡ program_text process) }
+{
+    format!(in alloc; "/proc/{process}/exe")
 }
 
 // What the shell does: it notes that the program is started, starts it and waits, and notes its status.

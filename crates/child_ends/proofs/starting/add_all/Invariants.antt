@@ -1,0 +1,9 @@
+use Rattle.std.proofs.Common.{◌≡◌, ◌++◌, map, string_bytes, take}
+use Rattle.std.specs.Process.{command_args, command_program}
+use Rattle.child_ends.proofs.starting.add_all.Given as goal
+
+abbrev pub invariant-loop-word : goal.invariant-loop-word
+invariant-loop-word l = record {
+  program : command_program l.command ≡ command_program l.fn.command;
+  arguments : command_args l.command ≡ command_args l.fn.command ++ map string_bytes (take l.word-index l.words);
+}
