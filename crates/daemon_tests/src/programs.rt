@@ -242,7 +242,7 @@ pub fn expect<
 >(rt: &R, alloc: Global, row: &Row, doors: &mut Vec<DoorKit<D, S>>) -> Result<(), Fail>
 where
     D::Link: Send,
-    requires { RunAlike S.ran doors.old.items }
+    requires alike { RunAlike S.ran doors.old.items }
 {
     let words = words_of(alloc, row.words)?;
     let mut out = sink(alloc, row.zeros)?;
