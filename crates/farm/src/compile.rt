@@ -7,8 +7,8 @@ use crate::settings::{FALLBACK, HOSTS, notices_of, variables_of};
 use crate::sharing::{Lent, share_slot};
 use desk_real::{Below, VARIABLE, parse_variable, within_text};
 use edge_real::{
-    ChildStation, DiskFiles, KitSettings, StdSink, StdSource, TcpDialer, WaitingStream, WallClock,
-    own_folder, system_kits, variable,
+    ChildStation, DiskFiles, KitSettings, StdSink, StdSource, SystemKit, TcpDialer, WaitingStream,
+    WallClock, own_folder, system_kits, variable,
 };
 use edge_traits::Kit;
 use farm_machine::{Event, Report};
@@ -19,7 +19,7 @@ use farm_words::{back_off_period, lookup};
 use host_list::{HostError, parse};
 use object_delivery::FileKeeper;
 use object_kind::is_driver;
-use std::alloc::AllocError;
+use std::alloc::{AllocError, Global};
 use std::env::Env;
 use std::io::Eprint;
 use std::process::Processes;
@@ -228,13 +228,15 @@ fn run_here<R: Processes + Env + Files + Eprint + AllocGlobal>(
 // The runtime of what a command starts.
 type Programs<'a> = Below<'a, HostRuntime>;
 
-// The devices of one job.
-type JobKit<'a> = Kit<
+// The devices of one job, with this station.
+type OneKit<S> = Kit<
     TcpDialer<HostRuntime>,
-    PreprocessorStation<ChildStation<Programs<'a>>>,
+    S,
     FileKeeper<DiskFiles<HostRuntime>>,
     WallClock<HostRuntime>,
 >;
+
+type JobKit<'a> = OneKit<PreprocessorStation<ChildStation<Programs<'a>>>>;
 
 // The devices of the one job. Its station compiles if nothing else would.
 fn kits_of<'a>(
@@ -246,25 +248,48 @@ fn kits_of<'a>(
     ensures one { IfOk result (λ kits. vec_len kits ≡ 1) }
     ensures idle { IfOk result (λ kits. All (λ kit. kit.keeper.pending ≡ None) kits.items) }
 {
-    let alloc = rt.alloc();
     let folder = own_folder(rt)?;
+    let kit = system_kit(rt, folder.as_str(), puts_empty)?;
+    only_kit(
+        rt.alloc(),
+        Kit {
+            dialer: kit.dialer,
+            station: PreprocessorStation::new(ChildStation::new(below, folder), !fallback),
+            keeper: kit.keeper,
+            clock: kit.clock,
+        },
+    )
+}
+
+// One kit of the system's devices.
+fn system_kit(
+    rt: &HostRuntime,
+    folder: &str,
+    puts_empty: bool,
+) -> Result<SystemKit<HostRuntime>, AllocError>
+    ensures idle { IfOk result (λ kit. kit.keeper.pending ≡ None) }
+{
     let settings = KitSettings {
-        folder: folder.as_str(),
+        folder,
         process: process::id(rt.process()),
         notices: notices_of(rt)?,
         puts_empty,
     };
-    let mut system = system_kits(*rt, alloc, &settings, 1)?;
+    let mut system = system_kits(*rt, rt.alloc(), &settings, 1)?;
     let Some(kit) = system.pop() else {
         unreachable!()
     };
+    Ok(kit)
+}
+
+// The one kit of a job.
+fn only_kit<S: Drop>(alloc: Global, kit: OneKit<S>) -> Result<Vec<OneKit<S>>, AllocError>
+    requires idle { kit.keeper.pending ≡ None }
+    ensures one { IfOk result (λ kits. vec_len kits ≡ 1) }
+    ensures idle { IfOk result (λ kits. All (λ kit. kit.keeper.pending ≡ None) kits.items) }
+{
     let mut kits = Vec::new(alloc);
-    kits.push(Kit {
-        dialer: kit.dialer,
-        station: PreprocessorStation::new(ChildStation::new(below, folder), !fallback),
-        keeper: kit.keeper,
-        clock: kit.clock,
-    })?;
+    kits.push(kit)?;
     Ok(kits)
 }
 
