@@ -420,7 +420,8 @@ def check_signals():
         expect(f"{name} leaves no desk", ends_soon(desk))
         build.wait(5)
         build.stdout.close()
-    group = share(HOSTS, "sh", "-c", "echo $$; sleep 60", stdout=subprocess.PIPE, start_new_session=True)
+    # a shell that waits for a program which it starts as the signal comes goes on until that has ended, with farm share or without
+    group = share(HOSTS, "sh", "-c", "echo $$; exec sleep 60", stdout=subprocess.PIPE, start_new_session=True)
     command = int(group.stdout.readline())
     desk = desk_of(group.pid)
     os.killpg(group.pid, signal.SIGINT)
