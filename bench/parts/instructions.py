@@ -12,14 +12,13 @@ FARM, FARMD = os.environ["FARM"], os.environ["FARMD"]
 PORT = 14832
 CLEARING = re.compile(r"memset|bzero")
 
-# Thousands of instructions that --check lets a thing take: a tenth above its aim. A connection of farmd doesn't reach its aim of 150, and how often it looks
-# depends on the time; its limit is one that it has to keep in any case.
+# Thousands of instructions that --check lets a thing take: a tenth above its aim.
 LIMITS = {
     "farm --version": 264,
     "farm cc of a command that stays here": 825,
     "farm cc of a compile at a farmd": 825,
     "a job of a local list": 165,
-    "a connection of farmd": 500,
+    "a connection of farmd": 165,
 }
 # The same on every machine, since a program reads its whole environment.
 ENVIRONMENT = {"PATH": os.environ["PATH"], "TMPDIR": "/dev/shm"}
@@ -90,7 +89,11 @@ def served(connections):
     while done < connections and process.poll() is None:
         run = subprocess.run([FARM, "cc", "writes", "-c", "x.i", "-o", "y.o"], cwd=FOLDER, env=environment, capture_output=True)
         done += run.returncode == 0
-    process.wait()
+    try:
+        process.wait(60)
+    except subprocess.TimeoutExpired:
+        process.kill()
+        sys.exit("farmd didn't get the compiles that it should serve")
     return Count(path)
 
 
@@ -99,7 +102,7 @@ def main():
         file.write('#!/bin/sh\nfor output; do :; done\nhead -c 1024 /dev/zero >"$output"\n')
     os.chmod(f"{FOLDER}/writes", 0o755)
     with open(f"{FOLDER}/x.i", "w", encoding="utf-8") as file:
-        file.write("int x;\n")
+        file.write('# 1 "x.c"\nint x;\n')  # with a line mark, else it isn't sent
     at = {"DISTCC_HOSTS": f"127.0.0.1:{PORT}", "DISTCC_FALLBACK": "0"}
     farmd = subprocess.Popen([FARMD, "--listen", "127.0.0.1", "--port", str(PORT), "--compiler", f"writes={FOLDER}/writes"], stderr=subprocess.PIPE, cwd=FOLDER)
     while b"listens" not in farmd.stderr.readline():
