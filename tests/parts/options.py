@@ -21,7 +21,7 @@ def lines():
         if line and not line.startswith("# "):
             # options and operands are apart by blanks; only a path that is mapped may have one
             words = line.split(" ")
-            is_path = "-prefix-map=" in words[0] and not any(word.startswith("-") for word in words[1:])
+            is_path = ("-prefix-map=" in words[0] or "-compilation-dir=" in words[0]) and not any(word.startswith("-") for word in words[1:])
             yield [line] if is_path else words
 
 
