@@ -115,7 +115,8 @@ abbrev pub IsFair : {h : ℕ} → Rules h → List ℕ → Bool → State h → 
 IsFair r token due v [] = Unit {0}
 IsFair r token due v (t ∷ ts) = MayCome due t × IsFair r token (due_then r token v t) (state_then r token v t) ts
 
--- The desk was fed with exactly the events that its connections gave, and exactly its answers were sent to them
+-- The desk was fed with exactly the events that its connections gave, and exactly its answers were sent to them. A new connection was heard only if nobody
+-- more could be given a place.
 pub record Served {h : ℕ} (r : Rules h) (token : List ℕ) (v v' : State h) (log log' : Told (List Entry)) : Type 0 where
   pub turns : List Turn
   pub state : v' ≡ after r v (events_in r token v turns)

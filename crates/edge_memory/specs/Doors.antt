@@ -39,7 +39,7 @@ abbrev pub door_shows : DoorState → DoorView
 door_shows door = record { visits = told door.visits; peers = told door.came; faults = failed_calls door.fails door.made }
 
 -- The next accept may return this. One that isn't to fail gives a link of the next script, or one that ends at once if the
--- scripts are used up, and the next peer, or 0.
+-- scripts are used up, and the next peer, or 0; or it runs out of memory.
 abbrev pub IsAcceptAnswer : DoorState → Result (MemLink × ℕ) EdgeFault → Type 0
 IsAcceptAnswer door (Ok accepted) =
     (names_next door.fails door.made ≡ false)

@@ -19,7 +19,7 @@ leads_by_zero [] = false
 leads_by_zero (first ∷ []) = false
 leads_by_zero (first ∷ second ∷ more) = first == 48
 
--- the same, and no zero is before the other digits
+-- such a number, with no zero before other digits
 pub record IsPlainDecimal (digits least greatest : ℕ) (text : List ℕ) (n : ℕ) : Type 0 where
   pub number : IsDecimal digits least greatest text n
   pub plain : leads_by_zero text ≡ false

@@ -30,7 +30,7 @@ abbrev pub hosts_behind : List (List ℕ) → Result Shared ℕ
 hosts_behind [] = Err 2
 hosts_behind (hosts ∷ words) = command_behind 3 (Some hosts) words
 
--- a command doesn't begin with `--`
+-- a word that begins with `--`, which no command does
 abbrev pub is_option : List ℕ → Bool
 is_option word = starts_with nat_eq word (codes "--")
 

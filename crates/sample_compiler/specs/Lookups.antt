@@ -16,13 +16,13 @@ pub record Agrees (known : Files) (absent : List (List ℕ)) (whole : Bool) (fil
   pub there : (path content : List ℕ) → get known path ≡ Some content → get files path ≡ Some content
   pub gone : (path : List ℕ) → get known path ≡ None → (whole || is_listed absent path) ≡ true → get files path ≡ None
 
--- The run ended with this fault, or met a name that isn't known, or memory ran out.
+-- The run ended with this fault, or met a name that isn't known, which happens only if the map isn't whole, or memory ran out.
 abbrev pub Stopped : {A : Type 0} → Bool → Result A (ℕ × ExpandFault) → ExpandStop → Type 0
 Stopped whole outcome (Fault line fault) = outcome ≡ Err (line, fault)
 Stopped whole outcome (Unknown path) = whole ≡ false
 Stopped whole outcome Memory = Unit {0}
 
--- how a lookup may stop: a name isn't known, or memory ran out, but there is no fault
+-- how a lookup may stop: a name isn't known, if the map isn't whole, or memory ran out; there is no fault
 abbrev pub LookStopped : Bool → ExpandStop → Type 0
 LookStopped whole (Fault line fault) = ⊥
 LookStopped whole (Unknown path) = whole ≡ false

@@ -65,7 +65,8 @@ MainFits texts items (values.Fault NoMain) = is_named (definitions items) main_n
 MainFits texts items (values.Fault (BadImage line)) = ⊥
 MainFits texts items values.Memory = Unit {0}
 
--- an image comes exactly if the objects can be linked; then one assignment fits, and running the image gives its number of `main`
+-- An image comes only if the objects can be linked; then one assignment fits, and running the image gives its number of `main`. A fault comes only if
+-- they can't be linked. Memory may run out in both cases.
 abbrev pub Promised : List (List ℕ) → List Item → Linked → Type 0
 Promised texts items (linked.Image image) = CanLink items × FitOnce texts items
     × ((value : Value) → IsValue image value → MainFits texts items value)

@@ -94,7 +94,7 @@ MissedStop fetches.File Memory = ⊥
 MissedStop fetches.Memory File = ⊥
 MissedStop fetches.Memory Memory = Unit {0}
 
--- the result of linking was put and is printed
+-- the image was put, or the fault is printed and nothing was put
 pub record DidPut (files : List (List ℕ)) (image : List ℕ) (answer : Linked) (old new : KeeperView) (ran : Ran) : Type 0 where
   pub put : PutBy (link_puts image answer) old new
   pub none : NoneFetched old new

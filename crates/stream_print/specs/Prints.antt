@@ -44,7 +44,7 @@ pub record Later (old new : SinksView) : Type 0 where
   pub out : old.out.faults ≤ new.out.faults
   pub err : old.err.faults ≤ new.err.faults
 
--- the sink's count stays the same, and no write took 0 bytes
+-- the sink's count stays the same, and so does whether it is stopped
 pub record GoesOn (old new : SinkView) : Type 0 where
   pub faults : Still old.faults new.faults
   pub stopped : new.stopped ≡ old.stopped

@@ -40,7 +40,8 @@ abbrev pub request_text : Request → List ℕ
 request_text q = token (codes "DIST") 1
     ++ (token (codes "ARGC") (length q.words) ++ (flat_map word_text q.words ++ (token (codes "DOTI") (length q.source) ++ q.source)))
 
--- what is wrong with a number: of the version, of the count, of a word's length after words with this many bytes, and of the source's length
+-- What is wrong with a number, in the next four definitions: with the version, the count, the length of a word after words with this many bytes, and the
+-- length of the source.
 abbrev pub version_fault : ℕ → Option RequestFault
 version_fault n = if n == 1 then None else Some (BadVersion n)
 

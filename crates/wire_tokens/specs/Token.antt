@@ -44,7 +44,7 @@ pub record IsWrongName (name text : List ℕ) (at : ℕ) : Type 0 where
   pub before : take at text ≡ take at name
   pub differs : slice_index text at ≢ slice_index name at
 
--- text begins with the name, and the byte at this place is the first after it that is no digit
+-- text begins with the name, and the byte at this place is the first that is no digit of the eight after it
 pub record IsBadDigit (name text : List ℕ) (at : ℕ) : Type 0 where
   pub named : take 4 text ≡ name
   pub after_name : 4 ≤ at
