@@ -33,8 +33,8 @@ IsFullyHonestTo peers programs j = (source sent given : List ℕ) (o : Outcome) 
 abbrev pub FullyHonestLaw : Peers → Programs → Type 0
 FullyHonestLaw peers programs = (j : Job) → IsFullyHonest peers programs → IsFullyHonestTo peers programs j
 
--- A whole exchange over honest peers has an outcome that a compiler may answer to the job's request, if its status is 0. Over peers that
--- are fully honest to the job it has one with any status.
+-- A whole exchange over honest peers has an outcome that a compiler may answer to the job's request, if the request is within its limits and
+-- the outcome's status is 0. Over peers that are fully honest to the job it has one with any status.
 abbrev pub WholeAnswerLaw : Peers → Programs → Type 0
 WholeAnswerLaw peers programs = (j : Job) (source : List ℕ) (x : Exchange) (host : ℕ) (o : Outcome)
     → CanRequest j source → (x.dialed ≡ true → peers x.sent x.given) → IsWholeWith j x source host o

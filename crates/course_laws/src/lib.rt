@@ -23,7 +23,7 @@ pub fn down_law()
 {}
 
 /// The courses that don't end for lack of memory are those of the table, and those that do are the first acts of one of
-/// these, with the give of what is out then.
+/// these, with the give of what is out then. An exchange that is the last of these acts need only be begun.
 pub fn table_law()
     ensures table { TableLaw }
     ensures memory { MemoryLaw }

@@ -12,7 +12,7 @@ RoseBy number before now = min (before + number) (2 ^ 64 - 1) ≤ now
 abbrev pub Rose : ℕ → ℕ → Type 0
 Rose before now = RoseBy 1 before now
 
--- a count rose by exactly one, or is at the greatest u64
+-- a count rose by exactly one; one that was at the greatest u64 didn't change
 abbrev pub RoseOnce : ℕ → ℕ → Type 0
 RoseOnce before now = now ≡ one_more before
 

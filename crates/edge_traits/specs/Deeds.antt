@@ -69,7 +69,7 @@ pub record DidIn (old new : KitView) (deeds : List Deed) : Type 0 where
   pub moments : Grew old.clock.moments new.clock.moments (moments_in deeds)
   pub files : Became old.keeper.files new.keeper.files (files_put old.keeper.files.value (puts_in deeds))
 
--- if the exchanges are told, each that was dialed is one that the dialer may have been given
+-- each of these exchanges that was dialed is one that the dialer may have been given
 abbrev pub MayAll : (List ℕ → List ℕ → Type 0) → List Exchange → Type 0
 MayAll may [] = Unit {0}
 MayAll may (x ∷ xs) = (x.dialed ≡ true → may x.sent x.given) × MayAll may xs

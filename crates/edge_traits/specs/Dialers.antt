@@ -29,7 +29,7 @@ hung link = record {
   faults = link.faults;
 }
 
--- the entries that a dial adds: one if it failed, and else none
+-- the entries that a dial adds: one at `Failed`, none at `Ok`, and none if memory ran out
 abbrev pub dial_entries : {L : Type 0} → HostName → ℕ → Result L EdgeFault → List Exchange
 dial_entries host port (Ok link) = []
 dial_entries host port (Err Failed) = undialed host port ∷ []

@@ -34,7 +34,7 @@ impl Calls {
         }
     }
 
-    /// The same before any call, if no call fails.
+    /// A count before any call, with an empty list: no call fails.
     pub fn without_fails(self) -> Calls
         ensures fails { result.fails ≡ [] }
         ensures made { result.made ≡ 0 }

@@ -7,8 +7,8 @@ use Rattle.farm_machine.specs.Farm.{wanted}
 use Rattle.farm_machine.specs.Weave.{Reports, Agrees}
 use Rattle.course_laws.specs.Returns.{finds_down, asks_once}
 
--- If there is a host, and no job gives one a back-off or asks for another after it took one, no job finds the hosts down: in any history
--- that agrees with the reports.
+-- If there is a host, and no job gives one a back-off or finds the hosts down after it took one, no job finds the hosts down at all: in any
+-- history that agrees with the reports.
 abbrev pub UpLaw : Type 0
 UpLaw = (h : ℕ) (l : Limits h) (r : Reports) (calls : List CallEntry)
     → 0 < l.count → Agrees l r (wanted l) calls → ((j : ℕ) → j < l.jobs → asks_once (slots_of (r.acts j)) ≡ true)

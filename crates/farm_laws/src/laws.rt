@@ -33,7 +33,7 @@ pub fn unread_law()
 {}
 
 /// Hosts are found down only after one of them got a back-off, or by a job that took one before. So if there is a host, and no job gives
-/// one a back-off or asks for another after it took one, no job finds them down.
+/// one a back-off or finds the hosts down after it took one, no job finds them down at all.
 pub fn up_law()
     ensures { UpLaw }
 {}

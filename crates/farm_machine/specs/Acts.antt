@@ -99,7 +99,7 @@ abbrev pub loan_of : Loan → List SlotEvent → Loan
 loan_of loan [] = loan
 loan_of loan (e ∷ events) = loan_of (loan_after loan e) events
 
--- a job takes only if it has nothing out, and gives what it has out; a local entry never gets a back-off
+-- a job takes, or finds all hosts down, only if it has nothing out, and gives what it has out; a local entry never gets a back-off
 abbrev pub IsTurn : (ℕ → Bool) → Loan → SlotEvent → Type 0
 IsTurn local loan (Takes host) = loan ≡ None
 IsTurn local loan TakesLocal = loan ≡ None

@@ -58,7 +58,7 @@ pub data At : Type 0 where
   RanInPlace : Ran → At
   -- source, note, hosts tried: it is to be compiled
   Send : List ℕ → List ℕ → List Tried → At
-  -- it has a slot of this host, which compiled it if the host is local, and else was sent the request
+  -- it has a slot of this host; the host is local and compiled it; an exchange with the host was begun
   Lent : ℕ → List ℕ → List ℕ → List Tried → At
   RanThere : ℕ → List ℕ → Ran → At
   Sent : ℕ → List ℕ → List ℕ → List Tried → Exchange → At
@@ -101,7 +101,7 @@ after_whole j host source note o =
     cond (nat_eq o.status 0) (Finish (Remote host) note o)
     (cond (j.config.fallback && j.config.retry) (Locally source note) (Over (Done o.status note o.err o.out (Remote host))))
 
--- the moment until which a host is not used: a moment and the period together
+-- the moment until which a host is not used: a moment and the period together, at most the greatest u64
 abbrev pub IsBackOff : Job → ℕ → Type 0
 IsBackOff j until = (moment : ℕ) × (moment < 2 ^ 64) × (until ≡ bad_until moment j.config.period)
 

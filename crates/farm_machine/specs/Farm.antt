@@ -64,9 +64,9 @@ lent NotBegun x = 0
 lent (Begun worker acts) x = cond (nat_eq x.caller worker && is_loan (loan_of None (slots_of acts)) x.host) 1 0
 lent (Returned end) x = 0
 
--- What each step of the machine keeps. No job from the next number on is begun, and each below it is begun or has returned. A worker has at
--- most one begun job. A begun job's acts are the front of a course of it. The outstanding grants are exactly those that begun jobs took and
--- have not given back.
+-- What each step of the machine keeps. No job from the next number on was begun, and each below it is begun or has returned. The next
+-- number is at most the number of jobs. A worker has at most one begun job. A begun job's acts are the front of a course of it. The
+-- outstanding grants are exactly those that begun jobs took and have not given back.
 pub record Kept {h : ℕ} (f : Farm) (l : Limits h) (out : List Holding) (s : FarmState h) : Type 0 where
   pub ahead : (j : ℕ) → s.slots.next ≤ j → s.jobs j ≡ NotBegun
   pub drawn : (j : ℕ) → j < s.slots.next → s.jobs j ≢ NotBegun

@@ -136,7 +136,7 @@ MayWait f j acts HostSlot = (host : ℕ) × MayBeNext f j acts (Met (Takes host)
 MayWait f j acts LocalSlot = MayBeNext f j acts (Met TakesLocal)
 
 -- Which calls a worker may make: a draw if it has no begun job; any other call for its begun job. That is a slot event if it may come next,
--- or a refused take if a taken slot may come next. A take has the mask that is wanted.
+-- or a refused take if a slot of its kind may be taken next. A take has the mask that is wanted.
 abbrev pub MayCall : Farm → (ℕ → JobState) → ℕ → JobCall → Type 0
 MayCall f jobs worker (Draws job) = (j : ℕ) (acts : List Act) → jobs j ≢ Begun worker acts
 MayCall f jobs worker (Adds j mask x) =

@@ -10,7 +10,8 @@ use Rattle.farm_machine.specs.Acts.{SlotEvent, Act, slots_of}
 use Rattle.farm_machine.specs.Machine.{JobCall, Draws, Adds, Waits, Mismatched, job_call_of, Wants, MaskIs}
 use Rattle.farm_machine.specs.Weave.{Reports, IsWaitedFor, OwnAgrees}
 
--- A call of job j is its slot event x, and then this holds of the calls after it; or it is a refused take before x, and then that does.
+-- A call is of job j, and a take has a mask that is wanted. It is the slot event x, and `IsMet` holds; or it is a refused take that waits for
+-- x, and `IsRefused` holds.
 abbrev pub ServedBy : Wants → ℕ → List SlotEvent → SlotEvent → JobCall → Type 0 → Type 0 → Type 0
 ServedBy wants j past x (Adds i mask y) IsMet IsRefused = (i ≡ j) × MaskIs mask (wants past) × (y ≡ x) × IsMet
 ServedBy wants j past x (Waits i mask kind) IsMet IsRefused = (i ≡ j) × MaskIs mask (wants past) × IsWaitedFor kind x × IsRefused
@@ -65,8 +66,8 @@ abbrev pub HasNumber : ℕ → List DoneJob → Type 0
 HasNumber j [] = ⊥
 HasNumber j (job ∷ jobs) = (job.number ≡ j) ⊎ HasNumber j jobs
 
--- The law of one worker: its own calls agree with the reports, if they do its jobs one after another, with a last draw that answered none,
--- and the reports have exactly these jobs of it.
+-- The law of one worker: its own calls agree with the reports under three conditions. They do its jobs one after another, with a last draw
+-- that answered none. No two of these jobs have one number. The reports have exactly these jobs of it.
 abbrev pub WorkerLaw : Type 0
 WorkerLaw = (h : ℕ) (l : Limits h) (r : Reports) (wants : Wants) (worker : ℕ) (jobs : List DoneJob) (es : List CallEntry)
     → DoesJobs wants worker jobs es → AreApart jobs → Each (IsReported r worker) jobs

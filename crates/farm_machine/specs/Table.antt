@@ -138,6 +138,6 @@ pub record IsCutInExchange (j : Job) (acts : List Act) : Type 0 where
   pub is_begun : IsBegunWith j begun source host
   pub is : acts ≡ front ++ Did (exchanged begun) ∷ Met (Gives host) ∷ []
 
--- the courses that end for lack of memory are cut ones
+-- the courses that end for lack of memory are exactly the cut ones, whether cut in an exchange or not
 abbrev pub MemoryLaw : Type 0
 MemoryLaw = (j : Job) (acts : List Act) → Course j acts (Failed Memory) ↔ (IsCut j acts ⊎ IsCutInExchange j acts)

@@ -7,6 +7,6 @@ use Rattle.farm_machine.specs.Acts.{Act}
 use Rattle.farm_machine.specs.Jobs.{Job}
 use Rattle.farm_machine.specs.Table.{Finished, IsCut, IsCutInExchange}
 
--- a course of the table, or the cut front of one if memory ran out
+-- a course of the table, or a cut one if memory ran out
 abbrev pub IsOfTable : Job → List Act → End → Type 0
 IsOfTable j acts end = Finished j acts end ⊎ ((end ≡ Failed Memory) × (IsCut j acts ⊎ IsCutInExchange j acts))

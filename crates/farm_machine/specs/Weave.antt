@@ -112,7 +112,7 @@ abbrev pub weave_from : Reports → Progress → List CallEntry → List FarmSte
 weave_from r p [] = []
 weave_from r p (e ∷ es) = Calls e ∷ (steps_behind r (next_progress p e) (job_call_of e) ++ weave_from r (next_progress p e) es)
 
--- the calls in their order, and after each what its job does until its next slot event
+-- the calls in their order, and after each draw of a job and each slot event what the job does until its next slot event
 abbrev pub weave : List CallEntry → Reports → List FarmStep
 weave calls r = weave_from r (no_progress r) calls
 

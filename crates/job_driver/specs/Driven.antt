@@ -129,7 +129,7 @@ pub record JobsRan {K : Type 0} (d : Devices K) (l : Limits 16) (jobs : ℕ → 
   pub run : FarmRun (farm_of l jobs) l (weave history read)
   -- the slots are those that the history leaves
   pub last_is : last ≡ state_after l history
-  -- at no moment has a host more slots given out than its limit
+  -- at no moment has a host more slots given out than its limit, or this machine more than its local slots
   pub never_above : (front rest : List CallEntry) → history ≡ front ++ rest → AreWithinLimits l (outstanding front)
   -- at the end all are back
   pub back : outstanding history ≡ []

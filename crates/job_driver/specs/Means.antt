@@ -53,7 +53,7 @@ pub record RunMeans {K : Type 0} (d : Devices K) (l : Limits 16) (jobs : ℕ →
   pub returns : (j : ℕ) (other : K) → j < l.jobs → (jobs j).config.fallback ≡ true
       → IsCalm (d.shows (slice_index_or old (read.worker j) other)) (d.shows (slice_index_or new (read.worker j) other))
       → is_done_or_wanted (read.ends j) ≡ true
-  -- The same with fallback off, if there is a host and no exchange of the run broke: then no host is ever in back-off.
+  -- The same with fallback on or off, if there is a host and no exchange of the run broke: then no host is ever in back-off.
   pub returns_unbroken : (j : ℕ) (other : K) → j < l.jobs → 0 < l.count → ((i : ℕ) → i < l.jobs → NoneBroke (jobs i) (read.acts i))
       → IsCalm (d.shows (slice_index_or old (read.worker j) other)) (d.shows (slice_index_or new (read.worker j) other))
       → is_done_or_wanted (read.ends j) ≡ true

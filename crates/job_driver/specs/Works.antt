@@ -147,6 +147,7 @@ pub record Works {h : ℕ} (peers : Peers) (programs : Programs) (jobs : ℕ →
   -- counts rose with the jobs that failed, in all and job by job
   pub caused : AreCaused reports old new
   pub counts : CountsGoOn jobs done old new
+  -- no count fell
   pub later : KitLater old new
 
 -- the worker did jobs until a draw answered none

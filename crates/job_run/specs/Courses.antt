@@ -39,8 +39,9 @@ pub record IsCourseFront (j : Job) (acts : List Act) : Type 0 where
 abbrev pub EndsUnhurt : List Act → Type 0
 EndsUnhurt acts = (front : List Act) (x : Exchange) (host : ℕ) → acts ≡ front ++ Did (exchanged x) ∷ Met (Gives host) ∷ [] → IsUnhurt x
 
--- A course of the table, or the cut front of one if memory ran out. An end for lack of memory hides no fault of an exchange: nothing went
--- wrong with the last one, or the job could have gone on after it. Each run and each fetch is within its bounds.
+-- A course of the table, or a cut one if memory ran out. An end for lack of memory hides no fault of an exchange. If the acts end with an
+-- exchange and its plain give, nothing went wrong with it, or the job could have gone on after them. Each run and each fetch is within its
+-- bounds.
 pub record IsJobCourse (j : Job) (acts : List Act) (end : End) : Type 0 where
   pub of_table : IsOfTable j acts end
   pub hides_none : end ≡ Failed Memory → EndsUnhurt acts ⊎ IsCourseFront j acts

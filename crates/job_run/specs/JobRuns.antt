@@ -38,7 +38,7 @@ pub record JobRan {h : ℕ} (peers : Peers) (programs : Programs) (j : Job) (l :
   pub acts : List Act
   -- its deeds are the new entries of the kit's lists
   pub did : DidIn old new (deeds_of acts)
-  -- its events name them, numbered on from the places
+  -- its events name these entries, numbered on from the places, and its slot events
   pub named : events ≡ numbered at acts
   -- the places have grown by them
   pub grown : next ≡ advanced at acts

@@ -63,8 +63,8 @@ pub record IsHolding {G : Type 0} (is_ready : G → Type 0) (alone : Bool) (spar
 abbrev pub IsFree : {G : Type 0} → (G → Type 0) → Bool → (G → ℕ) → (G → List CallEntry) → G → ℕ → ℕ → Type 0
 IsFree is_ready alone spare_of mine_of grants left events = IsHolding is_ready alone spare_of mine_of [] grants left events
 
--- The slots are ready and none is held. At most that many events were written down, and if the caller is the only one, it made no more
--- calls than that.
+-- The slots are ready and none is held. At most that many events were written down. If the caller is the only one, it spent no more of its
+-- calls than events were written down; otherwise it spent no call.
 pub record StaysFree {G : Type 0} (is_ready : G → Type 0) (alone : Bool) (spare_of : G → ℕ) (mine_of : G → List CallEntry) (old new : G)
     (left left' events : ℕ) : Type 0 where
   pub ready : is_ready new

@@ -89,7 +89,7 @@ abbrev pub StepIdle : Step → KeeperView → Type 0
 StepIdle (step.Compiled by o) keeper = Unit {0}
 StepIdle other keeper = IsIdle keeper
 
--- the same for a source that is to be sent; if its request is past the limits, it is for here
+-- the same for a source that is to be sent; `Here` may also mean that its request is past the limits
 abbrev pub SentIs : {h : ℕ} → Job → Limits h → ℕ → ℕ → Seen → Seen → List ℕ → List ℕ → Step → Type 0
 SentIs j l caller number old new source note step.Here =
     (at : At) × IsForHere j source note at × WentOn j l caller number old new (Send source note []) at
@@ -98,7 +98,8 @@ SentIs j l caller number old new source note (step.Compiled by o) =
     × HasObject by o (output_name j) object new.kit.keeper
 SentIs j l caller number old new source note (step.Failed why) = HasEnded j l caller number old new (Send source note []) (Failed why)
 
--- what follows from a host's whole reply, by the place of its object
+-- What follows from a host's whole reply. A lost object fails the job. With fallback and retry a status other than 0 means a compile here.
+-- Any other reply is the compile's outcome.
 abbrev pub step_after : JobConfig → ℕ → Outcome → Landing → Step
 step_after config host o landing.Lost = step.Failed NotPut
 step_after config host o other =
@@ -108,7 +109,7 @@ step_after config host o other =
 abbrev pub HasUntried : {h : ℕ} → Limits h → Mask → List Tried → Type 0
 HasUntried l mask tried = (i : ℕ) → in_mask mask i ≡ (nat_lt i l.count && not (is_tried i tried))
 
--- what came of one try, from the job's place: all hosts that are left are down; the job goes on; or the exchange broke
+-- what came of one try, from the job's place: all hosts that are left are down; what the job does next; or the exchange broke
 abbrev pub AskedIs : {h : ℕ} → Job → Limits h → ℕ → ℕ → Seen → Seen → At → List ℕ → List ℕ → List Tried → Asked → Type 0
 AskedIs j l caller number old new at source note tried asked.Down =
     WentOn j l caller number old new at (or_here j source note (Failed (no_host tried)))

@@ -36,7 +36,8 @@ abbrev pub seen_as : KitView → Peers → Programs → List CallEntry → List 
 seen_as kit peers programs mine events places =
     record { kit = kit; peers = peers; programs = programs; mine = mine; events = events; places = places }
 
--- of each host the job took a slot before exactly if the place says so
+-- At `Start` the job took no slot of a host before. At `Send`, `Lent` and `Sent` it took one of exactly the hosts that the place names. Of
+-- other places this says nothing.
 abbrev pub HasTaken : List SlotEvent → At → Type 0
 HasTaken past Start = (host : ℕ) → took host past ≡ false
 HasTaken past (Send source note tried) = (host : ℕ) → took host past ≡ is_tried host tried

@@ -199,9 +199,9 @@ fn run_class<R: Wait, D: Dialer, S: Station, K: Keeper, C: Clock, G: Grants>(
 
 /// Runs one job, and reports all that it did. `number` is the job's, counted from 0.
 ///
-/// A command that may not be sent is run here unchanged. The source of any other is preprocessed, and a host is asked to compile it. If
-/// none can, it is compiled here, as `config` says. An object of status 0 is put under the output's name. Each slot that the job takes is
-/// given back before it returns. It waits for slots.
+/// A command that may not be sent is run here unchanged. The source of any other is preprocessed, or fetched if it is preprocessed already,
+/// and a host is asked to compile it. If none can, it is compiled here, as `config` says. An object of status 0 is put under the output's
+/// name. Each slot that the job takes is given back before it returns. It waits for slots.
 pub fn run_job<R: Wait, D: Dialer, S: Station, K: Keeper, C: Clock, G: Grants>(
     rt: &R,
     alloc: Global,

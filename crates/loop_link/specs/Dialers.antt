@@ -28,7 +28,7 @@ dialer_state dialer = record { there = is_some dialer.held; faults = dialer.faul
 abbrev pub dialer_shows : DialerState → DialerView
 dialer_shows dialer = record { exchanges = told dialer.exchanges; faults = dialer.faults }
 
--- A dial fails exactly if the station is away.
+-- A dial fails exactly if the station is away, unless memory ran out.
 abbrev pub IsDialAnswer : {L : Type 0} → DialerState → Result L EdgeFault → Type 0
 IsDialAnswer dialer (Ok link) = dialer.there ≡ true
 IsDialAnswer dialer (Err Failed) = dialer.there ≡ false

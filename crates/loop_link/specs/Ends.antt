@@ -9,6 +9,6 @@ EndsWhole ended at text = ended ≡ true → at ≡ length text
 abbrev pub BeginsEmpty : Bool → Bool → ℕ → List ℕ → Type 0
 BeginsEmpty served ended at reply = served ≡ false → (ended ≡ false) × (at ≡ 0) × (reply ≡ [])
 
--- if a link closes at its first receive, the service saw all that was sent
+-- if a link closes at its first receive and the service ran, the service saw all that was sent
 abbrev pub SeesAll : Bool → Bool → ℕ → List ℕ → Type 0
 SeesAll closes served seen sent = closes ≡ true → served ≡ true → seen ≡ length sent

@@ -10,8 +10,8 @@ use Rattle.daemon_service.specs.declared.compilers.Compiler.{Compiler}
 use Rattle.loop_link.specs.declared.link.LoopLink.{LoopLink}
 use Rattle.loop_link.specs.Replies.{Serves}
 
--- The host that the link was dialed to, and whether it closes at its first receive. What was sent. Whether the service ran, whether memory
--- ran out in it, how many bytes it saw, and its reply. How many bytes of the reply were given, and whether its end was.
+-- The host and port that the link was dialed to, and whether it closes at its first receive. What was sent. Whether the service ran, whether
+-- memory ran out in it, how many bytes it saw, and its reply. How many bytes of the reply were given, and whether its end was.
 pub record LoopState : Type 0 where
   pub origin : Origin
   pub closes : Bool
@@ -87,8 +87,9 @@ abbrev pub LinkHolds : {S : Type 0} → (S → StationView) → (S → List Word
 LinkHolds shows ran link = Holds link.held.table.rows (ran link.held.station) (shows link.dialed.value) (shows link.held.station)
     (loop_state link)
 
--- The first became the second, by calls of it. It is to the same host, over the same table and a station with the same programs. It was
--- dialed when the station was the same, and it is sound as a link (`LinkHolds`) if the first was.
+-- The first became the second, by calls of it. It is to the same host and port, over the same table and a station with the same programs.
+-- It closes at its first receive exactly if the first did. It was dialed when the station was the same, and it is sound as a link
+-- (`LinkHolds`) if the first was.
 pub record LoopFollows {S : Type 0} (shows : S → StationView) (ran : S → List Word → List ℕ → Ran → Type 0)
     (a b : LoopLink S) : Type 0 where
   pub host : b.host ≡ a.host

@@ -77,8 +77,8 @@ RisesByPuts may_give (landeds.Memory false) old new before now = Unit {0}
 RisesByPuts may_give (landeds.Broke Dial) old new before now = Unit {0}
 RisesByPuts may_give landed old new before now = Adds may_give old new (λ x. RisesBehind landed x.given before now)
 
--- The exchange is that of an attempt whose outcome has an object, and the answer says the place of this object. The keeper's count rose
--- only by its put.
+-- The exchange is that of an attempt whose outcome has this `object`, and the answer says the place of it. The keeper's count rose only by
+-- its put.
 pub record LandedAdds (may_give : List ℕ → List ℕ → Type 0) (q : Request) (h : Host) (landed : Landed) (path : List ℕ)
     (old new : Told (List Exchange)) (before now : KeeperView) : Type 0 where
   pub object : List ℕ
@@ -91,8 +91,8 @@ abbrev pub LandedCause : Landed → ℕ → ℕ → Type 0
 LandedCause (landeds.Broke Dial) before now = Rose before now
 LandedCause other before now = Still before now
 
--- If the dial or a send failed, or memory ran out before the dial had succeeded, the request wasn't sent whole. Then the keeper wasn't
--- asked and shows what it did.
+-- If the dial or a send failed, a send took nothing, or memory ran out before the dial had succeeded, the request wasn't sent whole. Then the
+-- keeper wasn't asked, and it shows the same as before.
 abbrev pub IsUnasked : Landed → KeeperView → KeeperView → Type 0
 IsUnasked (landeds.Memory false) before now = now ≡ before
 IsUnasked (landeds.Broke Dial) before now = now ≡ before
@@ -136,7 +136,7 @@ received_of (Ok received) object = Ok (with_object received.0 object)
 received_of (Err stop) object = Err stop
 
 -- Without an outcome no put is pending and the keeper's count didn't change, unless some bytes of the object came, or memory ran out after
--- a whole reply. Then a put may be pending.
+-- a whole reply. Then a put may be pending, and the count may have changed.
 abbrev pub StopsBehind : Stop → List ℕ → ℕ → KeeperView → Type 0
 StopsBehind (Broke cause) given before now = (IsIdle now × Still before now.faults) ⊎ HasBytes given
 StopsBehind Memory given before now = (IsIdle now × Still before now.faults) ⊎ (HasBytes given ⊎ HasReply given)
@@ -164,7 +164,8 @@ pub record LandsInto (result : Result (Outcome × Landing) Stop) (path : List �
   pub lands : LandsOr result path object before.faults now
   pub rises : RisesBehind (landed_of result) given.bytes before.faults now.faults
 
--- What passed over a link is what an attempt says of it. Its outcome has an object, and the result says the place of this object.
+-- What passed over a link is what an attempt says of it. Its outcome has this `object`, and the result says the place of it. `IsUnasked` and
+-- `RisesBehind` say what became of the keeper.
 pub record PassedInto (result : Result (Outcome × Landing) Stop) (path text : List ℕ) (old new : LinkView)
     (before now : KeeperView) : Type 0 where
   pub object : List ℕ

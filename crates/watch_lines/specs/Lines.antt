@@ -43,7 +43,7 @@ abbrev pub none_says_all : ℕ → List Count → Bool
 none_says_all jobs [] = true
 none_says_all jobs (c ∷ counts) = not (are_all jobs c) && none_says_all jobs counts
 
--- lines follow one another until there are that many, or one says that all jobs have ended
+-- lines follow one another until there are that many, or one says that all jobs have ended and no worker is at one
 abbrev pub lines_end : ℕ → ℕ → List Count → Bool
 lines_end jobs left [] = left == 0
 lines_end jobs left (c ∷ []) = nat_le 1 left && ((left == 1) || are_all jobs c)

@@ -25,8 +25,8 @@ LinePrinted line old new Whole = Grew old.written new.written line × GoesOn old
 LinePrinted line old new SinkFault = PartPrinted line old new × DidStop old new
 LinePrinted line old new Memory = PartPrinted line old new × GoesOn old new
 
--- `lines` lines were printed, or fewer if the last one says that all jobs have ended. They are numbered from `at`. The jobs ended are at
--- least `least` in the first, and never fall.
+-- `lines` lines were printed, or fewer if the last one says that all jobs have ended and no worker is at one. They are numbered from `at`.
+-- The jobs ended are at least `least` in the first, and never fall. Each count is within the numbers of jobs and workers.
 pub record LinesPrinted (jobs workers at lines least : ℕ) (old new : SinkView) : Type 0 where
   pub counts : List Count
   pub ends : lines_end jobs lines counts ≡ true
@@ -35,7 +35,8 @@ pub record LinesPrinted (jobs workers at lines least : ℕ) (old new : SinkView)
   pub printed : Grew old.written new.written (lines_text at jobs counts)
   pub goes_on : GoesOn old new
 
--- some lines were printed, none of which says that all jobs have ended, and a prefix of the next one, not all of it
+-- Some lines were printed, none of which says that all jobs have ended and no worker is at one. A prefix of the next one was printed, not all
+-- of it.
 pub record LinesCut (jobs workers at lines least : ℕ) (old new : SinkView) : Type 0 where
   pub counts : List Count
   pub next : Count

@@ -28,7 +28,7 @@ fn print_line<E: Sink>(number: u32, jobs: u32, count: Count, err: &mut E) -> Lin
 /// The pauses between two lines.
 const PAUSES: u32 = 100;
 
-// Pauses that many times, or until all jobs have ended.
+// Pauses that many times, or until all jobs have ended and no worker is at one.
 fn pause_on<C: Clock>(clock: &mut C, watchers: &mut [Watcher], jobs: u32, pauses: u32)
     requires few { length watchers.old < 2 ^ 32 }
     ensures same { map board_watched watchers.new ≡ map board_watched watchers.old }
@@ -82,9 +82,9 @@ fn watch_on<C: Clock, E: Sink>(
     }
 }
 
-/// Prints that many lines of what all boards show, or fewer if one says that all jobs have ended. Between two of them it pauses on the
-/// clock 100 times, or until all have ended. It ends early if the sink stops or runs out of memory. It waits for nobody, and takes no
-/// memory of its own.
+/// Prints that many lines of what all boards show, or fewer if one says that all jobs have ended and no worker is at one. Between two of
+/// them it pauses on the clock 100 times, or until that is so. It ends early if the sink stops or runs out of memory. It waits for nobody,
+/// and takes no memory of its own.
 pub fn watch<C: Clock, E: Sink>(
     clock: &mut C,
     watchers: &mut [Watcher],
