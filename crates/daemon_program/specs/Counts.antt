@@ -37,7 +37,7 @@ abbrev pub compiled_in : List Entry → ℕ
 compiled_in [] = 0
 compiled_in (entry ∷ entries) = (if is_compiled entry.what then 1 else 0) + compiled_in entries
 
--- the station failed, or memory ran out
+-- a connection was let in, and its service ended with a fault of the station or out of memory
 abbrev pub is_failed : Met → Bool
 is_failed (met.Served served.StationFault) = true
 is_failed (met.Served served.Memory) = true

@@ -52,19 +52,19 @@ doors_used options doors = min (unwrap_or options.jobs 4) (length doors)
 
 module _ {A S : Type 0} (door : A → DoorView) (station : S → StationView) (ran : S → List Word → List ℕ → Ran → Type 0)
     (goes : S → List Word → List ℕ → Bounds → Result Ran StationFault → S → Type 0) where
-  -- What was served and printed.
+  -- What was served and was to be printed. How the printing ended is in `Ends`.
   pub data Serves (words : List (List ℕ)) (options : Options) (olds news : List (DoorKit A S)) (old new : SinkView)
       (answer : ℕ) : Type 0 where
     -- memory ran out before anything was served
     unserved : news ≡ olds → WantsAfter [] old new answer → Serves words options olds news old new answer
-    -- Without a cache: the doors were served, the others are as before, and the log was printed.
+    -- Without a cache: the doors were served, the others are as before, and the log was to be printed.
     served : (config : DaemonConfig) (log : List Entry) → IsConfig words options config → book_bound options ≡ None
         → DoorsServed config.table.rows config.access.rules config.serve door station ran 1 (take (doors_used options olds) olds)
         (take (doors_used options olds) news) log
         → drop (doors_used options olds) news ≡ drop (doors_used options olds) olds
         → Ends (log_text log) (log_status log) old new answer → Serves words options olds news old new answer
     -- With a cache, the same, but each door's station is beside a book of its own and records no runs. Each book is what the door's own connections
-    -- make of a new book of the given bound, and the lines of the books are printed after the log.
+    -- make of a new book of the given bound, and the lines of the books were to be printed after the log.
     cached : (config : DaemonConfig) (log : List Entry) (bound : ℕ) (books : List Stats) → IsConfig words options config
         → book_bound options ≡ Some bound
         → DoorsServed config.table.rows config.access.rules config.serve door (λ s. cached_shows (station s)) ran 1

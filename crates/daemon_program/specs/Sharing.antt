@@ -94,14 +94,14 @@ module _ {S : Type 0} (shows : S → StationView) (ran : S → List Word → Lis
 
 module _ {A S : Type 0} (door : A → DoorView) (station : S → StationView) (ran : S → List Word → List ℕ → Ran → Type 0)
     (goes : S → List Word → List ℕ → Bounds → Result Ran StationFault → S → Type 0) where
-  -- What was served and printed, with one book for all doors.
+  -- What was served and was to be printed, with one book for all doors. How the printing ended is in `Ends`.
   pub data Shares (words : List (List ℕ)) (options : Options) (bound : ℕ) (olds news : List (DoorKit A S)) (old new : SinkView)
       (answer : ℕ) : Type 0 where
     -- memory ran out before anything was served
     unserved : news ≡ olds → WantsAfter [] old new answer → Shares words options bound olds news old new answer
-    -- The doors were served, the others are as before, and the log was printed. Each door's station is beside the one book and records no runs. Each
-    -- door's counts begin at 0 and are by its own connections only, and the book has at most its bound. The lines of the doors and of the book are
-    -- printed after the log.
+    -- The doors were served, the others are as before, and the log was to be printed. Each door's station is beside the one book and records no runs.
+    -- Each door's counts begin at 0 and are by its own connections only, and the book has at most its bound. The lines of the doors and of the book were
+    -- to be printed after the log.
     shared : (config : DaemonConfig) (log : List Entry) (counts : List Counts) (stats : SharedStats) → IsConfig words options config
         → DoorsServed config.table.rows config.access.rules config.serve door (λ s. cached_shows (station s)) ran 1
         (take (doors_used options olds) olds) (take (doors_used options olds) news) log

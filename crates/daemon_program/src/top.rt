@@ -135,8 +135,8 @@ where
     ensures does { (read : Result Asked ℕ) → ReadWords (map string_bytes words.now) read →
         DoesAll A.shows S.shows S.ran S.goes (map string_bytes words.now) doors.old.items doors.new.items (O.shows out.old) (O.shows out.new) result read }
 
-    // If no used door, link or station failed, nor the sink, and no send or write took nothing: each connection was answered by what it gave, or
-    // denied, or memory ran out. The status is 0, or that of lack of memory.
+    // If no used door, link or station failed, nor the sink, no run gave too much, and no send or write took nothing: each connection was answered by
+    // what it gave, or denied, or memory ran out. The status is 0, or that of lack of memory.
     ensures complete { (options : Given) → IsCommand (map string_bytes words.now) (asked.Serve options) →
         IsSmooth A.shows S.shows S.ran options doors.old.items doors.new.items (O.shows out.old) (O.shows out.new) →
         CompletedAll A.shows S.shows S.ran (map string_bytes words.now) options doors.old.items doors.new.items result (shared_bound options) }

@@ -18,7 +18,7 @@ use Rattle.daemon_service.specs.declared.served.Served.{Served}
 use Rattle.daemon_service.specs.declared.served.Served.TheVariants.{Answered, Refused, Cut, LinkFault, Stopped, StationFault, Memory}
 use Rattle.daemon_service.specs.Replies.{ServiceAnswer}
 
--- if a link records what passed, nothing did yet, and it is neither ended nor stopped
+-- The link is neither ended nor stopped. If it records what was sent or given, nothing was yet.
 pub record IsUnused (link : LinkView) : Type 0 where
   pub sent : IsTrue link.sent.known → link.sent.value ≡ []
   pub given : IsTrue link.given.known → link.given.value ≡ []
@@ -95,8 +95,8 @@ abbrev pub MayRun : (List Word → List ℕ → Ran → Type 0) → List Run →
 MayRun ran [] = Unit {0}
 MayRun ran (run ∷ runs) = ran run.words run.input run.ran × MayRun ran runs
 
--- What passed over the link and what was run show the service by its answer. If the link and the station record that, they record exactly this. A
--- station that doesn't record its runs made some of which the same holds.
+-- What passed over the link and what was run show the service by its answer. If the link and the station record that, their lists grew by exactly
+-- this. A station that doesn't record its runs made some of which the same holds.
 pub record Service (table : List Compiler) (ran : List Word → List ℕ → Ran → Type 0) (old new : LinkView)
     (before after : StationView) (answer : Served) : Type 0 where
   pub given : List ℕ

@@ -11,7 +11,7 @@ use Rattle.daemon_words.specs.Options.{Reads}
 abbrev pub asked_by : List ℕ → Option Command
 asked_by word = if bytes_eq word (codes "--help") then Some Help else (if bytes_eq word (codes "--version") then Some Version else None)
 
--- what the first word asks for, if it isn't an option with a value
+-- what the first word asks for if it is `--help` or `--version`, and otherwise None
 abbrev pub asked : List (List ℕ) → Option Command
 asked [] = None
 asked (word ∷ words) = asked_by word
@@ -20,7 +20,8 @@ abbrev pub served : Result Options ℕ → Result Command ℕ
 served (Ok options) = Ok (Serve options)
 served (Err place) = Err place
 
--- such a word has to be the only one; all other words are options and their values
+-- If the first word asks for something, it has to be the only one, and else the place of the second is answered. Otherwise the words are options and
+-- their values.
 abbrev pub ByFirst : List (List ℕ) → Result Command ℕ → Option Command → Type 0
 ByFirst words read (Some command) = read ≡ (if length words == 1 then Ok command else Err 1)
 ByFirst words read None = (options : Result Options ℕ) × Reads words options × (read ≡ served options)

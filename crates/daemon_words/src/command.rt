@@ -38,7 +38,7 @@ fn asked_by(word: &str) -> Option<Command>
     }
 }
 
-// What the first word asks for, if it isn't an option with a value.
+// What the first word asks for if it is `--help` or `--version`, and otherwise None.
 fn asked(words: &[String]) -> Option<Command>
     ensures { result ≡ commands.asked (map string_bytes words.now) }
 {

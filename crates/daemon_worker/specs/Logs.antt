@@ -31,7 +31,7 @@ abbrev pub AreGoing : List Connection → Type 0
 AreGoing [] = Unit {0}
 AreGoing (c ∷ cs) = (stops c.what ≡ false) × AreGoing cs
 
--- the last one is the first after which no further connection is served, and there are at most that many
+-- the last one is the first after which no further connection is served, and there are at most as many as are to be served
 pub record IsStopped (serve : ℕ) (cs : List Connection) : Type 0 where
   pub before : List Connection
   pub last : Connection

@@ -25,7 +25,7 @@ pub record IsRoom (serve : ℕ) (items : List Entry) (len capacity : ℕ) : Type
   pub empty : items ≡ []
   pub room : len + serve ≤ capacity
 
--- a worker that has done nothing yet, with room for that many entries
+-- a worker whose log is empty, with room for that many entries
 abbrev pub IsReady : {A S : Type 0} → ℕ → Worker A S → Type 0
 IsReady serve worker = IsRoom serve worker.log.items (vec_len worker.log) (vec_capacity worker.log)
 

@@ -72,8 +72,8 @@ impl Cell<16, 34> {
         slots.give(grant);
     }
 
-    /// Gives back a slot of a host that isn't local. The host is in back-off until the moment `until`, in seconds, or longer if it already
-    /// was.
+    /// Gives back a slot of a host that isn't local. The host is in back-off until the moment `until`, in seconds, or until its present
+    /// back-off ends if that is later.
     pub fn give_bad<R: Wait>(&self, rt: &R, pass: &mut Pass, grant: Grant, until: u64)
         requires pass { IsPassOf self.now pass.old }
         requires out { has (holding (number_of pass.old) (job_of grant) (Some (host_of grant))) (outstanding (mine_of pass.old)) ≡ true }

@@ -70,7 +70,8 @@ pub(crate) fn turn_numbers(numbers: &mut [u32], from: usize, mid: usize, end: us
     numbers[from..from + count].copy_from_slice(&few[..count]);
 }
 
-/// Whether there is memory for that many more items. If there isn't, memory is taken for as many as are expected in all.
+/// Whether there is memory for that many more items. If there isn't, memory is taken for these, for an eighth more, or for as many as are expected in
+/// all, whichever is most.
 pub(crate) fn make_room<T>(items: &mut Vec<T>, more: usize, expected: usize) -> bool
     ensures items { items.new.items ≡ items.old.items }
     ensures grown { vec_capacity items.old ≤ vec_capacity items.new }

@@ -94,12 +94,12 @@ before byte word = take (position_or_len (λ b. b == byte) word) word
 unfoldable pub is_known_piece : List ℕ → Bool
 is_known_piece rest = is_piece_word (before 44 rest) || (has_piece_front rest && not (reaches_out rest))
 
--- each word for the assembler is known, after each comma
+-- the word for the assembler after each comma is known
 abbrev pub are_pieces_known : List ℕ → Bool
 are_pieces_known [] = true
 are_pieces_known (b ∷ bs) = (not (b == 44) || is_known_piece bs) && are_pieces_known bs
 
--- a word for gcc's messages about its optimisations, to standard error: it has no `=`, after which gcc takes the name of a file
+-- a word for gcc's messages about its optimisations, to standard error: it has only plain bytes and no `=`, after which gcc takes the name of a file
 abbrev pub is_report : List ℕ → Bool
 is_report word = begins_with (codes "-fopt-info") word && is_plain word && not (list_any (λ b. b == 61) word)
 
@@ -124,7 +124,7 @@ operand_of word =
 abbrev pub undashed : List ℕ → List ℕ
 undashed word = if begins_with (codes "--") word then drop 2 word else drop 1 word
 
--- one dash or two, a name of the table, and no value or one after a `=`
+-- only plain bytes: one dash or two, a name of the tables, and no value or one after a `=`
 abbrev pub is_flag_served : List ℕ → Bool
 is_flag_served word = begins_with (codes "-") word && is_plain word && is_flag_name (before 61 (undashed word))
 

@@ -14,7 +14,7 @@ fn is_known_piece(rest: &[u8]) -> bool
     is_piece_word(before(b',', rest)) || (has_piece_front(rest) && !reaches_out(rest))
 }
 
-/// Whether each word for the assembler, after each comma, is known.
+/// Whether the word for the assembler after each comma is known.
 pub fn are_pieces_known(word: &[u8]) -> bool
     ensures { result ≡ are_pieces_known word.now }
 {

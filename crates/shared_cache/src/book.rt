@@ -29,8 +29,8 @@ impl<P: Sharing> Model for SharedBook<P> {
     ghost invariant = { λ s. s.order.bound ≡ P.bound };
 }
 
-/// How many runs a book couldn't keep for lack of memory, and how many bytes its entries have together. The count stays at the
-/// greatest u64.
+/// How many runs a book couldn't keep for lack of memory, and how many bytes its entries have together. The count doesn't go
+/// above the greatest u64.
 #[derive(Clone, Copy, Debug, PartialEq, Eq)]
 pub struct SharedStats {
     pub unkept: u64,

@@ -55,7 +55,7 @@ pub record MayBeTaken {h : ℕ} (l : Limits h) (s : SlotState h) (mask : Mask) (
   pub up : slice_index s.until i ≤ now
 
 -- What the reply to a take says of the entries in the mask. One that is got may be taken. It is Down exactly if each of them is in
--- back-off. If it is Full, each of them that isn't in back-off has as many slots given out as its limit.
+-- back-off. If it is Full, each of them that isn't in back-off has at least as many slots given out as its limit.
 pub record TakeTells {h : ℕ} (l : Limits h) (s : SlotState h) (mask : Mask) (now : ℕ) (reply : SlotReply) : Type 0 where
   pub got : (i : ℕ) → reply ≡ Got i → MayBeTaken l s mask now i
   pub down : (reply ≡ Down) ↔ ((i : ℕ) → i < l.count → in_mask mask i ≡ true → now < slice_index s.until i)

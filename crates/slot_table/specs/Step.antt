@@ -56,7 +56,7 @@ taken s i = record s { held = slice_set s.held i (slice_index s.held i + 1) }
 abbrev pub given : {h : ℕ} → SlotState h → ℕ → SlotState h
 given s i = record s { held = slice_set s.held i (slice_index s.held i - 1) }
 
--- the state in which entry i is in back-off until this moment, or longer if it already was
+-- the state in which entry i is in back-off until this moment, or until its present back-off ends if that is later
 abbrev pub left_alone : {h : ℕ} → SlotState h → ℕ → ℕ → SlotState h
 left_alone s i until = record s { until = slice_set s.until i (max (slice_index s.until i) until) }
 

@@ -12,7 +12,7 @@ pub enum SlotCall {
     Take { job: u32, mask: Mask, now: u64 },
     /// Gives a host's slot back.
     Give { host: u32, job: u32 },
-    /// Gives a host's slot back. The host is in back-off, so it is not used, until this moment.
+    /// Gives a host's slot back. The host is in back-off, so it is not used, until this moment or later.
     GiveBad { host: u32, job: u32, until: u64 },
     /// Asks for a local slot for a job.
     TakeLocal { job: u32 },

@@ -14,7 +14,7 @@ use crate::mask::Mask;
 /// Who hands out jobs and slots to one caller. No call takes memory.
 ///
 /// If it is `alone`, its calls are the only ones, and each of them spends one of the calls that it has room for. No call changes its home,
-/// its place, its limits and the caller's number.
+/// its place, its limits or the caller's number.
 pub trait Grants {
     /// What distinguishes the slots that it hands out from others.
     type Home;
@@ -86,7 +86,8 @@ pub trait Grants {
         ensures spare { spare self.new + cost alone ≡ spare self.old }
         ensures mine { mine self.new ≡ mine self.old ++ entry (caller_number self.old) (Give (host_of grant) (job_of grant)) Given ∷ [] };
 
-    /// Gives back a slot of a host that isn't local. The host is in back-off until the moment `until`, or longer if it already was.
+    /// Gives back a slot of a host that isn't local. The host is in back-off until the moment `until`, or until its present back-off ends if
+    /// that is later.
     fn give_bad(&mut self, grant: Grant, until: u64)
         requires ready { ready self.old }
         requires spare { cost alone ≤ spare self.old }

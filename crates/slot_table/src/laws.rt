@@ -2,7 +2,8 @@
 ghost use Rattle.slot_table.specs.Laws.{StateAgrees, DrawsInOrder, HoldsByOwnCalls, PermittedSteps, FreeWhereAllIsBack, TakesTell};
 
 /// What the reply to a take says of the entries in its mask, in any state. One that is got is below its limit and not in back-off. The
-/// reply is Down exactly if each of them is in back-off. If it is Full, each one that isn't in back-off is at its limit.
+/// reply is Down exactly if each of them is in back-off. If it is Full, each one that isn't in back-off has at least as many slots given out
+/// as its limit.
 pub fn takes_tell()
     ensures { TakesTell }
 {}

@@ -157,7 +157,8 @@ impl<const H: usize> Slots<H> {
         self.give_back(grant.spend());
     }
 
-    /// Gives back a slot of a host that isn't local. The host is in back-off until the moment `until`, or longer if it already was.
+    /// Gives back a slot of a host that isn't local. The host is in back-off until the moment `until`, or until its present back-off ends if
+    /// that is later.
     pub fn give_bad(&mut self, grant: Grant, until: u64)
         requires can { CanStep self.old.limits self.old.state (GiveBad (host_of grant) (job_of grant) until) }
         ensures limits { self.new.limits ≡ self.old.limits }
@@ -177,7 +178,7 @@ impl<const H: usize> Slots<H> {
         self.state.held[host as usize] -= 1;
     }
 
-    /// Puts the entry in back-off until this moment, or longer if it already was.
+    /// Puts the entry in back-off until this moment, or until its present back-off ends if that is later.
     fn leave_alone(&mut self, host: u32, until: u64)
         requires { host < self.old.limits.count }
         ensures limits { self.new.limits ≡ self.old.limits }
