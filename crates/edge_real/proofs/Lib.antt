@@ -1,5 +1,1 @@
-mod ChildLemmas
 mod KitLemmas
-mod KnownLemmas
-mod ReadLemmas
-mod WordLemmas

@@ -1,14 +1,1 @@
-pub mod Reading
-pub mod Children
-pub mod Ends
-pub mod Counts
-pub mod Notices
-pub mod OwnNames
-pub mod RunFolders
-pub mod Serving
-pub mod Accepting
-pub mod Staging
-pub mod Views
 pub mod Kits
-pub mod Environment
-pub mod Streams

@@ -1,9 +1,9 @@
 ghost use Rattle.std.specs.Prelude.{◌≡◌, ◌+◌, IfOk, All, vec_len, string_bytes};
 ghost use Rattle.edge_real.specs.Kits.{IsSystemKit};
 
-use crate::clock::PAUSE_MILLIS;
-use crate::notices::Notices;
 use crate::{ChildStation, DiskFiles, TcpDialer, WallClock};
+use edge_sockets::Notices;
+use edge_streams::PAUSE_MILLIS;
 use edge_traits::Kit;
 use object_delivery::FileKeeper;
 use std::alloc::{AllocError, Global};

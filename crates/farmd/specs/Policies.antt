@@ -2,9 +2,9 @@
 use Rattle.std.specs.Prelude.{◌≡◌, ◌≢◌, ℕ, true, false, List}
 use Rattle.daemon_words.specs.Commands.{settings_of, trusts}
 use Rattle.daemon_words.specs.Tables.{tools_of}
-use Rattle.edge_real.specs.Serving.{tools_in}
-use Rattle.edge_real.specs.declared.child.WordPolicy.{WordPolicy}
-use Rattle.edge_real.specs.declared.child.WordPolicy.TheVariants.{AllWords}
+use Rattle.edge_programs.specs.Serving.{tools_in}
+use Rattle.edge_programs.specs.declared.child.WordPolicy.{WordPolicy}
+use Rattle.edge_programs.specs.declared.child.WordPolicy.TheVariants.{AllWords}
 
 -- All words with `--trust-options`. Else those that are let through, which may name the folders of `--tools`.
 pub record IsPolicyFor (words : List (List ℕ)) (policy : WordPolicy) : Type 0 where

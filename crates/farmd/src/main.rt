@@ -6,7 +6,7 @@ mod beginning;
 ghost use Rattle.std.specs.Prelude.{◌≡◌, ◌≤◌, length, map, IfOk, IfSome, IsSomeAnd, string_bytes};
 ghost use Rattle.farm_types.specs.Limits.{workers_max};
 ghost use Rattle.farmd.specs.Policies.{IsPolicyFor};
-ghost use Rattle.edge_real.specs.Views.{policy_of as station_policy};
+ghost use Rattle.edge_programs.specs.Views.{policy_of as station_policy};
 
 use access_list::AccessList;
 use beginning::{is_root, tell_beginning, tell_folder};

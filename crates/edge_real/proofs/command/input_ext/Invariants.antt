@@ -1,6 +1,0 @@
-use Rattle.std.proofs.Common.{◌≡◌, None, take}
-use Rattle.edge_real.specs.Children.{first_input}
-use Rattle.edge_real.proofs.command.input_ext.Given as goal
-
-abbrev pub invariant-loop-word : goal.invariant-loop-word
-invariant-loop-word l = first_input (take l.word-index l.words) ≡ None

@@ -1,5 +1,0 @@
-use Rattle.edge_real.specs.OwnNames.{names_view, SameOwner}
-use Rattle.edge_real.proofs.staging.new_file.Given as goal
-
-abbrev pub invariant-loop : goal.invariant-loop
-invariant-loop g l = SameOwner (names_view l.fn.names) (names_view l.names)

@@ -1,0 +1,4 @@
+pub mod Ends
+pub mod Notices
+pub mod Accepting
+pub mod Views
