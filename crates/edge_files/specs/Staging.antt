@@ -1,5 +1,5 @@
 -- A file that is being written.
-use Rattle.std.specs.Prelude.{ℕ, Bool, true, false, ◌||◌, List, Option, None, Some, string_bytes}
+use Rattle.std.specs.Prelude.{ℕ, Bool, false, ◌||◌, List, Option, None, Some, string_bytes}
 use Rattle.edge_files.specs.declared.staging.StagedFile.{StagedFile}
 
 -- the name that it is written for

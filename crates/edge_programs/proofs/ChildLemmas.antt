@@ -5,7 +5,8 @@ use Rattle.edge_traits.specs.declared.faults.StationFault.TheVariants.{Failed, T
 use Rattle.std.proofs.Common.{ℕ, arith}
 use Rattle.edge_traits.specs.declared.faults.Stream.{Stream}
 use Rattle.edge_traits.specs.declared.faults.Stream.TheVariants.{Out, Err as ErrStream, Object}
-use Rattle.edge_programs.specs.Children.{IsRunFault, IsStreamFault, NamesNoStream}
+use Rattle.edge_programs.specs.Children.{IsRunFault, IsStreamFault}
+use Rattle.edge_runs.specs.Commands.{NamesNoStream}
 
 -- a fault that names no stream is one of a run, whatever its bounds
 pub unnamed : (bounds : Bounds) (fault : StationFault) → NamesNoStream fault → IsRunFault bounds fault

@@ -1,2 +1,1 @@
 mod ChildLemmas
-mod WordLemmas

@@ -2,6 +2,5 @@ pub mod Children
 pub mod Ends
 pub mod Counts
 pub mod Notices
-pub mod RunFolders
 pub mod Serving
 pub mod Views

@@ -1,15 +1,15 @@
 -- What a station that serves others runs, and what it answers in place of a run.
-use Rattle.std.specs.Prelude.{ℕ, Bool, true, not, List, [], ◌∷◌, ◌++◌, take, map, codes, string_bytes, slice_get, Option, None, Some, Result, Ok, Err}
+use Rattle.std.specs.Prelude.{ℕ, Bool, true, not, List, [], map, string_bytes, Option, None, Some, Result, Ok, Err}
 use Rattle.std.specs.Prelude.{◌≡◌}
 use Rattle.std.specs.Option.{is_some}
 use Rattle.farm_types.specs.declared.placed.Word.{Word}
-use Rattle.farm_types.specs.declared.placed.Word.TheVariants.{Text, Input, Output}
 use Rattle.farm_types.specs.declared.ran.Ran.{Ran}
 use Rattle.edge_traits.specs.declared.faults.StationFault.{StationFault}
 use Rattle.edge_traits.specs.declared.faults.StationFault.TheVariants.{Memory}
 use Rattle.edge_traits.specs.Stations.{has_output}
 use Rattle.object_kind.specs.Asked.{is_asked_kind, is_filled}
 use Rattle.served_words.specs.Served.{first_unserved}
+use Rattle.edge_runs.specs.Refusals.{unserved_reply}
 use Rattle.edge_programs.specs.declared.child.WordPolicy.{WordPolicy}
 use Rattle.edge_programs.specs.declared.child.WordPolicy.TheVariants.{ServedWords, AllWords}
 
@@ -27,30 +27,6 @@ unserved_place (Some (ServedWords tools)) words = first_unserved words (map stri
 -- the words may run: each is let through, or they need not be
 abbrev pub are_let_through : Option WordPolicy → List Word → Bool
 are_let_through policy words = not (is_some (unserved_place policy words))
-
--- the most bytes of a word in a message
-abbrev pub shown_word_max : ℕ
-shown_word_max = 64
-
--- the front of a word's text
-abbrev pub shown_word : Option Word → List ℕ
-shown_word None = []
-shown_word (Some (Text bytes)) = take shown_word_max bytes
-shown_word (Some (Input ext)) = []
-shown_word (Some Output) = []
-
--- `farmd: not let through: WORD` with a line feed
-abbrev pub unserved_message : Option Word → List ℕ
-unserved_message word = (codes "farmd: not let through: " ++ shown_word word) ++ 10 ∷ []
-
--- the reply in place of a run of words of which the one at this place isn't let through: exit code 111 and a message, cut to the bound
-abbrev pub unserved_reply : ℕ → List Word → ℕ → Ran
-unserved_reply bound words place = record {
-  status = 28416;
-  out = [];
-  err = take bound (unserved_message (slice_get words place));
-  object = [];
-}
 
 -- what a run for others gives is an object of the kind that the words ask for; what one of this process's own gives is more than nothing
 abbrev pub is_fit : Option WordPolicy → List Word → List ℕ → Bool

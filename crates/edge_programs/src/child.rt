@@ -1,19 +1,18 @@
 ghost use Rattle.std.specs.Prelude.{◌≡◌, ◌≢◌, ⊤, true, false, ◌≤◌, length, [], Option, None, Some, Err, IfOk, IfErr, IfSome, OnOk, option_map, All, string_bytes};
 ghost use Rattle.edge_traits.specs.Stations.{IsWithin, has_output};
 ghost use Rattle.edge_programs.specs.Counts.{run_faults, run_overruns};
-ghost use Rattle.edge_programs.specs.Children.{IsRunFault, NamesNoStream, CanBeGiven, input_path, output_path, needs_folder};
-ghost use Rattle.edge_programs.specs.RunFolders.{place_of, bytes_if};
+ghost use Rattle.edge_programs.specs.Children.{IsRunFault, input_path, output_path};
+ghost use Rattle.edge_runs.specs.Commands.{NamesNoStream, CanBeGiven, needs_folder};
+ghost use Rattle.edge_runs.specs.RunFolders.{place_of, bytes_if};
 ghost use Rattle.edge_programs.specs.Serving.{are_let_through, unserved_place, IsOfKind, IsRefusal};
 ghost use Rattle.edge_programs.specs.Views.{station_view, counted_station, folder_of, policy_of, policy_in, lifetime_of, rules_of};
 
-use crate::command::{
-    OBJECT_NAME, command_in, command_of, input_ext, needs_folder, path_of, source_name,
-};
 use crate::notices::{tell_overrun, tell_signal, tell_unserved};
-use crate::refusing::refusal_of;
-use crate::run_folder::{RunFolder, SharedNotes};
-use crate::run_watch::{RunWatch, Unwatched, have_descriptors};
 use crate::running::{Watched, object_left, of_any_kind, of_asked_kind, run_command, run_watched};
+use edge_runs::{
+    OBJECT_NAME, RunFolder, RunWatch, SharedNotes, Unwatched, command_in, command_of,
+    have_descriptors, input_ext, needs_folder, path_of, refusal_of, source_name,
+};
 use edge_streams::raise;
 use edge_traits::{Bounds, Station, StationFault, has_output};
 use farm_types::{Bytes, Ran, Word};

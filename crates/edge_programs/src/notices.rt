@@ -15,16 +15,6 @@ pub fn tell_unstarted<R: Eprint>(rt: &R, program: &str, error: &Error) {
     let _ = eprintln!(rt; "{program}: cannot be started: {error}");
 }
 
-/// A folder or a file of the station's own couldn't be made, for the system's reason.
-pub fn tell_unmade<R: Eprint>(rt: &R, path: &str, error: &Error) {
-    let _ = eprintln!(rt; "{path}: cannot be made: {error}");
-}
-
-/// A folder of the station's own couldn't be removed, for the system's reason.
-pub fn tell_unremoved<R: Eprint>(rt: &R, path: &str, error: &Error) {
-    let _ = eprintln!(rt; "{path}: cannot be removed: {error}");
-}
-
 /// The first word that isn't let through, which so doesn't run.
 pub fn tell_unserved<R: Eprint>(rt: &R, words: &[Word], place: usize) {
     if let Some(Word::Text(bytes)) = words.get(place) {

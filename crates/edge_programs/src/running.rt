@@ -1,16 +1,16 @@
 // A program's run, from its start to what it left.
 ghost use Rattle.std.specs.Prelude.{true, ◌≡◌, ◌≢◌, ℕ, ◌≤◌, List, [], length, Option, None, Err, IfSome, IfOk, IfErr};
-ghost use Rattle.edge_programs.specs.Children.{IsRunFault, IsStreamFault, NamesNoStream, taken_of, left_by};
+ghost use Rattle.edge_programs.specs.Children.{IsRunFault, IsStreamFault, taken_of, left_by};
+ghost use Rattle.edge_runs.specs.Commands.{NamesNoStream};
 ghost use Rattle.edge_traits.specs.Stations.{has_output};
 ghost use Rattle.object_kind.specs.Asked.{is_asked_kind, is_filled};
 ghost use Rattle.edge_streams.specs.Reading.{IsReadWithin, IsReadOf};
 ghost use Rattle.edge_files.specs.Loads.{IsLoadFault};
 
 use crate::notices::{tell_empty, tell_lost, tell_missing, tell_unasked, tell_unstarted};
-use crate::run_folder::nameless_file;
-use crate::run_watch::RunWatch;
 use crate::waiting::wait_watched;
 use edge_files::load;
+use edge_runs::{RunWatch, nameless_file};
 use edge_streams::{Reading, read_to_end};
 use edge_traits::{Bounds, FetchFault, StationFault, Stream, has_output};
 use farm_types::{Bytes, Word};

@@ -1,11 +1,11 @@
 // The wait for a program that runs for others, which may be ended before its time.
 ghost use Rattle.std.specs.Prelude.{◌≡◌, ◌≢◌, Err, IfErr, option_map};
 ghost use Rattle.std.specs.Duration.{as_nanos};
-ghost use Rattle.edge_programs.specs.Children.{NamesNoStream};
+ghost use Rattle.edge_runs.specs.Commands.{NamesNoStream};
 ghost use Rattle.edge_programs.specs.Ends.{early_end, is_late, status_of, pause_nanos};
 
 use crate::notices::{tell_killed, tell_lost};
-use crate::run_watch::RunWatch;
+use edge_runs::RunWatch;
 use edge_streams::moment;
 use edge_traits::StationFault;
 use farm_types::Word;

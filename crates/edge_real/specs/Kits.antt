@@ -3,7 +3,7 @@ use Rattle.std.specs.Prelude.{◌≡◌, ℕ, List, None}
 use Rattle.edge_traits.specs.declared.kit.Kit.{Kit}
 use Rattle.edge_sockets.specs.declared.tcp.TcpDialer.{TcpDialer}
 use Rattle.edge_programs.specs.declared.child.ChildStation.{ChildStation}
-use Rattle.edge_programs.specs.declared.run_watch.Unwatched.{Unwatched}
+use Rattle.edge_runs.specs.declared.run_watch.Unwatched.{Unwatched}
 use Rattle.edge_files.specs.declared.disk.DiskFiles.{DiskFiles}
 use Rattle.edge_streams.specs.declared.clock.WallClock.{WallClock}
 use Rattle.object_delivery.specs.Staging.{Kept}

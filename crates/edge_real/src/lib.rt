@@ -5,10 +5,8 @@
 mod kits;
 
 pub use edge_files::DiskFiles;
-pub use edge_programs::{
-    ChildStation, RunNotes, RunWatch, ServingRules, SharedNotes, Unwatched, WordPolicy,
-    nameless_file,
-};
+pub use edge_programs::{ChildStation, ServingRules, WordPolicy};
+pub use edge_runs::{RunNotes, RunWatch, SharedNotes, Unwatched, nameless_file};
 pub use edge_sockets::{DoorLink, DoorWatch, Notices, SharedWatch, TcpDialer, TcpDoor, TcpLink};
 pub use edge_streams::{
     ErrorLines, HeldStreams, PAUSE_MILLIS, StdSink, StdSource, Unhindered, WaitingStream,

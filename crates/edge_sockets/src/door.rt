@@ -12,7 +12,7 @@ use crate::pending::Pending;
 use crate::room::{Room, SharedRoom, Wants};
 use crate::waiting_room::{WaitingRoom, ipv4_of};
 use access_list::AccessList;
-use edge_programs::{SharedNotes, remove_left};
+use edge_runs::{SharedNotes, remove_left};
 use edge_streams::raise;
 use edge_traits::{Door, EdgeFault};
 use std::alloc::Global;

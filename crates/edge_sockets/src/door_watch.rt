@@ -4,7 +4,7 @@ ghost use Rattle.std.specs.Duration.{as_nanos};
 ghost use Rattle.edge_sockets.specs.Ends.{is_gone};
 
 use crate::room::SharedRoom;
-use edge_programs::RunWatch;
+use edge_runs::RunWatch;
 use edge_streams::moment;
 use mio::event::Event;
 use mio::unix::SourceFd;

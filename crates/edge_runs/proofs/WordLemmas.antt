@@ -3,7 +3,7 @@ use Rattle.std.proofs.Common.{◌≡◌, ℕ, zero, suc, ◌+◌, ◌<◌, List,
 use Rattle.farm_types.specs.declared.placed.Ext.{Ext}
 use Rattle.farm_types.specs.declared.placed.Word.{Word}
 use Rattle.farm_types.specs.declared.placed.Word.TheVariants.{Text, Input, Output}
-use Rattle.edge_programs.specs.Children.{first_input}
+use Rattle.edge_runs.specs.Commands.{first_input}
 
 pub none_in_nothing : first_input [] ≡ None
 none_in_nothing = refl

@@ -3,8 +3,8 @@ ghost use Rattle.std.specs.Prelude.{◌≡◌, ◌≢◌, ◌∷◌, ◌++◌, [
 ghost use Rattle.std.specs.Option.{is_some, unwrap_or};
 ghost use Rattle.std.specs.Process.{command_program, command_args, command_dir, SameEnv, SameDir};
 ghost use Rattle.edge_traits.specs.Stations.{has_output};
-ghost use Rattle.edge_programs.specs.Children.{NamesNoStream, given_word, CanBeGiven, IsCommandOf, IsCommandIn, IsProgramIn, needs_folder, named_from, is_from_here, first_input, source_text, source_of, object_text};
-ghost use Rattle.edge_programs.specs.RunFolders.{bytes_if};
+ghost use Rattle.edge_runs.specs.Commands.{NamesNoStream, given_word, CanBeGiven, IsCommandOf, IsCommandIn, IsProgramIn, needs_folder, named_from, is_from_here, first_input, source_text, source_of, object_text};
+ghost use Rattle.edge_runs.specs.RunFolders.{bytes_if};
 
 use edge_traits::{StationFault, has_output};
 use farm_types::{Ext, Word};
@@ -19,6 +19,7 @@ pub fn needs_folder(words: &[Word]) -> bool
     input_ext(words).is_some() || has_output(words)
 }
 
+/// What the first `Input` of the words is, if one of them is `Input`.
 #[tactic(auto, using(crate::proofs::WordLemmas::inputs))]
 pub fn input_ext(words: &[Word]) -> Option<Ext>
     ensures { result ≡ first_input words.now }

@@ -1,8 +1,8 @@
 use Rattle.std.proofs.Common.{◌≡◌, ◌++◌, map, take}
 use Rattle.std.specs.List.{AllWithin}
 use Rattle.std.specs.Process.{command_program, command_args, SameEnv, SameDir}
-use Rattle.edge_programs.specs.Children.{given_word, CanBeGiven}
-use Rattle.edge_programs.proofs.command.give_all.Given as goal
+use Rattle.edge_runs.specs.Commands.{given_word, CanBeGiven}
+use Rattle.edge_runs.proofs.command.give_all.Given as goal
 
 abbrev pub invariant-loop-word : goal.invariant-loop-word
 invariant-loop-word l = record {

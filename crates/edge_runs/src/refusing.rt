@@ -1,8 +1,8 @@
 // The reply to words of which one isn't let through.
 ghost use Rattle.std.specs.Prelude.{◌≡◌, ◌≤◌, [], take, length, slice_get, IfOk, IfErr};
 ghost use Rattle.edge_traits.specs.Stations.{IsWithin};
-ghost use Rattle.edge_programs.specs.Children.{NamesNoStream};
-ghost use Rattle.edge_programs.specs.Serving.{shown_word, shown_word_max, unserved_message, unserved_reply};
+ghost use Rattle.edge_runs.specs.Commands.{NamesNoStream};
+ghost use Rattle.edge_runs.specs.Refusals.{shown_word, shown_word_max, unserved_message, unserved_reply};
 
 use edge_traits::{Bounds, StationFault};
 use farm_types::{Bytes, Ran, Word};

@@ -1,8 +1,8 @@
 // A folder for one run, in which the files of the run are.
 ghost use Rattle.std.specs.Prelude.{◌≡◌, ◌≢◌, true, IfOk, IfErr, Err, string_bytes};
 ghost use Rattle.std.specs.Fs.{asks_read, asks_write, asks_create_new};
-ghost use Rattle.edge_programs.specs.Children.{NamesNoStream};
-ghost use Rattle.edge_programs.specs.RunFolders.{folder_name, IsNamedIn, place_of, file_in};
+ghost use Rattle.edge_runs.specs.Commands.{NamesNoStream};
+ghost use Rattle.edge_runs.specs.RunFolders.{folder_name, IsNamedIn, place_of, file_in};
 
 use crate::notices::{tell_unmade, tell_unremoved};
 use edge_files::tell_unput;
@@ -44,7 +44,7 @@ impl RunNotes {
     }
 
     /// The station is asked for a run.
-    pub(crate) fn note_asked(&self) {
+    pub fn note_asked(&self) {
         self.was_asked.store(true, Ordering::SeqCst);
     }
 

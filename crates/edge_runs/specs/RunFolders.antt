@@ -2,7 +2,7 @@
 use Rattle.std.specs.Prelude.{◌≡◌, ℕ, List, ◌++◌, length, codes, Option, String, string_bytes}
 use Rattle.std.specs.Option.{option_map}
 use Rattle.hex.specs.Hex.{encode_lower}
-use Rattle.edge_programs.specs.declared.run_folder.RunFolder.{RunFolder}
+use Rattle.edge_runs.specs.declared.run_folder.RunFolder.{RunFolder}
 
 -- `FOLDER/farm-WORD`, with the bytes of the word as hexadecimal digits
 abbrev pub folder_name : List ℕ → List ℕ → List ℕ
