@@ -16,7 +16,7 @@ use Rattle.reply_stream.specs.Objects.{with_object, spanned, IsSpan, object_so_f
 use Rattle.reply_stream.specs.Reader.{Place, reading, refused, spent, IsAt, IsSpent, Uses, Says, Joins, Leaves}
 use Rattle.remote_transfer.specs.declared.answers.Stop.{Stop}
 use Rattle.remote_transfer.specs.declared.answers.Stop.TheVariants.{Broke, Memory}
-use Rattle.remote_transfer.specs.Links.{Given, ReplyIs}
+use Rattle.remote_transfer.specs.Links.{Given, OnlyReceives, ReplyIs}
 use Rattle.remote_transfer.specs.Pieces.{Comes, PieceRead, PieceStops, Received}
 
 -- a reader that is at a text isn't spent
@@ -24,6 +24,27 @@ pub not_spent : (place : Place) (text object : List ℕ) → IsAt place text obj
 not_spent (reading fields bytes given) text object here gone = gone
 not_spent (refused place fault) text object here gone = gone
 not_spent spent text object here gone = here
+
+-- ---- a link that only receives
+
+pub receives-none : {L : Type 0} {shows : L → LinkView} {Follows : L → L → Type 0} (link : L) → Follows link link
+    → OnlyReceives shows Follows link link
+receives-none {shows = shows} link itself = record {
+  sent = Grew-refl (shows link).sent;
+  stopped = refl;
+  follows = itself;
+  later = omega arith;
+}
+
+pub receives-then : {L : Type 0} {shows : L → LinkView} {Follows : L → L → Type 0}
+    → ((a b c : L) → Follows a b → Follows b c → Follows a c) → {old mid new : L}
+    → OnlyReceives shows Follows old mid → OnlyReceives shows Follows mid new → OnlyReceives shows Follows old new
+receives-then on {old = old} {mid = mid} {new = new} first second = record {
+  sent = Grew-still first.sent second.sent;
+  stopped = second.stopped ∙ first.stopped;
+  follows = on old mid new first.follows second.follows;
+  later = omega (arith, first.later, second.later);
+}
 
 -- ---- one piece
 

@@ -1,5 +1,5 @@
 -- What was sent and given over a link. The contracts of the parts of an attempt cite this.
-use Rattle.std.specs.Prelude.{◌≡◌, ℕ, true, List, length, Result, Ok, Err}
+use Rattle.std.specs.Prelude.{◌≡◌, ℕ, ◌≤◌, true, List, [], length, Result, Ok, Err}
 use Rattle.farm_types.specs.declared.request.Request.{Request}
 use Rattle.farm_types.specs.declared.ran.Outcome.{Outcome}
 use Rattle.farm_types.specs.declared.hosts.Host.{Host}
@@ -29,6 +29,14 @@ pub record Given (holds : List ℕ → Type 0) (old new : Told (List ℕ)) : Typ
   pub bytes : List ℕ
   pub grew : Grew old new bytes
   pub is : holds bytes
+
+-- What a link is after calls that only receive: nothing was sent, and no send took nothing. It stays one of its dialer, and its count didn't
+-- fall.
+pub record OnlyReceives {L : Type 0} (shows : L → LinkView) (Follows : L → L → Type 0) (old new : L) : Type 0 where
+  pub sent : Grew (shows old).sent (shows new).sent []
+  pub stopped : (shows new).stopped ≡ (shows old).stopped
+  pub follows : Follows old new
+  pub later : (shows old).faults ≤ (shows new).faults
 
 -- the text is the request's, and the link is to the host
 pub record IsFor (q : Request) (h : Host) (text : List ℕ) (link : LinkView) : Type 0 where

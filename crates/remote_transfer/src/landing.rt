@@ -5,9 +5,9 @@ ghost use Rattle.farm_types.specs.Limits.{piece_max};
 ghost use Rattle.edge_traits.specs.FileMaps.{IsStaged};
 ghost use Rattle.edge_traits.specs.Keepers.{IsIdle, IsPending, HasPending};
 ghost use Rattle.edge_traits.specs.Causes.{Still};
-ghost use Rattle.edge_traits.specs.Told.{Grew};
 ghost use Rattle.reply_stream.specs.Reader.{IsAt};
 ghost use Rattle.remote_transfer.specs.declared.answers.Stop.TheVariants.{Memory as StopMemory};
+ghost use Rattle.remote_transfer.specs.Links.{OnlyReceives};
 ghost use Rattle.remote_transfer.specs.Landings.{KeeperStays, LandsAt, CanLand, LandedAt, WantsMemory, IsLanding, paired, ReceivedInto, LandsInto};
 
 use crate::answers::{Landing, Stop};
@@ -169,10 +169,7 @@ fn receive_landing<L: Link, K: Keeper>(
     requires idle { IsIdle (K.shows keeper.old) }
     requires name { ¬ (IsStaged path.now) }
     ensures received { ReceivedInto result path.now (L.shows link.old) (L.shows link.new) (K.shows keeper.old) (K.shows keeper.new) }
-    ensures sent { Grew (L.shows link.old).sent (L.shows link.new).sent [] }
-    ensures stopped { (L.shows link.new).stopped ≡ (L.shows link.old).stopped }
-    ensures follows { L.follows link.old link.new }
-    ensures later { (L.shows link.old).faults ≤ (L.shows link.new).faults }
+    ensures receives { OnlyReceives L.shows L.follows link.old link.new }
     ensures stays { KeeperStays (K.shows keeper.old) (K.shows keeper.new) }
 {
     let mut state = ObjectState::Waiting;
@@ -216,10 +213,7 @@ pub(crate) fn receive_into<L: Link, K: Keeper>(
     requires idle { IsIdle (K.shows keeper.old) }
     requires name { ¬ (IsStaged path.now) }
     ensures lands { LandsInto result path.now (L.shows link.old) (L.shows link.new) (K.shows keeper.old) (K.shows keeper.new) }
-    ensures sent { Grew (L.shows link.old).sent (L.shows link.new).sent [] }
-    ensures stopped { (L.shows link.new).stopped ≡ (L.shows link.old).stopped }
-    ensures follows { L.follows link.old link.new }
-    ensures later { (L.shows link.old).faults ≤ (L.shows link.new).faults }
+    ensures receives { OnlyReceives L.shows L.follows link.old link.new }
     ensures stays { KeeperStays (K.shows keeper.old) (K.shows keeper.new) }
 {
     let mut reader = ReplyReader::new(alloc);

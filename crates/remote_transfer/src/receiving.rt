@@ -2,11 +2,10 @@
 
 ghost use Rattle.std.specs.Prelude.{◌≡◌, ◌<◌, ◌≤◌, ◌++◌, ℕ, List, [], length, IfOk, IfErr};
 ghost use Rattle.farm_types.specs.Limits.{piece_max};
-ghost use Rattle.edge_traits.specs.Told.{Grew};
 ghost use Rattle.reply_stream.specs.Objects;
 ghost use Rattle.reply_stream.specs.Reader.{IsAt, IsSpent};
 ghost use Rattle.remote_transfer.specs.declared.answers.Stop.TheVariants.{Memory as StopMemory};
-ghost use Rattle.remote_transfer.specs.Links.{Given, ReplyIs};
+ghost use Rattle.remote_transfer.specs.Links.{Given, OnlyReceives, ReplyIs};
 ghost use Rattle.remote_transfer.specs.Pieces.{PieceBrought, PieceStops, Received};
 
 use crate::answers::Stop;
@@ -34,10 +33,7 @@ pub(crate) fn receive_piece<L: Link>(
     requires fresh { IsSpent reader.old → ⊥ }
     ensures read { IfOk result (PieceBrought (L.shows link.old) (L.shows link.new) reader.old reader.new room.new) }
     ensures stops { IfErr result (PieceStops have reader.old (L.shows link.old) (L.shows link.new)) }
-    ensures sent { Grew (L.shows link.old).sent (L.shows link.new).sent [] }
-    ensures stopped { (L.shows link.new).stopped ≡ (L.shows link.old).stopped }
-    ensures follows { L.follows link.old link.new }
-    ensures later { (L.shows link.old).faults ≤ (L.shows link.new).faults }
+    ensures receives { OnlyReceives L.shows L.follows link.old link.new }
 {
     let count = match link.recv(room) {
         Ok(0) => return Err(Stop::Broke(Cause::Truncated { have })),
@@ -68,10 +64,7 @@ fn receive_joined<L: Link>(
     requires small { length room.old ≤ piece_max }
     requires at { IsAt reader.old [] object.old }
     ensures received { Received result object.new (L.shows link.old) (L.shows link.new) }
-    ensures sent { Grew (L.shows link.old).sent (L.shows link.new).sent [] }
-    ensures stopped { (L.shows link.new).stopped ≡ (L.shows link.old).stopped }
-    ensures follows { L.follows link.old link.new }
-    ensures later { (L.shows link.old).faults ≤ (L.shows link.new).faults }
+    ensures receives { OnlyReceives L.shows L.follows link.old link.new }
 {
     let mut have = 0;
     'receiving: loop {
@@ -112,12 +105,7 @@ pub(crate) fn receive_reply<L: Link>(
     requires room { 0 < length room.old }
     requires small { length room.old ≤ piece_max }
     ensures given { Given (ReplyIs result (L.shows link.old) (L.shows link.new)) (L.shows link.old).given (L.shows link.new).given }
-
-    // Nothing is sent, and the link stays one of its dialer.
-    ensures sent { Grew (L.shows link.old).sent (L.shows link.new).sent [] }
-    ensures stopped { (L.shows link.new).stopped ≡ (L.shows link.old).stopped }
-    ensures follows { L.follows link.old link.new }
-    ensures later { (L.shows link.old).faults ≤ (L.shows link.new).faults }
+    ensures receives { OnlyReceives L.shows L.follows link.old link.new }
 {
     let mut reader = ReplyReader::new(alloc);
     let mut object = Bytes::new(alloc);

@@ -6,5 +6,5 @@ returns-clause-passed g c = λ q h is_for.
     let sent = c.in_ok-send_all.ensures in
     let received = c.receive_reply.ensures in
     replied q h c.args.text.now _ _ is_for c.requires.new
-    (g.met.L.Link.origin_stays _ _ (g.met.L.Link.follows_on _ _ _ sent.follows received.follows))
-    _ sent.all received.sent sent.given sent.running received.stopped sent.ended sent.still c.receive_reply.result received.given
+    (g.met.L.Link.origin_stays _ _ (g.met.L.Link.follows_on _ _ _ sent.follows received.receives.follows))
+    _ sent.all received.receives.sent sent.given sent.running received.receives.stopped sent.ended sent.still c.receive_reply.result received.given

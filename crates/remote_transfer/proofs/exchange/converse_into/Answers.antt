@@ -15,15 +15,15 @@ returns-clause-passed g c =
     record {
       object = received.lands.object;
       passed = λ q h is_for. replied q h c.args.text.now _ _ is_for c.requires.new
-          (g.met.L.Link.origin_stays _ _ (g.met.L.Link.follows_on _ _ _ sent.follows received.follows))
-          _ sent.all received.sent sent.given sent.running received.stopped sent.ended sent.still
+          (g.met.L.Link.origin_stays _ _ (g.met.L.Link.follows_on _ _ _ sent.follows received.receives.follows))
+          _ sent.all received.receives.sent sent.given sent.running received.receives.stopped sent.ended sent.still
           (received_of c.receive_into.result received.lands.object) received.lands.given;
       lands = received.lands.lands;
       unasked = maybe-asked c.receive_into.result received.lands.object _ _ received.lands.given.bytes _ _ received.lands.given.is;
       rises = record {
         sent = c.args.text.now;
         given = received.lands.given.bytes;
-        grew_sent = Grew-still sent.all received.sent;
+        grew_sent = Grew-still sent.all received.receives.sent;
         grew_given = Grew-join sent.given received.lands.given.grew refl;
         is = received.lands.rises;
       };

@@ -1,11 +1,10 @@
 use Rattle.std.proofs.Common.{arith, ◌∙◌, refl, sym, subst}
 use Rattle.std.proofs.lemmas.Result.{err_from_is_err_and}
-use Rattle.edge_traits.proofs.ToldLemmas.{Grew-refl, Grew-still}
 use Rattle.reply_stream.specs.Objects.{spanned}
 use Rattle.remote_transfer.specs.declared.receiving.Brought.TheVariants.{More, Whole}
 use Rattle.remote_transfer.specs.Landings.{ReceivedInto}
 use Rattle.remote_transfer.specs.Pieces.{PieceBrought}
-use Rattle.remote_transfer.proofs.ByPieces.{receiving-small}
+use Rattle.remote_transfer.proofs.ByPieces.{receives-none, receives-then, receiving-small}
 use Rattle.remote_transfer.proofs.IntoFiles.{stays-same, stays-then, into-begins, into-stops, into-memory, into-more, into-last}
 use Rattle.remote_transfer.proofs.landing.receive_landing.Goals as goal
 
@@ -16,10 +15,7 @@ receiving-init g c = record {
   shape = refl;
   into = into-begins (g.L.Link.shows c.args.link.now) c.args.reader.now c.args.path.now (g.K.Keeper.shows c.args.keeper.now) c.requires.at
       c.requires.idle;
-  sent = Grew-refl (g.L.Link.shows c.args.link.now).sent;
-  stopped = refl;
-  follows = g.met.L.Link.follows_itself _;
-  later = omega arith;
+  receives = receives-none c.args.link.now (g.met.L.Link.follows_itself _);
   stays = stays-same (g.K.Keeper.shows c.args.keeper.now);
 }
 
@@ -90,10 +86,7 @@ receiving-preserved g c =
           c.args.path.now (g.K.Keeper.shows c.args.keeper.now) (g.K.Keeper.shows c.receiving.keeper)
           (g.K.Keeper.shows c.land.new.keeper) c.in-More.count (spanned c.in-More.object c.receive_piece.new.room)
           c.receiving.invariant.into c.receiving.invariant.stays.faults b.2 c.in_ok-state-in-More.ensures.lands;
-      sent = Grew-still c.receiving.invariant.sent c.receive_piece.ensures.sent;
-      stopped = c.receive_piece.ensures.stopped ∙ c.receiving.invariant.stopped;
-      follows = g.met.L.Link.follows_on _ _ _ c.receiving.invariant.follows c.receive_piece.ensures.follows;
-      later = omega (arith, c.receiving.invariant.later, c.receive_piece.ensures.later);
+      receives = receives-then g.met.L.Link.follows_on c.receiving.invariant.receives c.receive_piece.ensures.receives;
       stays = stays-then (g.K.Keeper.shows c.args.keeper.now) (g.K.Keeper.shows c.receiving.keeper)
           (g.K.Keeper.shows c.land.new.keeper) c.receiving.invariant.stays c.land.ensures.stays;
     }

@@ -1,6 +1,6 @@
-use Rattle.std.proofs.Common.{◌≡◌, ◌<◌, ◌≤◌, ◌-◌, [], length}
+use Rattle.std.proofs.Common.{◌≡◌, ◌<◌, ◌≤◌, ◌-◌, length}
 use Rattle.farm_types.specs.Limits.{piece_max}
-use Rattle.edge_traits.specs.Told.{Grew}
+use Rattle.remote_transfer.specs.Links.{OnlyReceives}
 use Rattle.remote_transfer.specs.Landings.{KeeperStays}
 use Rattle.remote_transfer.proofs.IntoFiles.{ReceivingInto}
 use Rattle.remote_transfer.proofs.landing.receive_landing.Given as goal
@@ -14,10 +14,7 @@ invariant-receiving g l =
       small : length l.room ≤ piece_max;
       shape : length l.room ≡ length l.fn.room;
       into : ReceivingInto old now l.reader l.have l.state l.path (g.K.Keeper.shows l.fn.keeper) (g.K.Keeper.shows l.keeper);
-      sent : Grew old.sent now.sent [];
-      stopped : now.stopped ≡ old.stopped;
-      follows : g.L.Link.follows l.fn.link l.link;
-      later : old.faults ≤ now.faults;
+      receives : OnlyReceives g.L.Link.shows g.L.Link.follows l.fn.link l.link;
       stays : KeeperStays (g.K.Keeper.shows l.fn.keeper) (g.K.Keeper.shows l.keeper);
     }
 

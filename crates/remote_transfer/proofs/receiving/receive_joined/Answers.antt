@@ -1,11 +1,10 @@
 use Rattle.std.proofs.Common.{◌+◌, ◌++◌, arith, ◌∙◌, sym, subst}
 use Rattle.std.proofs.lemmas.Result.{err_from_is_err_and}
-use Rattle.edge_traits.proofs.ToldLemmas.{Grew-still}
 use Rattle.reply_stream.specs.Objects.{spanned}
 use Rattle.remote_transfer.specs.declared.receiving.Brought.TheVariants.{More, Whole}
 use Rattle.remote_transfer.specs.Pieces.{PieceBrought}
 use Rattle.remote_transfer.proofs.ByPieces.{Receiving, receiving-small, receiving-more, receiving-whole, receiving-memory}
-use Rattle.remote_transfer.proofs.ByPieces.{receiving-stops, received-last}
+use Rattle.remote_transfer.proofs.ByPieces.{receives-then, receiving-stops, received-last}
 use Rattle.remote_transfer.proofs.receiving.receive_joined.Goals as goal
 
 pub shape_of-room-in_err-count : goal.shape_of-room-in_err-count
@@ -79,10 +78,7 @@ receiving-preserved g c =
       shape = c.receive_piece.auto.room ∙ c.receiving.invariant.shape;
       receiving = subst (λ x. Receiving (g.L.Link.shows c.args.link.now) (g.L.Link.shows c.receive_piece.new.link)
           c.receive_piece.new.reader (c.receiving.have + c.in-More.count) x) (sym c.in_ok-try_extend-in-More.ensures.ok) more;
-      sent = Grew-still c.receiving.invariant.sent c.receive_piece.ensures.sent;
-      stopped = c.receive_piece.ensures.stopped ∙ c.receiving.invariant.stopped;
-      follows = g.met.L.Link.follows_on _ _ _ c.receiving.invariant.follows c.receive_piece.ensures.follows;
-      later = omega (arith, c.receiving.invariant.later, c.receive_piece.ensures.later);
+      receives = receives-then g.met.L.Link.follows_on c.receiving.invariant.receives c.receive_piece.ensures.receives;
     }
 
 pub returns-in-Whole-clause-received : goal.returns-in-Whole-clause-received

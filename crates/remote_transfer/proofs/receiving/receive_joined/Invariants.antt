@@ -1,6 +1,6 @@
-use Rattle.std.proofs.Common.{◌≡◌, ◌<◌, ◌≤◌, ◌-◌, [], length}
+use Rattle.std.proofs.Common.{◌≡◌, ◌<◌, ◌≤◌, ◌-◌, length}
 use Rattle.farm_types.specs.Limits.{piece_max}
-use Rattle.edge_traits.specs.Told.{Grew}
+use Rattle.remote_transfer.specs.Links.{OnlyReceives}
 use Rattle.remote_transfer.proofs.ByPieces.{Receiving}
 use Rattle.remote_transfer.proofs.receiving.receive_joined.Given as goal
 
@@ -13,10 +13,7 @@ invariant-receiving g l =
       small : length l.room ≤ piece_max;
       shape : length l.room ≡ length l.fn.room;
       receiving : Receiving old now l.reader l.have l.object;
-      sent : Grew old.sent now.sent [];
-      stopped : now.stopped ≡ old.stopped;
-      follows : g.L.Link.follows l.fn.link l.link;
-      later : old.faults ≤ now.faults;
+      receives : OnlyReceives g.L.Link.shows g.L.Link.follows l.fn.link l.link;
     }
 
 -- A short reply has at most 35,651,643 bytes, and each turn receives once and adds at least one byte: so many receives are left.
