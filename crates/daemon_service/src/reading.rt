@@ -1,10 +1,10 @@
 //! Reading the request of a connection.
 
-ghost use Rattle.std.specs.Prelude.{◌≡◌, ◌<◌, ◌≤◌, [], length, take, IfOk, IfErr, OnOk};
+ghost use Rattle.std.specs.Prelude.{◌≡◌, ◌<◌, [], length, IfOk, IfErr, OnOk};
 ghost use Rattle.edge_traits.specs.Told.{Grew};
 ghost use Rattle.edge_traits.specs.Causes.{Still};
 ghost use Rattle.daemon_service.specs.Services.{LinkCause};
-ghost use Rattle.daemon_service.specs.Parts.{Given, RequestIs, ReceiveStops};
+ghost use Rattle.daemon_service.specs.Parts.{Given, IsPiece, RequestIs, ReceiveStops};
 
 use crate::Served;
 use compile_request::{RequestReader, Step};
@@ -15,10 +15,7 @@ use std::alloc::Global;
 // Receives one piece into the room's front, after this many bytes.
 fn receive_piece<L: Link>(link: &mut L, room: &mut [u8], have: u64) -> Result<usize, Served>
     requires { 0 < length room.old }
-    ensures some { IfOk result (λ count. 0 < count) }
-    ensures within { IfOk result (λ count. count ≤ length room.new) }
-    ensures given { IfOk result (λ count. Grew (L.shows link.old).given (L.shows link.new).given (take count room.new)) }
-    ensures open { IfOk result (λ _. (L.shows link.new).ended ≡ (L.shows link.old).ended) }
+    ensures piece { IfOk result (λ count. IsPiece count room.new (L.shows link.old) (L.shows link.new)) }
     ensures stops { IfErr result (ReceiveStops have (L.shows link.old) (L.shows link.new)) }
     ensures sent { Grew (L.shows link.old).sent (L.shows link.new).sent [] }
     ensures stopped { (L.shows link.new).stopped ≡ (L.shows link.old).stopped }

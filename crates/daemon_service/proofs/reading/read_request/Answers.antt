@@ -27,16 +27,16 @@ overflow_add-have g c =
     let before = c.receiving.invariant.reading in
     omega (
       arith,
-      have_small before c.in_ok-count.count c.receive_piece.new.room c.in_ok-count.ensures.within
+      have_small before c.in_ok-count.count c.receive_piece.new.room c.in_ok-count.ensures.piece.within
           (c.in-More.ensures.says before.text before.is_at),
     )
 
 pub receiving-smaller : goal.receiving-smaller
 receiving-smaller g c =
     let before = c.receiving.invariant.reading in
-    let small = have_small before c.in_ok-count.count c.receive_piece.new.room c.in_ok-count.ensures.within
+    let small = have_small before c.in_ok-count.count c.receive_piece.new.room c.in_ok-count.ensures.piece.within
     (c.in-More.ensures.says before.text before.is_at) in
-    omega (arith, small, c.in_ok-count.ensures.some)
+    omega (arith, small, c.in_ok-count.ensures.piece.some)
 
 pub receiving-preserved : goal.receiving-preserved
 receiving-preserved g c =
@@ -45,7 +45,7 @@ receiving-preserved g c =
     let after = c.in_ok-count.ensures in
     record {
       room = grind (arith, common_steps);
-      reading = read_on reading c.in_ok-count.count c.receive_piece.new.room after.within after.given after.open
+      reading = read_on reading c.in_ok-count.count c.receive_piece.new.room after.piece.within after.piece.given after.piece.open_still
           (c.in-More.ensures.says reading.text reading.is_at) (c.in-More.ensures.leaves reading.text reading.is_at);
       sent = Grew-still before.sent after.sent;
       stopped = grind (arith, after.stopped);
@@ -57,7 +57,7 @@ pub returns-in-Whole-clause-given : goal.returns-in-Whole-clause-given
 returns-in-Whole-clause-given g c =
     let reading = c.receiving.invariant.reading in
     let after = c.in_ok-count.ensures in
-    read_whole reading c.in_ok-count.count c.receive_piece.new.room (g.L.Link.shows c.receive_piece.new.link) after.given after.open
+    read_whole reading c.in_ok-count.count c.receive_piece.new.room (g.L.Link.shows c.receive_piece.new.link) after.piece.given after.piece.open_still
     _ _ (c.in-Whole.ensures.says reading.text reading.is_at)
 
 pub returns-in-Whole-clause-follows : goal.returns-in-Whole-clause-follows
@@ -67,4 +67,4 @@ pub returns-in-Memory-clause-given : goal.returns-in-Memory-clause-given
 returns-in-Memory-clause-given g c =
     let reading = c.receiving.invariant.reading in
     let after = c.in_ok-count.ensures in
-    read_some reading c.in_ok-count.count c.receive_piece.new.room (g.L.Link.shows c.receive_piece.new.link) after.given after.open
+    read_some reading c.in_ok-count.count c.receive_piece.new.room (g.L.Link.shows c.receive_piece.new.link) after.piece.given after.piece.open_still
