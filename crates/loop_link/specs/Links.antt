@@ -1,11 +1,11 @@
 -- What a link of a loop is in, and what its calls do to it.
-use Rattle.std.specs.Prelude.{◌≡◌, ℕ, ◌≤◌, Bool, true, false, List, [], ◌++◌, length, take, Result}
+use Rattle.std.specs.Prelude.{◌≡◌, ℕ, ◌+◌, ◌-◌, ◌≤◌, ◌||◌, Bool, true, false, List, [], ◌++◌, length, take, min, Result}
 use Rattle.farm_types.specs.declared.placed.Word.{Word}
 use Rattle.farm_types.specs.declared.ran.Ran.{Ran}
 use Rattle.farm_types.specs.declared.hosts.HostName.{HostName}
-use Rattle.edge_traits.specs.Told.{told, SameRelation3}
-use Rattle.edge_traits.specs.Links.{Origin, LinkView, moved}
-use Rattle.edge_traits.specs.Stations.{StationView}
+use Rattle.edge_traits.specs.Told.{told, Grew, SameRelation3}
+use Rattle.edge_traits.specs.Links.{Origin, LinkView, moved, moved_none}
+use Rattle.edge_traits.specs.Stations.{StationView, StationStill}
 use Rattle.daemon_service.specs.declared.compilers.Compiler.{Compiler}
 use Rattle.loop_link.specs.declared.link.LoopLink.{LoopLink}
 use Rattle.loop_link.specs.Replies.{Serves}
@@ -99,3 +99,26 @@ pub record LoopFollows {S : Type 0} (shows : S → StationView) (ran : S → Lis
   pub same : SameRelation3 (ran a.held.station) (ran b.held.station)
   pub dialed : b.dialed.value ≡ a.dialed.value
   pub holds : LinkHolds shows ran a → LinkHolds shows ran b
+
+-- Memory ran out in the service, which hides no fault of the station.
+pub record RanOut {S : Type 0} (shows : S → StationView) (old new : LoopLink S) : Type 0 where
+  pub wanted : new.wanted ≡ true
+  pub still : StationStill (shows old.held.station) (shows new.held.station)
+
+-- Nothing passed: what was sent and given is the same, and the link has ended if it had.
+pub record NonePassed (old new : LoopState) : Type 0 where
+  pub sent : new.sent ≡ old.sent
+  pub at : new.at ≡ old.at
+  pub ended : new.ended ≡ old.ended
+  pub given : take new.at new.reply ≡ take old.at old.reply
+
+-- The reply's next bytes, this many, were given: as many as are left, or as a room of this length holds.
+pub record GivesNext (count room : ℕ) (old new : LoopState) : Type 0 where
+  pub most : count ≡ min room (length new.reply - old.at)
+  pub moved : new.at ≡ old.at + count
+
+-- What a receive into this room shows: what it gave, that nothing was sent, and that a receive of no bytes is the end.
+pub record ShowsReceive {E : Type 0} (result : Result ℕ E) (room : List ℕ) (old new : LinkView) : Type 0 where
+  pub given : Grew old.given new.given (moved result room)
+  pub sent : Grew old.sent new.sent []
+  pub ended : new.ended ≡ (old.ended || moved_none result)

@@ -48,33 +48,22 @@ pub struct LoopLink<S> {
 }
 
 impl<S: Station> LoopLink<S> {
-    ghost use Rattle.std.specs.Prelude.{◌≡◌, true, take, OnOk, OnErr, IsErrOf};
-    ghost use Rattle.edge_traits.specs.Stations.{StationStill};
-    ghost use Rattle.edge_traits.specs.Told.{SameRelation3};
+    ghost use Rattle.std.specs.Prelude.{◌≡◌, true, OnOk, OnErr, IsErrOf};
     ghost use Rattle.edge_traits.specs.declared.faults.EdgeFault.TheVariants.{Failed, Memory};
-    ghost use Rattle.loop_link.specs.Links.{loop_state, IsServed, LinkHolds};
+    ghost use Rattle.loop_link.specs.Links.{loop_state, IsServed, LoopFollows, NonePassed, RanOut};
 
     /// Has the service's reply ready.
     fn ready(&mut self) -> Result<(), EdgeFault>
         ensures served { OnOk result (IsServed self.old.held.table.rows (S.ran self.new.held.station) (S.shows self.old.held.station) (S.shows self.new.held.station) (loop_state self.old) (loop_state self.new)) }
-        ensures holds { LinkHolds S.shows S.ran self.old → LinkHolds S.shows S.ran self.new }
-        ensures same { SameRelation3 (S.ran self.old.held.station) (S.ran self.new.held.station) }
         ensures failed { IsErrOf result Failed → ⊥ }
-        ensures memory { OnErr result (StationStill (S.shows self.old.held.station) (S.shows self.new.held.station)) }
-        ensures ran { OnOk result (self.new.served ≡ true) }
-        ensures wants { OnErr result (self.new.wanted ≡ true) }
+
+        // After out of memory there is no other answer, and nothing is run again.
+        ensures memory { OnErr result (RanOut S.shows self.old self.new) }
         ensures spent { self.old.wanted ≡ true → IsErrOf result Memory × (self.new ≡ self.old) }
 
         // Nothing else changes.
-        ensures table { self.new.held.table.rows ≡ self.old.held.table.rows }
-        ensures dialed { self.new.dialed.value ≡ self.old.dialed.value }
-        ensures host { self.new.host ≡ self.old.host }
-        ensures port { self.new.port ≡ self.old.port }
-        ensures closes { self.new.closes ≡ self.old.closes }
-        ensures sent { self.new.sent ≡ self.old.sent }
-        ensures at { self.new.at ≡ self.old.at }
-        ensures ended { self.new.ended ≡ self.old.ended }
-        ensures given { take self.new.at self.new.reply ≡ take self.old.at self.old.reply }
+        ensures follows { LoopFollows S.shows S.ran self.old self.new }
+        ensures passed { NonePassed (loop_state self.old) (loop_state self.new) }
     {
         if self.wanted {
             return Err(EdgeFault::Memory);
@@ -103,16 +92,13 @@ impl<S: Station> LoopLink<S> {
 }
 
 impl<S: Station> Link for LoopLink<S> {
-    ghost use Rattle.std.specs.Prelude.{◌≡◌, ◌<◌, ◌+◌, ◌-◌, ◌||◌, [], min, true, length, IfOk, OnOk, OnErr, IsErrOf, refl};
-    ghost use Rattle.edge_traits.specs.Stations.{StationStill};
+    ghost use Rattle.std.specs.Prelude.{◌≡◌, ◌<◌, true, length, IfOk, OnOk, OnErr, IsErrOf, refl};
     ghost use Rattle.std.proofs.Common.{◌∙◌};
     ghost use Rattle.edge_traits.specs.declared.faults.EdgeFault.TheVariants.{Failed, Memory};
     ghost use Rattle.loop_link.specs.Replies.{Gives};
     ghost use Rattle.loop_link.specs.Following.{gives_stays};
     ghost use Rattle.daemon_service.proofs.Runs.{same3_itself, same3_then};
-    ghost use Rattle.loop_link.specs.Links.{loop_state, loop_shows, after_send, IsServed, LinkHolds, LoopFollows};
-    ghost use Rattle.edge_traits.specs.Told.{Grew};
-    ghost use Rattle.edge_traits.specs.Links.{moved, moved_none};
+    ghost use Rattle.loop_link.specs.Links.{loop_state, loop_shows, after_send, IsServed, LoopFollows, RanOut, GivesNext, ShowsReceive};
 
     ghost shows = { λ l. loop_shows (loop_state l) };
 
@@ -155,18 +141,12 @@ impl<S: Station> Link for LoopLink<S> {
         ensures failed { IsErrOf result Failed → ⊥ }
 
         // After out of memory there is no other answer, and nothing is run again.
-        ensures wants { OnErr result ((loop_state self.new).wanted ≡ true) }
+        ensures memory { OnErr result (RanOut S.shows self.old self.new) }
         ensures spent { (loop_state self.old).wanted ≡ true → IsErrOf result Memory × (self.new ≡ self.old) }
 
-        // Out of memory hides no fault of the station.
-        ensures memory { OnErr result (StationStill (S.shows self.old.held.station) (S.shows self.new.held.station)) }
         ensures served { OnOk result (IsServed self.old.held.table.rows (S.ran self.new.held.station) (S.shows self.old.held.station) (S.shows self.new.held.station) (loop_state self.old) (loop_state self.new)) }
-        ensures answer { IfOk result (λ n. n ≡ min (length room.old) (length (loop_state self.new).reply - (loop_state self.old).at)) }
-        ensures moved { IfOk result (λ n. (loop_state self.new).at ≡ (loop_state self.old).at + n) }
-
-        ensures given { Grew (loop_shows (loop_state self.old)).given (loop_shows (loop_state self.new)).given (moved result room.new) }
-        ensures sent { Grew (loop_shows (loop_state self.old)).sent (loop_shows (loop_state self.new)).sent [] }
-        ensures ended { (loop_state self.new).ended ≡ ((loop_state self.old).ended || moved_none result) }
+        ensures answer { IfOk result (λ n. GivesNext n (length room.old) (loop_state self.old) (loop_state self.new)) }
+        ensures receives { ShowsReceive result room.new (loop_shows (loop_state self.old)) (loop_shows (loop_state self.new)) }
         ensures follows { LoopFollows S.shows S.ran self.old self.new }
 
         // A link that has ended gave the whole of the reply.

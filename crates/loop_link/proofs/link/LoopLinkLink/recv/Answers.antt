@@ -12,13 +12,17 @@ invariant_of-self g c =
       front = link.front;
       whole = λ _. omega (arith, link.within, c.if-count-eq0.true, c.min-count.ensures, c.len.ensures, c.requires);
       all = link.all;
-      empty = λ unserved. absurd (cc (c.in_ok-ready.ensures.ran, unserved));
+      empty = λ unserved. absurd (cc (c.in_ok-ready.ensures.served.done, unserved));
     }
 
-pub returns-else-count-eq0-clause-given : goal.returns-else-count-eq0-clause-given
-returns-else-count-eq0-clause-given g c =
+pub returns-else-count-eq0-clause-receives : goal.returns-else-count-eq0-clause-receives
+returns-else-count-eq0-clause-receives g c =
     let link = c.ready.new.self in
     let fits : link.at + c.min-count.result ≤ length link.reply = grind (arith, common_steps, link.within) in
     let more = Grew-read link.reply c.put_front.new.room link.at c.min-count.result _ fits (search rules) c.put_front.ensures in
-    subst (λ before. Grew (told before) (told (take (link.at + c.min-count.result) link.reply))
-    (take c.min-count.result c.put_front.new.room)) c.ready.ensures.given more
+    record {
+      given = subst (λ before. Grew (told before) (told (take (link.at + c.min-count.result) link.reply))
+          (take c.min-count.result c.put_front.new.room)) c.ready.ensures.passed.given more;
+      sent = search rules;
+      ended = search rules;
+    }
