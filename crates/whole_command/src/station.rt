@@ -28,10 +28,10 @@ impl<S> PreprocessorStation<S> {
 }
 
 impl<S: Station> Station for PreprocessorStation<S> {
-    ghost use Rattle.std.specs.Prelude.{◌≡◌, ◌≤◌, [], true, false, Err, IfOk, IfErr, OnOk};
+    ghost use Rattle.std.specs.Prelude.{◌≡◌, true, false, IfOk, IfErr, OnOk};
     ghost use Rattle.edge_traits.specs.Told.{Grew, SameRelation3};
-    ghost use Rattle.edge_traits.specs.Stations.{IsWithin, has_output, run_entries, StationStill, RunFault};
-    ghost use Rattle.whole_command.specs.Stations.{compiles_too, inner_of};
+    ghost use Rattle.edge_traits.specs.Stations.{has_output, run_entries, StationStill, RunFault};
+    ghost use Rattle.whole_command.specs.Stations.{compiles_too, inner_of, Refuses, MayLeave, NoneFell};
 
     ghost shows = { λ s. S.shows (inner_of s) };
 
@@ -44,18 +44,14 @@ impl<S: Station> Station for PreprocessorStation<S> {
         input: &[u8],
         bounds: &Bounds,
     ) -> Result<Ran, StationFault>
-        ensures refused { compiles_too self.old ≡ false → has_output words.now ≡ true → result ≡ Err StationFault.Memory }
-        ensures unasked { compiles_too self.old ≡ false → has_output words.now ≡ true → inner_of self.new ≡ inner_of self.old }
+        ensures refused { compiles_too self.old ≡ false → has_output words.now ≡ true → Refuses self.old self.new result }
         ensures kept { compiles_too self.new ≡ compiles_too self.old }
 
         // What each station ensures.
-        ensures within { IfOk result (IsWithin bounds.now) }
-        ensures ran { IfOk result (S.ran (inner_of self.new) words.now input.now) }
-        ensures no_object { IfOk result (λ ran. has_output words.now ≡ false → ran.object ≡ []) }
+        ensures leaves { IfOk result (MayLeave bounds.now (S.ran (inner_of self.new)) words.now input.now) }
         ensures same { SameRelation3 (S.ran (inner_of self.old)) (S.ran (inner_of self.new)) }
         ensures runs { Grew (S.shows (inner_of self.old)).runs (S.shows (inner_of self.new)).runs (run_entries words.now input.now result) }
-        ensures faults { (S.shows (inner_of self.old)).faults ≤ (S.shows (inner_of self.new)).faults }
-        ensures overruns { (S.shows (inner_of self.old)).overruns ≤ (S.shows (inner_of self.new)).overruns }
+        ensures later { NoneFell (S.shows (inner_of self.old)) (S.shows (inner_of self.new)) }
         ensures done { OnOk result (StationStill (S.shows (inner_of self.old)) (S.shows (inner_of self.new))) }
         ensures cause { IfErr result (RunFault bounds.now (S.shows (inner_of self.old)) (S.shows (inner_of self.new))) }
     {
