@@ -26,9 +26,10 @@ const NO_OPTIONS: Options<'static> = Options {
     retry: true,
 };
 
-/// A call of the program: its command, and the environment.
+/// A call of the program: its command, the environment, and where its memory is from.
 #[derive(Clone, Copy)]
 pub struct Invocation<'a> {
+    pub alloc: Global,
     pub command: Command<'a>,
     pub env: &'a [(String, String)],
 }
@@ -160,18 +161,18 @@ fn decide_class(alloc: Global, words: &[String], env: &[(String, String)]) -> Re
 }
 
 /// What a command comes to before a job is run; or why it fails.
-pub fn decide<R: Source>(
-    alloc: Global,
-    call: Invocation<'_>,
-    input: &mut R,
-) -> Result<Work, Refusal>
+pub fn decide<R: Source>(call: Invocation<'_>, input: &mut R) -> Result<Work, Refusal>
     requires input { (R.shows input.old).ended ≡ false }
     requires within { IsWithin (meaning call.command) }
     ensures { Decides (map (λ v. (string_bytes v.0, string_bytes v.1)) call.entry.env.now) (R.shows input.old) (R.shows input.new)
         (meaning call.entry.command) result }
 {
-    let env = call.env;
-    match call.command {
+    let Invocation {
+        alloc,
+        command,
+        env,
+    } = call;
+    match command {
         Command::Build(options) => decide_list(alloc, &Settings { options, env }, input),
         Command::Watch(options) => decide_watched(alloc, &Settings { options, env }, input),
         Command::Graph(options) => decide_graph(alloc, &Settings { options, env }, input),

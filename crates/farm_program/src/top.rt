@@ -64,7 +64,6 @@ fn answer<
     E: Sink + Send,
 >(
     rt: &T,
-    alloc: Global,
     call: Invocation<'_>,
     input: &mut R,
     kits: &mut Vec<Kit<D, S, K, C>>,
@@ -84,7 +83,8 @@ where
     ensures refused { WasRefused result.refusal result.built (sinks_view O.shows E.shows out.old err.old)
         (sinks_view O.shows E.shows out.new err.new) result.status }
 {
-    let work = match decide(alloc, call, input) {
+    let alloc = call.alloc;
+    let work = match decide(call, input) {
         Ok(work) => work,
         Err(refusal) => return end_refused(alloc, refusal, out, err),
     };
@@ -186,8 +186,12 @@ where
 {
     match parse_command(words) {
         Ok(command) => {
-            let call = Invocation { command, env };
-            answer(rt, alloc, call, input, kits, out, err)
+            let call = Invocation {
+                alloc,
+                command,
+                env,
+            };
+            answer(rt, call, input, kits, out, err)
         }
         Err(place) => end_refused(alloc, Refusal::Words { place }, out, err),
     }

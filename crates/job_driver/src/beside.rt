@@ -12,7 +12,6 @@ use crate::worker::work;
 use crate::workers::Worker;
 use edge_traits::{Clock, Dialer, Keeper, Station};
 use farm_cell::{Cell, Held};
-use std::alloc::Global;
 use std::sync::Wait;
 
 /// A worker, with what marks how far it has come.
@@ -24,7 +23,6 @@ pub struct Marked<D, S, K, C> {
 /// One worker does jobs until there are none, and marks each.
 pub fn work_marked<R: Wait, D: Dialer, S: Station, K: Keeper, C: Clock>(
     rt: &R,
-    alloc: Global,
     plan: JobPlan<'_>,
     cell: &Cell<16, 34>,
     marked: &mut Marked<D, S, K, C>,
@@ -38,7 +36,6 @@ pub fn work_marked<R: Wait, D: Dialer, S: Station, K: Keeper, C: Clock>(
     let mut held = Held::new(rt, cell, &mut marked.worker.pass);
     work(
         rt,
-        alloc,
         plan,
         &mut held,
         &mut marked.worker.kit,

@@ -46,7 +46,7 @@ fn tell_one<R: Wait>(rt: &R, marker: &mut Marker, watcher: &mut Watcher) -> bool
 }
 
 /// Each board gives its watcher all its rows. Whether each row was shown, and each watcher knows exactly those of its board.
-pub fn tell_all<R: Wait>(rt: &R, markers: &mut [Marker], watchers: &mut [Watcher]) -> bool
+fn tell_all<R: Wait>(rt: &R, markers: &mut [Marker], watchers: &mut [Watcher]) -> bool
     requires boards { map board_marked markers.old ≡ map board_watched watchers.old }
     ensures told { result ≡ true → AreTold markers.old watchers.new }
     ensures read { ReadOn (known watchers.old) (known watchers.new) }
@@ -74,4 +74,15 @@ pub fn end_boards<R: Wait>(rt: &R, mut markers: Vec<Marker>) {
         shower.end(rt);
     }
     markers.destroy_empty();
+}
+
+/// Ends all boards, once each has given its watcher all its rows. Whether each row was shown, and each watcher knows exactly those of its board.
+pub fn close_boards<R: Wait>(rt: &R, mut markers: Vec<Marker>, watchers: &mut [Watcher]) -> bool
+    requires boards { map board_marked markers.items ≡ map board_watched watchers.old }
+    ensures told { result ≡ true → AreTold markers.items watchers.new }
+    ensures read { ReadOn (known watchers.old) (known watchers.new) }
+{
+    let told = tell_all(rt, markers.as_mut_slice(), watchers);
+    end_boards(rt, markers);
+    told
 }

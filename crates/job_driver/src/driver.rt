@@ -52,8 +52,12 @@ where
         jobs.now config.now workers built kits.old.items kits.new.items) }
     ensures undone { OnErr result (kits.new.items ≡ kits.old.items) }
 {
-    let plan = JobPlan { jobs, config };
-    let mut run = open_run(rt, alloc, plan, kits, workers)?;
-    work_all(rt, alloc, plan, &run.cell, &mut run.workers);
+    let plan = JobPlan {
+        alloc,
+        jobs,
+        config,
+    };
+    let mut run = open_run(rt, plan, kits, workers)?;
+    work_all(rt, plan, &run.cell, &mut run.workers);
     Ok(close_run(rt, run, kits))
 }

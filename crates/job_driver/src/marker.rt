@@ -1,7 +1,7 @@
 //! Marks on a board.
-ghost use Rattle.std.specs.Prelude.{◌≡◌, ◌+◌, ◌≤◌, [], true, length};
+ghost use Rattle.std.specs.Prelude.{◌≡◌, ◌≤◌, [], true, length};
 ghost use Rattle.farm_monitor.specs.Boards.{board_of, shown_rows};
-ghost use Rattle.job_driver.specs.Marks.{at_job, between_jobs, ended_in, HasAdded};
+ghost use Rattle.job_driver.specs.Marks.{ended_in, HasAdded};
 
 use crate::marks::Marks;
 use farm_monitor::{Progress, Shower};

@@ -16,9 +16,10 @@ use farm_types::{JobConfig, Jobs};
 use std::alloc::{AllocError, Global};
 use std::sync::Wait;
 
-/// The jobs of a list, which can be done, and a usable configuration of how they are run.
+/// The jobs of a list, which can be done, a usable configuration of how they are run, and where their memory is from.
 #[derive(Clone, Copy)]
 pub struct JobPlan<'a> {
+    pub alloc: Global,
     pub jobs: &'a Jobs,
     pub config: &'a JobConfig,
     ghost doable: { AreDoable jobs.now },
@@ -52,7 +53,6 @@ fn reserves_for(alloc: Global, workers: usize, jobs: usize) -> Result<Vec<Reserv
 /// that memory ran out.
 pub fn open_run<R: Wait, D: Dialer + Drop, S: Station + Drop, K: Keeper + Drop, C: Clock + Drop>(
     rt: &R,
-    alloc: Global,
     plan: JobPlan<'_>,
     kits: &mut Vec<Kit<D, S, K, C>>,
     workers: u32,
@@ -64,6 +64,7 @@ pub fn open_run<R: Wait, D: Dialer + Drop, S: Station + Drop, K: Keeper + Drop, 
     ensures undone { OnErr result (kits.new.items ≡ kits.old.items) }
     ensures kept { vec_capacity kits.old ≤ vec_capacity kits.new }
 {
+    let alloc = plan.alloc;
     let count = workers as usize;
     let jobs = plan.jobs.len();
     let limits = limits_of(&plan.config.hosts, jobs as u32);

@@ -18,7 +18,6 @@ use crate::workers::Worker;
 use edge_traits::{Clock, Dialer, Keeper, Sink, Station};
 use farm_cell::Cell;
 use farm_monitor::Watcher;
-use std::alloc::Global;
 use std::sync::Wait;
 use std::thread::{Threads, for_each_mut, join_mut};
 use watch_lines::{LineEnd, watch};
@@ -136,7 +135,6 @@ pub fn work_and_watch<
     E: Sink,
 >(
     rt: &R,
-    alloc: Global,
     plan: JobPlan<'_>,
     cell: &Cell<16, 34>,
     pairs: &mut Vec<Marked<D, S, K, C>>,
@@ -161,7 +159,7 @@ where
     call_beside(
         rt,
         pairs,
-        &|_, marked| { work_marked(rt, alloc, plan, cell, marked) },
+        &|_, marked| { work_marked(rt, plan, cell, marked) },
         watch,
         plan.jobs.len() as u32,
         err,
@@ -178,7 +176,6 @@ pub fn work_beside<
     E: Sink,
 >(
     rt: &R,
-    alloc: Global,
     plan: JobPlan<'_>,
     cell: &Cell<16, 34>,
     workers: &mut Vec<Worker<D, S, K, C>>,
@@ -202,15 +199,7 @@ where
     ensures watched { HasWatched C.shows E.shows (length plan.entry.jobs.now) (length workers.old.items) beside.old beside.new err.old err.new result }
 {
     pair(workers, &mut beside.markers, &mut beside.pairs);
-    let end = work_and_watch(
-        rt,
-        alloc,
-        plan,
-        cell,
-        &mut beside.pairs,
-        &mut beside.watch,
-        err,
-    );
+    let end = work_and_watch(rt, plan, cell, &mut beside.pairs, &mut beside.watch, err);
     unpair(&mut beside.pairs, workers, &mut beside.markers);
     end
 }

@@ -9,7 +9,7 @@ ghost use Rattle.farm_machine.specs.Usable.{AreDoable, IsUsable};
 ghost use Rattle.job_driver.specs.Watching.{board_marked, AreBack, AreMarked, IsFor, IsFreshMarker, HasBuiltWatched, HasWatched, AfterLines, WasWatched};
 
 use crate::beside::Marked;
-use crate::boards::{end_boards, make_boards, tell_all};
+use crate::boards::{close_boards, end_boards, make_boards};
 use crate::driver::Built;
 use crate::marker::Marker;
 use crate::run::{JobPlan, close_run, open_run};
@@ -41,7 +41,6 @@ fn build_beside<
     E: Sink,
 >(
     rt: &R,
-    alloc: Global,
     plan: JobPlan<'_>,
     kits: &mut Vec<Kit<D, S, K, C>>,
     workers: u32,
@@ -62,8 +61,8 @@ where
     ensures markers { length beside.new.markers.items ≡ workers }
     ensures watched { IfOk result (λ made. HasWatched C.shows E.shows (length plan.entry.jobs.now) workers beside.old beside.new err.old err.new made.1) }
 {
-    let mut run = open_run(rt, alloc, plan, kits, workers)?;
-    let end = work_beside(rt, alloc, plan, &run.cell, &mut run.workers, beside, err);
+    let mut run = open_run(rt, plan, kits, workers)?;
+    let end = work_beside(rt, plan, &run.cell, &mut run.workers, beside, err);
     Ok((close_run(rt, run, kits), end))
 }
 
@@ -169,19 +168,20 @@ where
             lines,
         },
     };
-    let plan = JobPlan { jobs, config };
-    let done = build_beside(rt, alloc, plan, kits, workers, &mut beside, err);
-    let (mut markers, mut watchers, clock) = beside.into_parts();
-    let Ok(()) = kits.push(Kit {
+    let plan = JobPlan {
+        alloc,
+        jobs,
+        config,
+    };
+    let done = build_beside(rt, plan, kits, workers, &mut beside, err);
+    let (markers, mut watchers, clock) = beside.into_parts();
+    kits.push_reserved(Kit {
         dialer,
         station,
         keeper,
         clock,
-    }) else {
-        unreachable!()
-    };
-    let told = tell_all(rt, markers.as_mut_slice(), watchers.as_mut_slice());
-    end_boards(rt, markers);
+    });
+    let told = close_boards(rt, markers, watchers.as_mut_slice());
     let (built, end) = done?;
     let (printed, told) = print_after(end, watchers.as_mut_slice(), jobs.len() as u32, told, err);
     Ok(Watched {

@@ -14,7 +14,6 @@ use edge_traits::{Clock, Dialer, Keeper, Kit, Station};
 use farm_machine::Places;
 use job_run::run_job;
 use slot_table::Grants;
-use std::alloc::Global;
 use std::sync::Wait;
 
 /// No entry was counted yet.
@@ -29,7 +28,6 @@ const FIRST: Places = Places {
 /// takes no memory but that of the jobs themselves, and that of what is marked.
 pub fn work<R: Wait, D: Dialer, S: Station, K: Keeper, C: Clock, G: Grants, M: Marks>(
     rt: &R,
-    alloc: Global,
     plan: JobPlan<'_>,
     grants: &mut G,
     kit: &mut Kit<D, S, K, C>,
@@ -61,7 +59,7 @@ pub fn work<R: Wait, D: Dialer, S: Station, K: Keeper, C: Clock, G: Grants, M: M
         let words = &plan.jobs.as_slice()[job as usize];
         let report = run_job(
             rt,
-            alloc,
+            plan.alloc,
             words,
             job,
             plan.config,

@@ -1,5 +1,5 @@
 //! Workers side by side, over the slots that they share.
-ghost use Rattle.std.specs.Prelude.{◌≡◌, ℕ, ◌+◌, ◌<◌, ◌≤◌, [], ◌++◌, IfOk, length, map, reverse, slice_index_or, vec_len, vec_capacity};
+ghost use Rattle.std.specs.Prelude.{◌≡◌, ℕ, ◌+◌, ◌<◌, ◌≤◌, [], IfOk, length, map, reverse, slice_index_or, vec_len, vec_capacity};
 ghost use Rattle.std.specs.List.{flat_map};
 ghost use Rattle.farm_cell.specs.Passes.{limits_of};
 ghost use Rattle.job_driver.specs.Workers.{kit_of, pass_of, reserve_of, reports_on, AreReady, AreSlotsFor, HasRoom, IsReady, HasWorked};
@@ -50,7 +50,6 @@ pub struct Worker<D, S, K, C> {
 /// One worker does jobs until there are none.
 fn work_over<R: Wait, D: Dialer, S: Station, K: Keeper, C: Clock>(
     rt: &R,
-    alloc: Global,
     plan: JobPlan<'_>,
     cell: &Cell<16, 34>,
     worker: &mut Worker<D, S, K, C>,
@@ -63,7 +62,6 @@ fn work_over<R: Wait, D: Dialer, S: Station, K: Keeper, C: Clock>(
     let mut held = Held::new(rt, cell, &mut worker.pass);
     work(
         rt,
-        alloc,
         plan,
         &mut held,
         &mut worker.kit,
@@ -79,13 +77,7 @@ pub fn work_all<
     S: Station + Send,
     K: Keeper + Send,
     C: Clock + Send,
->(
-    rt: &R,
-    alloc: Global,
-    plan: JobPlan<'_>,
-    cell: &Cell<16, 34>,
-    workers: &mut Vec<Worker<D, S, K, C>>,
-)
+>(rt: &R, plan: JobPlan<'_>, cell: &Cell<16, 34>, workers: &mut Vec<Worker<D, S, K, C>>)
 where
     D::Link: Send,
     requires slots { AreSlotsFor plan.jobs.now plan.config.now (limits_of cell.now) }
@@ -100,7 +92,7 @@ where
         rt,
         workers.as_mut_slice(),
         threads,
-        &|_, worker| { work_over(rt, alloc, plan, cell, worker) },
+        &|_, worker| { work_over(rt, plan, cell, worker) },
     );
 }
 

@@ -9,3 +9,4 @@ pub mod Stages
 pub mod Stands
 pub mod Events
 pub mod Seen
+pub mod Sources

@@ -5,8 +5,6 @@ use Rattle.farm_types.specs.declared.hosts.Host.{Host}
 use Rattle.farm_types.specs.declared.jobs.JobConfig.{JobConfig}
 use Rattle.farm_types.specs.declared.request.Request.{Request}
 use Rattle.farm_types.specs.Fits.{RequestFits}
-use Rattle.arg_scan.specs.Class.{input_place, plan_of}
-use Rattle.arg_scan.specs.Names.{is_preprocessed}
 use Rattle.arg_strip.specs.Words.{stripped}
 use Rattle.edge_traits.specs.declared.kit.Kit.{Kit}
 use Rattle.slot_table.specs.declared.calls.CallEntry.{CallEntry}
@@ -18,11 +16,15 @@ use Rattle.slot_table.specs.History.{Holding, outstanding}
 use Rattle.farm_machine.specs.Devices.{Devices}
 use Rattle.farm_machine.specs.Jobs.{Job, job_of, host_at}
 use Rattle.job_run.specs.declared.journal.Journal.{Journal}
+use Rattle.job_run.specs.declared.task.Command.{Command}
 use Rattle.job_run.specs.declared.task.Task.{Task}
 use Rattle.job_run.specs.Went.{Seen, seen_as, HasSpare, Spent}
 
 abbrev pub seen : {D S K C : Type 0} → Devices (Kit D S K C) → Kit D S K C → List CallEntry → Journal → Seen
 seen d kit mine journal = seen_as (d.shows kit) (d.peers kit) (d.programs kit) mine journal.events.items journal.places
+
+abbrev pub job_asked : Command → Job
+job_asked command = job_of command.words.now command.config.now
 
 abbrev pub job_in : Task → Job
 job_in task = job_of task.words.now task.config.now
@@ -32,11 +34,6 @@ pub record IsAskable (config : JobConfig) : Type 0 where
   pub entries : length config.hosts.list ≤ hosts_max
   pub some : 1 ≤ config.tries
   pub tries : config.tries ≤ hosts_max
-
--- the command's source is this word, and it is preprocessed already or not
-pub record HasSource (words : List (List ℕ)) (input : ℕ) (preprocessed : Bool) : Type 0 where
-  pub place : input ≡ input_place words
-  pub ending : preprocessed ≡ is_preprocessed (plan_of words).ending
 
 -- the request is the job's, and within its limits
 pub record IsSent (task : Task) (request : Request) : Type 0 where

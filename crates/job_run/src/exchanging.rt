@@ -1,5 +1,5 @@
 // One exchange with a host, in a slot of it.
-ghost use Rattle.std.specs.Prelude.{◌≡◌, ℕ, ◌+◌, false, List, [], ◌∷◌, Some};
+ghost use Rattle.std.specs.Prelude.{◌≡◌, ℕ, false, List, [], ◌∷◌, Some};
 ghost use Rattle.edge_traits.specs.Keepers.{IsIdle};
 ghost use Rattle.slot_table.specs.History.{holding};
 ghost use Rattle.slot_table.specs.Grants.{host_of, job_of};
@@ -8,15 +8,15 @@ ghost use Rattle.farm_machine.specs.Course.{Tried, Lent};
 ghost use Rattle.farm_machine.specs.Devices.{devices};
 ghost use Rattle.job_run.specs.Events.{lent_events};
 ghost use Rattle.job_run.specs.Gives.{GaveBroken};
-ghost use Rattle.job_run.specs.Seen.{seen, job_in, IsSent, IsElsewhere, IsHolding, StaysFree};
+ghost use Rattle.job_run.specs.Seen.{seen, job_in, IsElsewhere, IsHolding, StaysFree};
 ghost use Rattle.job_run.specs.Stages.{AskedIs, AskedIdle};
 
 use crate::journal::Journal;
+use crate::sending::Sending;
 use crate::step::{Asked, Step, after_whole};
-use crate::task::Task;
 use edge_traits::{Clock, Dialer, Keeper, Kit, Station};
 use farm_machine::{Event, Why5};
-use farm_types::{Host, Request};
+use farm_types::Host;
 use remote_transfer::{Landed, attempt_into};
 use slot_table::host_backoff::bad_until;
 use slot_table::{Grant, Grants};
@@ -51,16 +51,14 @@ fn give_broken<G: Grants, C: Clock>(
 
 /// Makes one exchange with the host that the slot is of, with the object into a put of the output's name, and gives the slot back.
 pub(crate) fn exchange<D: Dialer, S: Station, K: Keeper, C: Clock, G: Grants>(
-    task: &Task<'_>,
-    request: &Request,
+    sending: &Sending<'_>,
     host: &Host,
     grant: Grant,
     grants: &mut G,
     kit: &mut Kit<D, S, K, C>,
     journal: &mut Journal,
 ) -> Asked
-    requires sent { IsSent task.now request.now }
-    requires elsewhere { IsElsewhere (job_in task.now) (G.limits grants.old) host.now grant }
+    requires elsewhere { IsElsewhere (job_in sending.now.task.now) (G.limits grants.old) host.now grant }
     requires idle { IsIdle (K.shows kit.old.keeper) }
     requires lent { IsHolding G.ready G.alone G.spare G.mine
         (holding (G.caller_number grants.old) (job_of grant) (Some (host_of grant)) ∷ []) grants.old journal.old.left lent_events }
@@ -68,11 +66,12 @@ pub(crate) fn exchange<D: Dialer, S: Station, K: Keeper, C: Clock, G: Grants>(
     ensures follows { G.follows grants.old grants.new }
     ensures idle { AskedIdle result (K.shows kit.new.keeper) }
     ensures asked { (note : List ℕ) (tried : List Tried) →
-        AskedIs (job_in task.now) (G.limits grants.old) (G.caller_number grants.old) (job_of grant)
+        AskedIs (job_in sending.now.task.now) (G.limits grants.old) (G.caller_number grants.old) (job_of grant)
         (seen (devices D.shows S.shows K.shows C.shows D.may_give S.ran) kit.old (G.mine grants.old) journal.old)
         (seen (devices D.shows S.shows K.shows C.shows D.may_give S.ran) kit.new (G.mine grants.new) journal.new)
-        (Lent (host_of grant) request.now.source note tried) request.now.source note tried result }
+        (Lent (host_of grant) sending.now.request.now.source note tried) sending.now.request.now.source note tried result }
 {
+    let Sending { task, request, .. } = *sending;
     let at = grant.host();
     match attempt_into(
         task.alloc,

@@ -1,5 +1,5 @@
 //! The course of one job.
-ghost use Rattle.std.specs.Prelude.{◌≡◌, ℕ, ◌<◌, false, List, [], length, IfOk, OnErr};
+ghost use Rattle.std.specs.Prelude.{◌≡◌, ℕ, ◌<◌, false, List, [], IfOk, OnErr};
 ghost use Rattle.farm_types.specs.declared.jobs.JobConfig.{JobConfig};
 ghost use Rattle.arg_strip.specs.Words.{stripped};
 ghost use Rattle.edge_traits.specs.Keepers.{IsIdle};
@@ -10,7 +10,7 @@ ghost use Rattle.farm_machine.specs.Devices.{devices};
 ghost use Rattle.farm_machine.specs.Jobs.{job_of, may_be_sent, AreLimitsOf};
 ghost use Rattle.job_run.specs.Events.{local_events, compile_events, sent_events};
 ghost use Rattle.job_run.specs.JobRuns.{JobRan, CanRun, CanBegin, HasReturned};
-ghost use Rattle.job_run.specs.Seen.{seen, job_in, IsFree, StaysFree, HasSource};
+ghost use Rattle.job_run.specs.Seen.{seen, job_asked, job_in, IsFree, StaysFree};
 ghost use Rattle.job_run.specs.Stages.{CompiledIs};
 ghost use Rattle.job_run.specs.Went.{HasEnded};
 
@@ -36,33 +36,30 @@ use std::sync::Wait;
 /// Runs a command that stays here, in a local slot.
 fn run_in_place<R: Wait, D: Dialer, S: Station, K: Keeper, C: Clock, G: Grants>(
     rt: &R,
-    alloc: Global,
-    words: &Words,
-    number: u32,
+    command: &Command<'_>,
     grants: &mut G,
     kit: &mut Kit<D, S, K, C>,
     journal: &mut Journal,
 ) -> End
-    requires some { 0 < length words.now }
     requires idle { IsIdle (K.shows kit.old.keeper) }
     requires free { IsFree G.ready G.alone G.spare G.mine grants.old journal.old.left local_events }
     ensures free { StaysFree G.ready G.alone G.spare G.mine grants.old grants.new journal.old.left journal.new.left local_events }
     ensures follows { G.follows grants.old grants.new }
     ensures idle { IsIdle (K.shows kit.new.keeper) }
-    ensures ended { (config : JobConfig) → may_be_sent (job_of words.now config) ≡ false →
-        HasEnded (job_of words.now config) (G.limits grants.old) (G.caller_number grants.old) number
+    ensures ended { may_be_sent (job_asked command.now) ≡ false →
+        HasEnded (job_asked command.now) (G.limits grants.old) (G.caller_number grants.old) command.now.number
         (seen (devices D.shows S.shows K.shows C.shows D.may_give S.ran) kit.old (G.mine grants.old) journal.old)
         (seen (devices D.shows S.shows K.shows C.shows D.may_give S.ran) kit.new (G.mine grants.new) journal.new)
         Start result }
 {
-    let grant = borrow_local(rt, number, grants, &mut kit.clock);
+    let grant = borrow_local(rt, command.number, grants, &mut kit.clock);
     journal.note(Event::TookLocal);
-    match in_place(alloc, words, &mut kit.station) {
+    match in_place(command.alloc, command.words, &mut kit.station) {
         Ok(ran) => {
             journal.ran();
             grants.give_local(grant);
             journal.note(Event::GaveLocal);
-            done_in_place(alloc, ran)
+            done_in_place(command.alloc, ran)
         }
         Err(fault) => {
             grants.give_local(grant);
@@ -116,17 +113,14 @@ fn compile_source<R: Wait, D: Dialer, S: Station, K: Keeper, C: Clock, G: Grants
     }
 }
 
-/// Does a job whose command may be sent. `input` is the place of its source.
+/// Does a job whose command may be sent.
 fn run_remote<R: Wait, D: Dialer, S: Station, K: Keeper, C: Clock, G: Grants>(
     rt: &R,
     task: &Task<'_>,
-    input: u64,
-    preprocessed: bool,
     grants: &mut G,
     kit: &mut Kit<D, S, K, C>,
     journal: &mut Journal,
 ) -> End
-    requires source { HasSource task.now.words.now input preprocessed }
     requires hosts { AreLimitsOf (G.limits grants.old) task.now.config.now.hosts }
     requires idle { IsIdle (K.shows kit.old.keeper) }
     requires free { IsFree G.ready G.alone G.spare G.mine grants.old journal.old.left sent_events }
@@ -138,7 +132,7 @@ fn run_remote<R: Wait, D: Dialer, S: Station, K: Keeper, C: Clock, G: Grants>(
         (seen (devices D.shows S.shows K.shows C.shows D.may_give S.ran) kit.new (G.mine grants.new) journal.new)
         Start result }
 {
-    let (source, note) = match prepare(task.alloc, task.words, input, preprocessed, kit, journal) {
+    let (source, note) = match prepare(task, kit, journal) {
         Prepared::Ready { source, note } => (source, note),
         Prepared::Over(end) => return end,
     };
@@ -162,8 +156,7 @@ fn run_class<R: Wait, D: Dialer, S: Station, K: Keeper, C: Clock, G: Grants>(
     ensures free { StaysFree G.ready G.alone G.spare G.mine grants.old grants.new journal.old.left journal.new.left sent_events }
     ensures follows { G.follows grants.old grants.new }
     ensures idle { IsIdle (K.shows kit.new.keeper) }
-    ensures ended { HasEnded (job_of command.now.words.now command.now.config.now) (G.limits grants.old) (G.caller_number grants.old)
-        command.now.number
+    ensures ended { HasEnded (job_asked command.now) (G.limits grants.old) (G.caller_number grants.old) command.now.number
         (seen (devices D.shows S.shows K.shows C.shows D.may_give S.ran) kit.old (G.mine grants.old) journal.old)
         (seen (devices D.shows S.shows K.shows C.shows D.may_give S.ran) kit.new (G.mine grants.new) journal.new)
         Start result }
@@ -186,14 +179,14 @@ fn run_class<R: Wait, D: Dialer, S: Station, K: Keeper, C: Clock, G: Grants>(
                 words,
                 number,
                 config,
+                input,
+                preprocessed,
                 output: &output,
             };
-            run_remote(rt, &task, input, preprocessed, grants, kit, journal)
+            run_remote(rt, &task, grants, kit, journal)
         }
         Scan::Memory => End::Failed(Why5::Memory),
-        Scan::Empty | Scan::Local { .. } => {
-            run_in_place(rt, alloc, words, number, grants, kit, journal)
-        }
+        Scan::Empty | Scan::Local { .. } => run_in_place(rt, command, grants, kit, journal),
     }
 }
 

@@ -12,10 +12,11 @@ ghost use Rattle.slot_table.specs.declared.calls.CallEntry.{CallEntry};
 ghost use Rattle.farm_machine.specs.Devices.{devices};
 ghost use Rattle.farm_machine.specs.Jobs.{Job, job_of, may_be_sent, is_source_ready, source_name};
 ghost use Rattle.job_run.specs.Stages.{PreparedIs, FetchedIs};
-ghost use Rattle.job_run.specs.Seen.{seen, HasSource};
+ghost use Rattle.job_run.specs.Seen.{seen, job_in};
 
 use crate::journal::Journal;
 use crate::step::{done_by_preprocessor, why_not_fetched, why_not_run};
+use crate::task::Task;
 use child_runner::preprocess;
 use edge_traits::{Clock, Dialer, Keeper, Kit, Station};
 use farm_machine::End;
@@ -109,28 +110,24 @@ fn preprocess_source<D: Dialer, S: Station, K: Keeper, C: Clock>(
 
 /// The source of a job, which is fetched if it is preprocessed already and else is preprocessed here.
 pub(crate) fn prepare<D: Dialer, S: Station, K: Keeper, C: Clock>(
-    alloc: Global,
-    words: &Words,
-    input: u64,
-    preprocessed: bool,
+    task: &Task<'_>,
     kit: &mut Kit<D, S, K, C>,
     journal: &mut Journal,
 ) -> Prepared
-    requires remote { IsRemote words.now }
-    requires source { HasSource words.now input preprocessed }
     requires idle { IsIdle (K.shows kit.old.keeper) }
     requires left { 1 ≤ journal.old.left }
     ensures left { journal.old.left ≤ journal.new.left + 1 }
     ensures fell { journal.new.left ≤ journal.old.left }
     ensures idle { IsIdle (K.shows kit.new.keeper) }
-    ensures prepared { (h : ℕ) (l : Limits h) (caller number : ℕ) (mine : List CallEntry) (config : JobConfig) →
-        PreparedIs (job_of words.now config) l caller number
+    ensures prepared { (h : ℕ) (l : Limits h) (caller number : ℕ) (mine : List CallEntry) →
+        PreparedIs (job_in task.now) l caller number
         (seen (devices D.shows S.shows K.shows C.shows D.may_give S.ran) kit.old mine journal.old)
         (seen (devices D.shows S.shows K.shows C.shows D.may_give S.ran) kit.new mine journal.new)
         result }
 {
-    if preprocessed {
-        return fetch_source(alloc, name_at(words, input as usize), kit, journal);
+    if task.preprocessed {
+        let name = name_at(task.words, task.input as usize);
+        return fetch_source(task.alloc, name, kit, journal);
     }
-    preprocess_source(alloc, words, kit, journal)
+    preprocess_source(task.alloc, task.words, kit, journal)
 }

@@ -1,6 +1,6 @@
 //! Room for the events of a job.
 
-ghost use Rattle.std.specs.Prelude.{◌≡◌, ◌≤◌, [], IfOk, vec_capacity};
+ghost use Rattle.std.specs.Prelude.{◌≡◌, ◌≤◌, [], vec_capacity};
 ghost use Rattle.job_run.specs.Events.{events_max};
 
 use farm_machine::Event;

@@ -1,9 +1,8 @@
 // Waits for slots. Each refused take is followed by a pause, so that others can give theirs back.
-ghost use Rattle.std.specs.Prelude.{◌≡◌, ℕ, List, [], ◌∷◌, ◌++◌, Some, None, IfSome, map};
+ghost use Rattle.std.specs.Prelude.{◌≡◌, ℕ, List, [], ◌∷◌, ◌++◌, Some, None, IfSome};
 ghost use Rattle.edge_traits.specs.Told.{Grew};
 ghost use Rattle.slot_table.specs.History.{holding, outstanding};
-ghost use Rattle.slot_table.specs.Grants.{host_of, job_of, local_job_of};
-ghost use Rattle.slot_table.specs.Mask.{in_mask};
+ghost use Rattle.slot_table.specs.Grants.{local_job_of};
 ghost use Rattle.job_run.specs.Waits.{borrowed, asked, answered, held_then, IsEntry, CanWait, HasWaited};
 
 use edge_traits::Clock;

@@ -13,8 +13,8 @@ use Rattle.job_driver.specs.Watching.{AfterLines, AreMarked}
 use Rattle.job_driver.proofs.Watching.{watched-ran, last-printed, rows-told, tell-to}
 use Rattle.job_driver.proofs.watched.build_watched.Goals as goal
 
-pub unreachable-requires-in_default-push : goal.unreachable-requires-in_default-push
-unreachable-requires-in_default-push g c =
+pub push_reserved-requires : goal.push_reserved-requires
+push_reserved-requires g c =
     let was = c.args.kits.now.ok in
     let popped = c.pop.new.self.ok in
     let back = c.build_beside-done.new.kits.ok in
@@ -22,8 +22,7 @@ unreachable-requires-in_default-push g c =
     let room = c.pop.ensures.capacity in
     let len = c.build_beside-done.ensures.len in
     let kept = c.build_beside-done.ensures.kept in
-    let full = c.in_default-push.ensures.full in
-    omega (arith, was, popped, back, one, room, len, kept, full)
+    omega (arith, was, popped, back, one, room, len, kept)
 
 pub returns-clause-built : goal.returns-clause-built
 returns-clause-built g c =
@@ -39,7 +38,7 @@ returns-clause-built g c =
     record {
       ran = watched-ran d built.last.limits (job_at c.args.jobs.now c.args.config.now) c.args.config.now.period c.args.workers built.reports
           (seen_of built.pass) built.last.state c.pop.new.self.items c.build_beside-done.new.kits.items lender back
-          c.args.kits.now.items c.push.new.self.items c.in_ok-built.ensures.built.ran
+          c.args.kits.now.items c.push_reserved.new.self.items c.in_ok-built.ensures.built.ran
           (record {
             dialer = refl;
             station = refl;
@@ -49,7 +48,7 @@ returns-clause-built g c =
             peers = same_peers _;
             programs = same_programs _;
           })
-          c.in-Some.ensures.items c.in-Ok.ensures.items;
+          c.in-Some.ensures.items c.push_reserved.ensures.items;
       slots = c.in_ok-built.ensures.built.slots;
     }
 
@@ -61,19 +60,18 @@ returns-clause-printed g c =
     subst (λ (n : ℕ). AfterLines n c.in_ok-built.end after.result.1 (shows c.build_beside-done.new.err)
     (shows after.new.err) after.result.0)
     c.len.ensures after.ensures.printed in
-    let rows = known c.tell_all-told.new.watchers in
+    let rows = known c.close_boards-told.new.watchers in
     let parts = c.into_parts-markers.ensures in
-    let many : length c.as_mut_slice.result.now ≡ c.args.workers =
-    ap length c.as_mut_slice.ensures.value ∙ ap (λ ms. length ms.items) parts.markers
-    ∙ c.build_beside-done.ensures.markers in
+    let many : length c.into_parts-markers.result.0.items ≡ c.args.workers =
+    ap (λ ms. length ms.items) parts.markers ∙ c.build_beside-done.ensures.markers in
     let marked = subst (λ (ms : List Marker). AreMarked c.in_ok-built.built.reports ms)
-    (sym (c.as_mut_slice.ensures.value ∙ ap (λ ms. ms.items) parts.markers)) c.in_ok-built.ensures.marked in
+    (sym (ap (λ ms. ms.items) parts.markers)) c.in_ok-built.ensures.marked in
     let more = subst (λ (ws : List Watcher). ReadOn (known ws) rows)
-    (c.as_mut_slice-2.ensures.value ∙ ap (λ ws. ws.items) parts.watchers) c.tell_all-told.ensures.read in
+    (c.as_mut_slice.ensures.value ∙ ap (λ ws. ws.items) parts.watchers) c.close_boards-told.ensures.read in
     record {
       rows = rows;
-      of_reports = λ yes. rows-told c.args.workers c.in_ok-built.built.reports _ c.tell_all-told.new.watchers many marked
-          (c.tell_all-told.ensures.told (after.ensures.told yes));
+      of_reports = λ yes. rows-told c.args.workers c.in_ok-built.built.reports _ c.close_boards-told.new.watchers many marked
+          (c.close_boards-told.ensures.told (after.ensures.told yes));
       printed = last-printed (length c.args.jobs.now) c.args.workers c.args.lines rows after.result.1 (shows c.args.err.now)
           (shows c.build_beside-done.new.err)
           (shows after.new.err) c.in_ok-built.end after.result.0
@@ -87,8 +85,8 @@ returns-in_err-built-clause-undone g c =
     let kit : g.row.C.Denot → Kit g.row.D.Denot g.row.S.Denot g.row.K.Denot g.row.C.Denot =
     λ clock. record { dialer = lender.dialer; station = lender.station; keeper = lender.keeper; clock = clock } in
     let clock : c.into_parts-markers.result.2 ≡ lender.clock = c.into_parts-markers.ensures.clock ∙ ap (λ beside. beside.watch.clock) u.1 in
-    let kits : c.push.new.self.items ≡ c.args.kits.now.items =
-    c.in-Ok.ensures.items ∙ ap (λ ks. ks ++ kit c.into_parts-markers.result.2 ∷ []) u.0
+    let kits : c.push_reserved.new.self.items ≡ c.args.kits.now.items =
+    c.push_reserved.ensures.items ∙ ap (λ ks. ks ++ kit c.into_parts-markers.result.2 ∷ []) u.0
     ∙ ap (λ clock. c.pop.new.self.items ++ kit clock ∷ []) clock ∙ sym c.in-Some.ensures.items in
     let fault = err_from_is_err_and c.from_residual-in_err-built.result c.from_residual-in_err-built.ensures.1 in
     rw fault.1 (kits, u.2)

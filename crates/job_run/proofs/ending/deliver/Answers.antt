@@ -5,7 +5,6 @@ use Rattle.edge_traits.specs.Deeds.{put as PutDeed}
 use Rattle.edge_traits.specs.FileMaps.{IsStaged}
 use Rattle.std.proofs.lemmas.List.{append-nil}
 use Rattle.edge_traits.proofs.ToldLemmas.{Grew-refl}
-use Rattle.farm_machine.specs.declared.reports.End.TheVariants.{Failed}
 use Rattle.farm_machine.specs.Course.{Over}
 use Rattle.job_run.specs.Seen.{job_in}
 use Rattle.job_run.specs.Stages.{compiled_at}

@@ -24,19 +24,19 @@ use Rattle.job_run.proofs.exchanging.exchange.Goals as goal
 
 pub attempt_into-requires-clause-name : goal.attempt_into-requires-clause-name
 attempt_into-requires-clause-name g c =
-    let task = c.args.task.now in subst (λ (name : List ℕ). ¬ (IsStaged name)) (sym task.named)
+    let task = c.args.sending.now.task.now in subst (λ (name : List ℕ). ¬ (IsStaged name)) (sym task.named)
     (output_not_staged task.words.now task.remote)
 
 pub returns-in-Whole-clause-asked : goal.returns-in-Whole-clause-asked
 returns-in-Whole-clause-asked g c = λ note tried.
-    let task = c.args.task.now in
+    let task = c.args.sending.now.task.now in
     let j = job_in task in
     let host = host_of c.args.grant in
-    let source = c.args.request.now.source in
+    let source = c.args.sending.now.request.now.source in
     let attempt = c.in-Whole.ensures in
     let x = attempt.adds.adds.entry in
     let is = attempt.adds.adds.is in
-    let same_request = ap (λ words. record { words = words; source = source }) (sym c.requires.sent.words) in
+    let same_request = ap (λ words. record { words = words; source = source }) (sym c.args.sending.now.sent.words) in
     let same_host = c.requires.elsewhere.entry in
     let unhurt : IsUnhurt x = record { dialed = is.0.dialed; faults = is.1.faults refl; stopped = is.1.stopped; ended = is.1.ended } in
     let o = with_object c.in-Whole.outcome attempt.adds.object in
@@ -56,14 +56,14 @@ returns-in-Whole-clause-asked g c = λ note tried.
 
 pub returns-in-Broke-clause-asked : goal.returns-in-Broke-clause-asked
 returns-in-Broke-clause-asked g c = λ note tried.
-    let task = c.args.task.now in
+    let task = c.args.sending.now.task.now in
     let j = job_in task in
     let host = host_of c.args.grant in
-    let source = c.args.request.now.source in
+    let source = c.args.sending.now.request.now.source in
     let attempt = c.in-Broke.ensures in
     let x = attempt.adds.adds.entry in
     let is = attempt.adds.adds.is in
-    let same_request = ap (λ words. record { words = words; source = source }) (sym c.requires.sent.words) in
+    let same_request = ap (λ words. record { words = words; source = source }) (sym c.args.sending.now.sent.words) in
     let same_host = c.requires.elsewhere.entry in
     let remote = ap (λ h. h.local) same_host ∙ c.requires.elsewhere.remote in
     let begun = begun-as j source host _ _ x same_request same_host is.0.begun in
@@ -91,13 +91,13 @@ returns-in-Broke-clause-asked g c = λ note tried.
 
 pub returns-in-Memory-true-clause-asked : goal.returns-in-Memory-true-clause-asked
 returns-in-Memory-true-clause-asked g c = λ note tried.
-    let j = job_in c.args.task.now in
+    let j = job_in c.args.sending.now.task.now in
     let host = host_of c.args.grant in
-    let source = c.args.request.now.source in
+    let source = c.args.sending.now.request.now.source in
     let attempt = c.in-Memory-true.ensures in
     let adds = dialed_once _ _ _ _ _ c.in-Memory-true.dialed c.in-Memory-true.dialed-test attempt.adds.adds in
     let x = adds.entry in
-    let same_request = ap (λ words. record { words = words; source = source }) (sym c.requires.sent.words) in
+    let same_request = ap (λ words. record { words = words; source = source }) (sym c.args.sending.now.sent.words) in
     let same_host = c.requires.elsewhere.entry in
     wanted-step
     (exchanged-given host (Sent host source note tried x) x
@@ -126,7 +126,7 @@ returns-in-Memory-false-clause-asked g c = λ note tried.
 
 pub returns-in-Whole-clause-idle : goal.returns-in-Whole-clause-idle
 returns-in-Whole-clause-idle g c =
-    let task = c.args.task.now in
+    let task = c.args.sending.now.task.now in
     let adds = c.in-Whole.ensures.adds in
     whole-idle task.config.now _ c.in-Whole.outcome c.in-Whole.landing task.output.now adds.object _ _ _ c.after_whole.ensures adds.lands.1
 

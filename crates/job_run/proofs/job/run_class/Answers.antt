@@ -13,8 +13,8 @@ invariant_of-task-clause-remote g c = class_remote c.args.command.now.words.now 
 pub invariant_of-task-clause-named : goal.invariant_of-task-clause-named
 invariant_of-task-clause-named g c = (class_input c.args.command.now.words.now _ _ _ _ _ (c.in-Remote.ensures.class (λ h. cc))).1
 
-pub run_remote-requires-clause-source : goal.run_remote-requires-clause-source
-run_remote-requires-clause-source g c =
+pub invariant_of-task-clause-source : goal.invariant_of-task-clause-source
+invariant_of-task-clause-source g c =
     let input = class_input c.args.command.now.words.now _ _ _ _ _ (c.in-Remote.ensures.class (λ h. cc)) in
     record { place = input.0; ending = input.2 }
 
@@ -30,7 +30,7 @@ returns-in-Memory-clause-ended g c = record {
 }
 
 pub returns-in-Empty-clause-ended : goal.returns-in-Empty-clause-ended
-returns-in-Empty-clause-ended g c = c.run_in_place.ensures.ended c.args.command.now.config.now
+returns-in-Empty-clause-ended g c = c.run_in_place.ensures.ended
     (elim c.in-Empty.is [
       | inl is ↦ class_stays c.args.command.now.words.now c.scan.result c.args.command.now.config.now (c.scan.ensures.class (λ h. cc))
           (ap is_sent is)

@@ -42,12 +42,12 @@ returns-in-Err-clause-free g c =
     }
 
 pub returns-in-Ok-clause-ended : goal.returns-in-Ok-clause-ended
-returns-in-Ok-clause-ended g c = λ config stays.
+returns-in-Ok-clause-ended g c = λ stays.
     let slot = c.borrow_local-grant.ensures in
     let caller = g.met.G.Grants.caller_stays _ _ slot.waited.follows in
     let run = c.in-Ok.ensures in
     let end = c.done_in_place.ensures in
-    let x : Run = record { words = texts c.args.words.now; input = []; ran = c.in-Ok.ran } in
+    let x : Run = record { words = texts c.args.command.now.words.now; input = []; ran = c.in-Ok.ran } in
     record {
       to = Over c.done_in_place.result;
       went = local-ran slot.mine.0 LentInPlace (RanInPlace c.in-Ok.ran) x
@@ -65,7 +65,7 @@ returns-in-Ok-clause-ended g c = λ config stays.
     }
 
 pub returns-in-Err-clause-ended : goal.returns-in-Err-clause-ended
-returns-in-Err-clause-ended g c = λ config stays.
+returns-in-Err-clause-ended g c = λ stays.
     let slot = c.borrow_local-grant.ensures in
     let caller = g.met.G.Grants.caller_stays _ _ slot.waited.follows in
     let run = c.in-Err.ensures in

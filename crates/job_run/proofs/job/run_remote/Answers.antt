@@ -7,13 +7,13 @@ use Rattle.job_run.proofs.job.run_remote.Goals as goal
 pub returns-in-Over-clause-ended : goal.returns-in-Over-clause-ended
 returns-in-Over-clause-ended g c =
     c.in-Over.ensures.prepared _ (g.G.Grants.limits c.args.grants.now) (g.G.Grants.caller_number c.args.grants.now) c.args.task.now.number
-    (g.G.Grants.mine c.args.grants.now) c.args.task.now.config.now
+    (g.G.Grants.mine c.args.grants.now)
 
 pub returns-in-Err-clause-ended : goal.returns-in-Err-clause-ended
 returns-in-Err-clause-ended g c =
     on-ended refl refl
     (c.in-Ready.ensures.prepared _ (g.G.Grants.limits c.args.grants.now) (g.G.Grants.caller_number c.args.grants.now) c.args.task.now.number
-    (g.G.Grants.mine c.args.grants.now) c.args.task.now.config.now)
+    (g.G.Grants.mine c.args.grants.now))
     (c.in-Err.ensures.compiled c.in-Ready.note)
 
 pub returns-in-Ok-clause-ended : goal.returns-in-Ok-clause-ended
@@ -25,7 +25,7 @@ returns-in-Ok-clause-ended g c =
     on-ended refl refl
     (on-then refl refl
     (c.in-Ready.ensures.prepared _ (g.G.Grants.limits c.args.grants.now) (g.G.Grants.caller_number c.args.grants.now) task.number
-    (g.G.Grants.mine c.args.grants.now) task.config.now)
+    (g.G.Grants.mine c.args.grants.now))
     made.1)
     (c.deliver.ensures.ended _ (g.G.Grants.limits c.args.grants.now) (g.G.Grants.caller_number c.args.grants.now) task.number
     (g.G.Grants.mine c.compile_source.new.grants) made.0 held)

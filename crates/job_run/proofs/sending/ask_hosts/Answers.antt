@@ -19,25 +19,25 @@ use Rattle.job_run.proofs.sending.ask_hosts.Goals as goal
 
 pub ask_one-requires-clause-hosts : goal.ask_one-requires-clause-hosts
 ask_one-requires-clause-hosts g c =
-    subst (λ l. AreLimitsOf l c.args.task.now.config.now.hosts)
+    subst (λ l. AreLimitsOf l c.args.sending.now.task.now.config.now.hosts)
     (sym (g.met.G.Grants.limits_stay _ _ c.loop-made.invariant.follows)) c.requires.hosts
 
 pub ask_one-requires-clause-free : goal.ask_one-requires-clause-free
 ask_one-requires-clause-free g c =
     let below = c.loop-made-test.true in
-    let tries = c.args.task.now.tries in
+    let tries = c.args.sending.now.task.now.tries in
     free-then try_events c.requires.free c.loop-made.invariant.free (omega (arith, below, tries))
 
 pub returns-in-Down-clause-free : goal.returns-in-Down-clause-free
 returns-in-Down-clause-free g c =
     let below = c.loop-made-test.true in
-    let tries = c.args.task.now.tries in
+    let tries = c.args.sending.now.task.now.tries in
     stays-then tries_events c.loop-made.invariant.free c.in-Down.ensures.free (omega (arith, below, tries))
 
 pub returns-in-Over-clause-free : goal.returns-in-Over-clause-free
 returns-in-Over-clause-free g c =
     let below = c.loop-made-test.true in
-    let tries = c.args.task.now.tries in
+    let tries = c.args.sending.now.task.now.tries in
     stays-then tries_events c.loop-made.invariant.free c.in-Over.ensures.free (omega (arith, below, tries))
 
 pub without-mask-requires : goal.without-mask-requires
@@ -46,7 +46,7 @@ without-mask-requires g c =
     let limits = g.met.G.Grants.limits_stay _ _ inv.follows in
     let below = (c.in-Broke.ensures.asked [] inv.tried (subst (λ l. HasUntried l c.loop-made.mask inv.tried) (sym limits) inv.untried)).0 in
     let count = ap (λ l. l.count) limits ∙ c.requires.hosts.count in
-    omega (arith, below, count, c.args.task.now.entries)
+    omega (arith, below, count, c.args.sending.now.task.now.entries)
 
 pub returns-in-Down-clause-follows : goal.returns-in-Down-clause-follows
 returns-in-Down-clause-follows g c = g.met.G.Grants.follows_on _ _ _ c.loop-made.invariant.follows c.in-Down.ensures.follows
@@ -59,9 +59,9 @@ returns-in-Down-clause-asked g c = λ note.
     let inv = c.loop-made.invariant in
     let limits = g.met.G.Grants.limits_stay _ _ inv.follows in
     let caller = g.met.G.Grants.caller_stays _ _ inv.follows in
-    let below = subst (λ (n : ℕ). n < c.args.task.now.config.now.tries) (sym inv.made) c.loop-made-test.true in
+    let below = subst (λ (n : ℕ). n < c.args.sending.now.task.now.config.now.tries) (sym inv.made) c.loop-made-test.true in
     let down = c.in-Down.ensures.asked note inv.tried (subst (λ l. HasUntried l c.loop-made.mask inv.tried) (sym limits) inv.untried) in
-    here-as c.args.request.now.source note _ c.loop-made.last (no_host inv.tried) c.here_or.ensures inv.last
+    here-as c.args.sending.now.request.now.source note _ c.loop-made.last (no_host inv.tried) c.here_or.ensures inv.last
     (on-then limits caller (asks-next inv.tried below (inv.went note)) down)
     (cause-later _ _ _ (Failed c.loop-made.last) inv.cause down.went.later)
     (no-host-left inv.tried)
@@ -71,24 +71,24 @@ returns-in-Over-clause-asked g c = λ note.
     let inv = c.loop-made.invariant in
     let limits = g.met.G.Grants.limits_stay _ _ inv.follows in
     let caller = g.met.G.Grants.caller_stays _ _ inv.follows in
-    let below = subst (λ (n : ℕ). n < c.args.task.now.config.now.tries) (sym inv.made) c.loop-made-test.true in
-    step-then _ c.args.request.now.source note c.in-Over.step limits caller
+    let below = subst (λ (n : ℕ). n < c.args.sending.now.task.now.config.now.tries) (sym inv.made) c.loop-made-test.true in
+    step-then _ c.args.sending.now.request.now.source note c.in-Over.step limits caller
     (asks-next inv.tried below (inv.went note))
     (c.in-Over.ensures.asked note inv.tried (subst (λ l. HasUntried l c.loop-made.mask inv.tried) (sym limits) inv.untried))
 
 pub returns-clause-asked : goal.returns-clause-asked
 returns-clause-asked g c = λ note.
     let inv = c.loop-made.invariant in
-    let above = subst (λ (n : ℕ). c.args.task.now.config.now.tries ≤ n) (sym inv.made) c.loop-made-test.false in
-    here-as c.args.request.now.source note _ c.loop-made.last (no_host inv.tried) c.here_or-2.ensures inv.last
+    let above = subst (λ (n : ℕ). c.args.sending.now.task.now.config.now.tries ≤ n) (sym inv.made) c.loop-made-test.false in
+    here-as c.args.sending.now.request.now.source note _ c.loop-made.last (no_host inv.tried) c.here_or-2.ensures inv.last
     (arrive
-    (stage-last (job_in c.args.task.now) c.args.request.now.source note inv.tried above) (inv.went note))
+    (stage-last (job_in c.args.sending.now.task.now) c.args.sending.now.request.now.source note inv.tried above) (inv.went note))
     inv.cause
     (no-host-left inv.tried)
 
 pub loop-made-init : goal.loop-made-init
 loop-made-init g c =
-    let task = c.args.task.now in
+    let task = c.args.sending.now.task.now in
     record {
       free = stays-none c.requires.free;
       follows = g.met.G.Grants.follows_itself _;
@@ -98,7 +98,7 @@ loop-made-init g c =
       untried = λ i. untried-all _ i _ _ (c.all-mask.ensures i) (c.len.ensures ∙ sym c.requires.hosts.count);
       last = refl;
       cause = tt;
-      went = λ note. arrive (sym (stage-next (job_in task) c.args.request.now.source note [] task.some)) (record {
+      went = λ note. arrive (sym (stage-next (job_in task) c.args.sending.now.request.now.source note [] task.some)) (record {
         went = no-act (DidIn-nothing _) (later-none _) (same_peers _) (same_programs _) (sym (append-nil _), refl) refl;
         station = none-rose _;
         keeper = keeps-none _ _;
@@ -113,7 +113,7 @@ loop-made-preserved g c =
     let cause = c.in-Broke.cause in
     let limits = g.met.G.Grants.limits_stay _ _ inv.follows in
     let caller = g.met.G.Grants.caller_stays _ _ inv.follows in
-    let below = subst (λ (n : ℕ). n < c.args.task.now.config.now.tries) (sym inv.made) c.loop-made-test.true in
+    let below = subst (λ (n : ℕ). n < c.args.sending.now.task.now.config.now.tries) (sym inv.made) c.loop-made-test.true in
     let untried = subst (λ l. HasUntried l c.loop-made.mask inv.tried) (sym limits) inv.untried in
     let broke = e.asked [] inv.tried untried in
     record {
@@ -126,7 +126,7 @@ loop-made-preserved g c =
       last = refl;
       cause = cause-before _ _ (kit_view g.D.Dialer.shows g.S.Station.shows g.K.Keeper.shows g.C.Clock.shows c.ask_one.new.kit)
           (Failed (Broke host cause)) (inv.went []).went.later broke.2;
-      went = λ note. arrive (stage-broken (job_in c.args.task.now) host cause c.args.request.now.source note inv.tried)
+      went = λ note. arrive (stage-broken (job_in c.args.sending.now.task.now) host cause c.args.sending.now.request.now.source note inv.tried)
           (on-then limits caller (asks-next inv.tried below (inv.went note)) (e.asked note inv.tried untried).1);
     }
 

@@ -24,10 +24,10 @@ invariant-loop-made g l = record {
   last : l.last ≡ no_host tried;
   cause : HasEndCause (Failed l.last) (kit_view g.D.Dialer.shows g.S.Station.shows g.K.Keeper.shows g.C.Clock.shows l.fn.kit)
       (kit_view g.D.Dialer.shows g.S.Station.shows g.K.Keeper.shows g.C.Clock.shows l.kit);
-  went : (note : List ℕ) → WentOn (job_in l.task) (g.G.Grants.limits l.fn.grants) (g.G.Grants.caller_number l.fn.grants) l.task.number
+  went : (note : List ℕ) → WentOn (job_in l.sending.task.now) (g.G.Grants.limits l.fn.grants) (g.G.Grants.caller_number l.fn.grants) l.sending.task.now.number
       (seen (devices g.D.Dialer.shows g.S.Station.shows g.K.Keeper.shows g.C.Clock.shows g.D.Dialer.may_give g.S.Station.ran) l.fn.kit
       (g.G.Grants.mine l.fn.grants) l.fn.journal)
       (seen (devices g.D.Dialer.shows g.S.Station.shows g.K.Keeper.shows g.C.Clock.shows g.D.Dialer.may_give g.S.Station.ran) l.kit
       (g.G.Grants.mine l.grants) l.journal)
-      (Send l.request.source note []) (stage (job_in l.task) l.request.source note tried);
+      (Send l.sending.request.now.source note []) (stage (job_in l.sending.task.now) l.sending.request.now.source note tried);
 }

@@ -13,7 +13,7 @@ use Rattle.job_run.proofs.sending.ask_one.Goals as goal
 pub returns-in_default-clause-asked : goal.returns-in_default-clause-asked
 returns-in_default-clause-asked g c = λ note tried untried.
     let slot = c.in_default.ensures in
-    let fits = subst (λ words. RequestFits words c.args.request.now.source) c.requires.sent.words c.requires.sent.fits in
+    let fits = subst (λ words. RequestFits words c.args.sending.now.request.now.source) c.args.sending.now.sent.words c.args.sending.now.sent.fits in
     went-asked slot.mine.0 slot.mine.1 Down FindsDown
     (inl refl) refl refl refl refl slot.mine.3 (same_peers _) (same_programs _)
     (c.note.ensures.events, c.note.ensures.places) slot.mine.2 untried
@@ -22,9 +22,9 @@ returns-in_default-clause-asked g c = λ note tried untried.
 pub returns-then-host-clause-asked : goal.returns-then-host-clause-asked
 returns-then-host-clause-asked g c = λ note tried untried.
     let slot = c.in-Some.ensures in
-    let source = c.args.request.now.source in
+    let source = c.args.sending.now.request.now.source in
     let host = host_of c.in-Some.grant in
-    let fits = subst (λ words. RequestFits words source) c.requires.sent.words c.requires.sent.fits in
+    let fits = subst (λ words. RequestFits words source) c.args.sending.now.sent.words c.args.sending.now.sent.fits in
     let below = subst (λ (n : ℕ). host < n) c.requires.hosts.count slot.entry.entry in
     let fresh = fresh-entry _ _ _ slot.entry.masked (untried host) in
     asked-then _ source note tried (Over c.compile_lent-step.result) (g.met.G.Grants.limits_stay _ _ slot.waited.follows)
@@ -38,9 +38,9 @@ returns-then-host-clause-asked g c = λ note tried untried.
 pub returns-clause-asked : goal.returns-clause-asked
 returns-clause-asked g c = λ note tried untried.
     let slot = c.in-Some.ensures in
-    let source = c.args.request.now.source in
+    let source = c.args.sending.now.request.now.source in
     let host = host_of c.in-Some.grant in
-    let fits = subst (λ words. RequestFits words source) c.requires.sent.words c.requires.sent.fits in
+    let fits = subst (λ words. RequestFits words source) c.args.sending.now.sent.words c.args.sending.now.sent.fits in
     let below = subst (λ (n : ℕ). host < n) c.requires.hosts.count slot.entry.entry in
     let fresh = fresh-entry _ _ _ slot.entry.masked (untried host) in
     asked-then _ source note tried c.exchange.result (g.met.G.Grants.limits_stay _ _ slot.waited.follows)
