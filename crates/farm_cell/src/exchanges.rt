@@ -19,23 +19,29 @@ pub type SharedWords = RuledSeqCell<SlotWords<16>, View<16>, InOneOrder, 34>;
 /// What one pass knows of the words.
 pub type Seat = SeqPass<SlotWords<16>, View<16>>;
 
+/// A call, with the state that it is to meet and the state after it.
+#[derive(Clone, Copy)]
+struct Change {
+    call: SlotCall,
+    current: SlotState<16>,
+    new: SlotState<16>,
+}
+
 /// Puts the new state in place of the current one, which makes the call. If another state is there, nothing changes, and it is returned.
 fn ask<C: Ask, R: Wait>(
     rt: &R,
     words: &SharedWords,
     limits: &Limits<16>,
     seat: &mut Seat,
-    _call: SlotCall,
-    current: &SlotState<16>,
-    new: &SlotState<16>,
+    change: &Change,
 ) -> Result<(), SlotState<16>>
     requires cell { seat.old.table_id ≡ words.now.table.shared.table_id }
-    requires call { C.call ≡ _call }
-    requires current { C.current ≡ current.now }
+    requires call { C.call ≡ change.now.call }
+    requires current { C.current ≡ change.now.current }
     requires limits { (cell_view seat.old).limits ≡ Some limits.now }
     requires single { IsSingle (cell_view seat.old) }
     requires may { may_call limits.now (cell_view seat.old).low (outstanding (cell_view seat.old).mine) C.call ≡ true }
-    requires new { new.now ≡ (slot_step limits.now current.now C.call).0 }
+    requires new { change.now.new ≡ (slot_step limits.now change.now.current C.call).0 }
     ensures cell { IsSamePass seat.old seat.new }
     ensures ok { IfOk result (λ x. Extended (cell_view seat.old) C.current C.call (cell_view seat.new)) }
     ensures err { IfErr result (λ x. Looked (cell_view seat.old) x (cell_view seat.new)) }
@@ -43,8 +49,10 @@ fn ask<C: Ask, R: Wait>(
     match words.compare_exchange_as::<Called<C>, R>(
         rt,
         seat,
-        SlotWords { state: *current },
-        SlotWords { state: *new },
+        SlotWords {
+            state: change.current,
+        },
+        SlotWords { state: change.new },
     ) {
         Ok(_) => Ok(()),
         Err(now) => Err(now.state),
@@ -100,7 +108,12 @@ pub(crate) fn exchange<R: Wait>(
     let mut met = look(rt, words, limits, seat);
     for _ in rt.forever() {
         let next = stepped(limits, &met, call);
-        match ask::<Brand, R>(rt, words, limits, seat, call, &met, &next) {
+        let change = Change {
+            call,
+            current: met,
+            new: next,
+        };
+        match ask::<Brand, R>(rt, words, limits, seat, &change) {
             Ok(()) => return met,
             Err(now) => met = now,
         }

@@ -3,7 +3,7 @@ use Rattle.farm_cell.specs.Rule.{Looked}
 use Rattle.farm_cell.proofs.exchanges.exchange.Given as goal
 
 abbrev pub ghosts-ask : goal.ghosts-ask
-ghosts-ask g a = record { call = a._call; current = a.current.now }
+ghosts-ask g a = record { call = a.change.now.call; current = a.change.now.current }
 
 abbrev pub invariant-loop : goal.invariant-loop
 invariant-loop g l = record { cell : IsSamePass l.fn.seat l.seat; seen : Looked (cell_view l.fn.seat) l.met (cell_view l.seat) }
