@@ -1,8 +1,11 @@
 -- What devices that two threads use side by side show.
-use Rattle.std.specs.Prelude.{◌≡◌, ℕ, ◌-◌, false, List, [], length, take, min, ⊤}
+use Rattle.std.specs.Prelude.{◌≡◌, ◌≢◌, ℕ, ◌+◌, ◌-◌, ◌++◌, false, List, [], ◌∷◌, length, take, min, ⊤, Result, IfOk, IfErr, OnOk, OnErr}
 use Rattle.farm_types.specs.declared.placed.Word.{Word}
 use Rattle.farm_types.specs.declared.ran.Ran.{Ran}
 use Rattle.farm_types.specs.Rans.{nothing_ran}
+use Rattle.edge_traits.specs.declared.faults.EdgeFault.{EdgeFault}
+use Rattle.edge_traits.specs.declared.faults.StationFault.{StationFault}
+use Rattle.edge_traits.specs.declared.faults.StationFault.TheVariants.{Failed}
 use Rattle.edge_traits.specs.Told.{told, untold}
 use Rattle.edge_traits.specs.Links.{LinkView}
 use Rattle.edge_traits.specs.Dialers.{DialerView}
@@ -10,7 +13,9 @@ use Rattle.edge_traits.specs.Stations.{StationView}
 use Rattle.edge_gates.specs.GateReply.{gate_reply}
 use Rattle.atomic_table.specs.Seated.{TableId}
 use Rattle.edge_gates.specs.declared.asked.Asked.{Asked}
+use Rattle.edge_gates.specs.declared.asked.Asked.TheVariants.{Nobody, Several}
 use Rattle.edge_gates.specs.declared.asked.Place.{Place}
+use Rattle.edge_gates.specs.declared.asked.Place.TheVariants.{NotYet, First}
 use Rattle.edge_gates.specs.declared.asked.GateView.{GateView}
 use Rattle.edge_gates.specs.GateUsers.{name_of, view_of}
 use Rattle.edge_gates.specs.declared.dialer.GateLink.{GateLink}
@@ -19,7 +24,8 @@ use Rattle.edge_gates.specs.declared.station.GateStation.{GateStation}
 use Rattle.edge_gates.specs.declared.station.Part.{Part}
 use Rattle.edge_gates.specs.declared.station.Part.TheVariants.{Waits, IsAwaited, Alone as IsAlone}
 use Rattle.edge_gates.specs.declared.marked.MarkView.{MarkView}
-use Rattle.edge_gates.specs.GateRule.{newcomer}
+use Rattle.edge_gates.specs.declared.marked.Turn.TheVariants.{Entered, Refused}
+use Rattle.edge_gates.specs.GateRule.{newcomer, held_looks}
 use Rattle.edge_gates.specs.MarkRule.{outsider}
 use Rattle.edge_gates.specs.MarkUsers.{name_of as mark_name, view_of as mark_view}
 
@@ -69,6 +75,26 @@ gate_link_view link = record {
   stopped = false;
   faults = link.faults;
 }
+
+-- a link that shows and knows what it did before
+pub record SameLink {R : Type 0} (old new : GateLink R) : Type 0 where
+  pub shows : gate_link_view new ≡ gate_link_view old
+  pub gate : gate_of new ≡ gate_of old
+  pub unasked : user_of new ≡ user_of old
+
+-- What a receive into this much room does at the link's gate.
+pub record GateReceived {R : Type 0} (room : ℕ) (old new : GateLink R) (result : Result ℕ EdgeFault) : Type 0 where
+  pub count : IfOk result (λ n. n ≡ next_given old room)
+  pub gate : gate_of new ≡ gate_of old
+  -- it has asked afterwards, and a place that it had stays
+  pub asked : place_of new ≢ NotYet
+  pub once : place_of old ≢ NotYet → place_of new ≡ place_of old
+  -- the first to ask is given bytes only once it has seen that several asked
+  pub held : IfOk result (λ n. place_of new ≡ First → seen_of new ≡ Several)
+  -- only the first fails: it hasn't seen that several asked, and has looked that often
+  pub failed : IfErr result (λ fault. place_of new ≡ First)
+  pub unseen : IfErr result (λ fault. seen_of new ≢ Several)
+  pub looks : IfErr result (λ fault. looks_of new ≡ looks_of old + held_looks)
 
 -- what its dialer shows, which never fails
 abbrev pub gate_dialer_view : DialerView
@@ -126,6 +152,25 @@ module _ {R : Type 0} where
   -- what a station knows of its mark; one that has a gate knows nothing
   abbrev pub tried_of : GateStation R → MarkView
   tried_of station = tried_by station.part
+
+-- What a run of a station does at what it shares with the other one.
+pub record GateRan {R : Type 0} (old new : GateStation R) (result : Result Ran StationFault) : Type 0 where
+  pub part : part_of new ≡ part_of old
+  pub one : shared_of new ≡ shared_of old
+  -- A station that waits doesn't ask. It ends well only once it has seen that somebody asked, and fails after it has looked that often.
+  pub unasked : part_of old ≡ Waiting → (asked_of new).place ≡ (asked_of old).place
+  pub held : part_of old ≡ Waiting → OnOk result ((asked_of new).seen ≢ Nobody)
+  pub unseen : part_of old ≡ Waiting → OnErr result ((asked_of new).seen ≡ Nobody)
+  pub looks : part_of old ≡ Waiting → OnErr result ((asked_of new).looks ≡ (asked_of old).looks + held_looks)
+  -- a station that is awaited has asked afterwards, and doesn't fail
+  pub asked : part_of old ≡ Awaited → (asked_of new).place ≢ NotYet
+  pub awaited : part_of old ≡ Awaited → OnErr result ⊥
+  -- One that has to run by itself entered if it ends well, and was refused if it fails.
+  pub entered : part_of old ≡ Alone → OnOk result ((tried_of new).turns ≡ (tried_of old).turns ++ Entered ∷ [])
+  pub refused : part_of old ≡ Alone → OnErr result ((tried_of new).turns ≡ (tried_of old).turns ++ Refused ∷ [])
+  -- no station is inside afterwards, and none fails by another fault
+  pub outside : (tried_of new).inside ≡ false
+  pub fault : IfErr result (λ fault. fault ≡ Failed)
 
 -- one whose run was never called
 abbrev pub unused_station : StationView

@@ -24,16 +24,13 @@ pub struct GateLink<'a, R> {
 
 #[tactic(auto, using(edge_traits::proofs::Counting::causes))]
 impl<'a, R: Wait> Link for GateLink<'a, R> {
-    ghost use Rattle.std.specs.Prelude.{◌≡◌, ◌≢◌, ◌+◌, ◌<◌, ◌||◌, ⊤, false, [], length, refl, IfOk, IfErr, OnErr, IsErrOf};
+    ghost use Rattle.std.specs.Prelude.{◌≡◌, ◌<◌, ◌||◌, ⊤, false, [], length, refl, IfOk, OnErr, IsErrOf};
     ghost use Rattle.std.proofs.Common.{◌∙◌, sym};
     ghost use Rattle.edge_traits.specs.declared.faults.EdgeFault.TheVariants.{Memory};
     ghost use Rattle.edge_traits.specs.Told.{Grew};
     ghost use Rattle.edge_traits.specs.Causes.{HasCause};
     ghost use Rattle.edge_traits.specs.Links.{moved, moved_none};
-    ghost use Rattle.edge_gates.specs.declared.asked.Asked.TheVariants.{Several};
-    ghost use Rattle.edge_gates.specs.declared.asked.Place.TheVariants.{NotYet, First};
-    ghost use Rattle.edge_gates.specs.GateRule.{held_looks};
-    ghost use Rattle.edge_gates.specs.Gates.{gate_link_view, next_given, any_exchange, gate_of, user_of, place_of, seen_of, looks_of};
+    ghost use Rattle.edge_gates.specs.Gates.{gate_link_view, any_exchange, SameLink, GateReceived};
 
     ghost shows = { gate_link_view };
 
@@ -57,9 +54,7 @@ impl<'a, R: Wait> Link for GateLink<'a, R> {
         ensures sent { Grew (gate_link_view self.old).sent (gate_link_view self.new).sent (moved result piece.now) }
         ensures given { Grew (gate_link_view self.old).given (gate_link_view self.new).given [] }
         ensures stopped { moved_none result ≡ false }
-        ensures same { gate_link_view self.new ≡ gate_link_view self.old }
-        ensures gate { gate_of self.new ≡ gate_of self.old }
-        ensures unasked { user_of self.new ≡ user_of self.old }
+        ensures same { SameLink self.old self.new }
         ensures never { OnErr result ⊥ }
         ensures cause { HasCause (gate_link_view self.old).faults (gate_link_view self.new).faults result }
     {
@@ -69,20 +64,13 @@ impl<'a, R: Wait> Link for GateLink<'a, R> {
     fn recv(&mut self, room: &mut [u8]) -> Result<usize, EdgeFault>
         requires { 0 < length room.old }
         ensures bound { IfOk result (λ n. n ≤ length room.old) }
-        ensures count { IfOk result (λ n. n ≡ next_given self.old (length room.old)) }
         ensures given { Grew (gate_link_view self.old).given (gate_link_view self.new).given (moved result room.new) }
         ensures sent { Grew (gate_link_view self.old).sent (gate_link_view self.new).sent [] }
         ensures origin { (gate_link_view self.new).origin ≡ (gate_link_view self.old).origin }
         ensures ended { (gate_link_view self.new).ended ≡ ((gate_link_view self.old).ended || moved_none result) }
         ensures never { ¬ (IsErrOf result Memory) }
         ensures cause { HasCause (gate_link_view self.old).faults (gate_link_view self.new).faults result }
-        ensures gate { gate_of self.new ≡ gate_of self.old }
-        ensures asked { place_of self.new ≢ NotYet }
-        ensures once { place_of self.old ≢ NotYet → place_of self.new ≡ place_of self.old }
-        ensures held { IfOk result (λ n. place_of self.new ≡ First → seen_of self.new ≡ Several) }
-        ensures failed { IfErr result (λ fault. place_of self.new ≡ First) }
-        ensures unseen { IfErr result (λ fault. seen_of self.new ≢ Several) }
-        ensures looks { IfErr result (λ fault. looks_of self.new ≡ looks_of self.old + held_looks) }
+        ensures gate { GateReceived (length room.old) self.old self.new result }
     {
         if !self.gate.is_let_through() {
             self.faults = raised(self.faults);

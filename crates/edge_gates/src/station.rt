@@ -109,15 +109,10 @@ impl<'a, R: Wait> Part<'a, R> {
 
 #[tactic(auto, using(edge_traits::proofs::Counting::causes))]
 impl<'a, R: Wait> Station for GateStation<'a, R> {
-    ghost use Rattle.std.specs.Prelude.{◌≡◌, ◌≢◌, ◌+◌, ◌≤◌, ◌++◌, [], ◌∷◌, false, IfOk, IfErr, OnOk, OnErr};
-    ghost use Rattle.edge_traits.specs.declared.faults.StationFault.TheVariants.{Failed};
+    ghost use Rattle.std.specs.Prelude.{◌≡◌, ◌≤◌, [], false, IfOk, IfErr, OnOk};
     ghost use Rattle.edge_traits.specs.Stations.{IsWithin, StationStill, RunFault, has_output, run_entries};
     ghost use Rattle.edge_traits.specs.Told.{Grew, SameRelation3};
-    ghost use Rattle.edge_gates.specs.declared.asked.Asked.TheVariants.{Nobody};
-    ghost use Rattle.edge_gates.specs.declared.asked.Place.TheVariants.{NotYet};
-    ghost use Rattle.edge_gates.specs.declared.marked.Turn.TheVariants.{Entered, Refused};
-    ghost use Rattle.edge_gates.specs.GateRule.{held_looks};
-    ghost use Rattle.edge_gates.specs.Gates.{Waiting, Awaited, Alone, gate_station_view, leaves_nothing, part_of, shared_of, asked_of, tried_of};
+    ghost use Rattle.edge_gates.specs.Gates.{gate_station_view, leaves_nothing, GateRan};
 
     ghost shows = { gate_station_view };
 
@@ -130,18 +125,10 @@ impl<'a, R: Wait> Station for GateStation<'a, R> {
         input: &[u8],
         bounds: &Bounds,
     ) -> Result<Ran, StationFault>
+        ensures gate { GateRan self.old self.new result }
+
+        // What each station ensures.
         ensures ran { IfOk result (leaves_nothing words.now input.now) }
-        ensures awaited { part_of self.old ≡ Awaited → OnErr result ⊥ }
-        ensures part { part_of self.new ≡ part_of self.old }
-        ensures one { shared_of self.new ≡ shared_of self.old }
-        ensures unasked { part_of self.old ≡ Waiting → (asked_of self.new).place ≡ (asked_of self.old).place }
-        ensures held { part_of self.old ≡ Waiting → OnOk result ((asked_of self.new).seen ≢ Nobody) }
-        ensures unseen { part_of self.old ≡ Waiting → OnErr result ((asked_of self.new).seen ≡ Nobody) }
-        ensures looks { part_of self.old ≡ Waiting → OnErr result ((asked_of self.new).looks ≡ (asked_of self.old).looks + held_looks) }
-        ensures asked { part_of self.old ≡ Awaited → (asked_of self.new).place ≢ NotYet }
-        ensures entered { part_of self.old ≡ Alone → OnOk result ((tried_of self.new).turns ≡ (tried_of self.old).turns ++ Entered ∷ []) }
-        ensures refused { part_of self.old ≡ Alone → OnErr result ((tried_of self.new).turns ≡ (tried_of self.old).turns ++ Refused ∷ []) }
-        ensures outside { (tried_of self.new).inside ≡ false }
         ensures within { IfOk result (IsWithin bounds.now) }
         ensures no_object { IfOk result (λ ran. has_output words.now ≡ false → ran.object ≡ []) }
         ensures same { SameRelation3 leaves_nothing leaves_nothing }
@@ -149,7 +136,6 @@ impl<'a, R: Wait> Station for GateStation<'a, R> {
         ensures faults { (gate_station_view self.old).faults ≤ (gate_station_view self.new).faults }
         ensures overruns { (gate_station_view self.old).overruns ≤ (gate_station_view self.new).overruns }
         ensures done { OnOk result (StationStill (gate_station_view self.old) (gate_station_view self.new)) }
-        ensures fault { IfErr result (λ fault. fault ≡ Failed) }
         ensures cause { IfErr result (RunFault bounds.now (gate_station_view self.old) (gate_station_view self.new)) }
     {
         if self.part.is_let_through() {
