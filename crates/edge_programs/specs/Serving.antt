@@ -28,7 +28,8 @@ unserved_place (Some (ServedWords tools)) words = first_unserved words (map stri
 abbrev pub are_let_through : Option WordPolicy → List Word → Bool
 are_let_through policy words = not (is_some (unserved_place policy words))
 
--- what a run for others gives is an object of the kind that the words ask for; what one of this process's own gives is more than nothing
+-- What a driver of gcc or clang gives in a run for others is an object of the kind that the words ask for. In a run of this process's own it is
+-- more than nothing. Of other programs nothing is asked.
 abbrev pub is_fit : Option WordPolicy → List Word → List ℕ → Bool
 is_fit None words object = is_filled words object
 is_fit (Some policy) words object = is_asked_kind words object

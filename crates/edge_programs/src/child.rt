@@ -48,15 +48,16 @@ struct Service<W> {
     rules: ServingRules,
     /// The folder of this process, from which its programs may be named.
     here: String,
-    /// Where the folder of a run is left to a door, if there is one.
+    /// The notes that a door shares with this station, if one does.
     notes: Option<SharedNotes>,
     watch: W,
 }
 
 /// Runs programs as children of this process, and waits for their ends. A run with files, and each run for others, has
-/// a new folder, which is removed when the run ends. Only its owner may look into it, and its name has a random word.
+/// a new folder, which is removed when the run ends, or later by the door that shares the notes. Only its owner may look into it, and its name has
+/// a random word.
 /// A program for others runs in that folder. It is killed if its peer has gone or its lifetime has passed, and its run has failed.
-/// A line on the standard error says why a run failed. docs/real-devices.md has the rest.
+/// A line on the standard error says why a run failed, unless memory ran out or one of its streams couldn't be used. docs/real-devices.md has the rest.
 #[derive(Drop)]
 pub struct ChildStation<R, W = Unwatched> {
     rt: R,

@@ -97,7 +97,7 @@ fn word_of(first: u64, second: u64) -> [u8; WORD_LENGTH] {
     (u128::from(first) << 64 | u128::from(second)).to_be_bytes()
 }
 
-/// A folder that this value made, which is removed with all that is in it when this value goes.
+/// A folder that this value made. When this value goes, the folder is removed with all that is in it, or with notes it is left to the door.
 ///
 /// Only its owner may look into it or write there, and nobody can foresee its name. So neither another station, thread or process nor a peer can name
 /// a file of the run.

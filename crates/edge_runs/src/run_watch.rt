@@ -11,7 +11,7 @@ pub trait RunWatch {
     /// Whether the one who asked for the run has gone. Each call also sees to those who wait for a door meanwhile.
     fn has_gone(&self) -> bool;
 
-    /// Has those who wait for a door give descriptors back, if the system has none left for a run. It answers at once.
+    /// Has one that waits for a door give its descriptor back. It is called if the system has too few left for a run, and returns at once.
     fn want_descriptors(&self);
 }
 

@@ -7,7 +7,7 @@ use Rattle.std.specs.Duration.{as_nanos}
 abbrev pub gone_nanos : ℕ
 gone_nanos = 500_000_000
 
--- A peer has gone that failed, or was seen half a second ago to send no more.
+-- A peer has gone that failed, or was seen at least half a second ago to send no more.
 abbrev pub is_gone : Bool → Option Duration → Duration → Bool
 is_gone true ended now = true
 is_gone false None now = false

@@ -24,7 +24,8 @@ enum Trouble {
 
 /// One connection, with the peer's address. If a signal interrupted an accept, or its connection had failed by then, it is made again.
 /// If the system lacks descriptors or memory, and no connection is ready, it is made again at most `WANTS_TRIED` times: after one connection whose
-/// request isn't whole has left the room, or after a pause if there is none. What came in between is reported once.
+/// request isn't whole has left the room, or after a pause if there is none. Only the first error in
+/// between is reported, and a signal isn't.
 pub fn accept_one<R: Eprint + Clock, L: OpenListener<Stream = S>, S: Drop>(
     rt: &R,
     room: &mut WaitingRoom<L, S>,

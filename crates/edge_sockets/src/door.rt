@@ -215,7 +215,8 @@ where
     }
 }
 
-/// What the look into the cache came to, as the station noted. None if there is no cache.
+/// What the look into the cache came to, as the station noted. None if there is no cache, or there are no
+/// notes.
 fn lookup_of(notes: &Option<SharedNotes>, has_cache: bool) -> Option<Lookup> {
     let was_asked = notes.as_ref()?.take_asked();
     match (has_cache, was_asked) {

@@ -62,8 +62,8 @@ impl Visit<'_> {
     }
 }
 
-/// The exchange and what the look into the cache came to, of a connection that a door read. Of another `denied`, `sent nothing` or
-/// `sent no whole request`, and then `, left for another` if its place was wanted.
+/// `denied`, if the rules deny the peer. `sent nothing`, if no byte was seen. Else the exchange and what the look into the cache came to, if a
+/// door read it, and otherwise `sent no whole request`. Then `, left for another`, if its place was wanted.
 impl Display for Visit<'_> {
     fn fmt<W: fmt::Write>(&self, f: &mut Formatter<W>) -> fmt::Result {
         if self.leaving == Leaving::Denied {

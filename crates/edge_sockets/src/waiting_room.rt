@@ -103,7 +103,7 @@ impl<L, S> WaitingRoom<L, S> {
         Waker::new(self.poll.registry(), WAKER)
     }
 
-    /// Whether the listener has a connection, and there is a place for it.
+    /// Whether the system reported a connection at the listener, and a place is free, or can be made free since none in the room is ready.
     pub fn takes_more(&self) -> bool {
         self.is_called && !(self.free_place().is_none() && self.has_ready())
     }
@@ -167,7 +167,8 @@ impl<L, S> WaitingRoom<L, S> {
 }
 
 impl<L, S: OpenStream + AsRawFd + Drop> WaitingRoom<L, S> {
-    /// Takes in a connection of the peer with this IPv4 address. If there is no place, the one that has waited longest is left.
+    /// Takes in a connection of the peer with this IPv4 address. If there is no place, the one that has waited longest
+    /// of those that aren't ready is left. If all are ready, the new one is closed.
     pub fn take_in<R: Eprint + Clock>(
         &mut self,
         rt: &R,

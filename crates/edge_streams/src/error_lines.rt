@@ -18,7 +18,8 @@ use std::time::Duration;
 /// The standard error, as threads share it that may not be held up by who reads it.
 #[derive(Drop)]
 pub struct ErrorLines {
-    /// Says whether a line can be written at once. None for a file, which takes each line.
+    /// Says whether a line can be written at once. None for a file, which takes each line, or if the system has no poll
+    /// for it.
     stream: Mutex<Option<Watched>>,
     dropped: AtomicU64,
 }

@@ -19,7 +19,7 @@ pub enum Reading {
     Failed,
 }
 
-/// How many bytes of room a stream is given at first if it is expected to have that many. A long one has room for as many as the bound allows: the C
+/// How many bytes of room a stream is given at first, by how many are expected: none if these are above the bound. A long one has room for as many as the bound allows: the C
 /// library gives a block of such a size back to the system at once, and only what is read of it is touched.
 pub fn first_room(expected: u64, bound: u32) -> usize
     ensures none { bound < expected → result ≡ 0 }
