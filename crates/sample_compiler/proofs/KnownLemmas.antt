@@ -16,12 +16,13 @@ use Rattle.sample_compiler.specs.declared.loading.LoadFault.{LoadFault}
 use Rattle.sample_compiler.specs.declared.loading.LoadFault.TheVariants.{Failed, TooMuch, Memory}
 use Rattle.sample_compiler.specs.Lookups.{is_listed}
 use Rattle.sample_compiler.specs.Loads.{entry_of, entry_at, entries_at, unstaged, FetchedFront, LongNamed, HasAbsent, OverrunsStand}
-use Rattle.sample_compiler.specs.Loads.{HidesNone, OnlyFetched}
+use Rattle.sample_compiler.specs.Loads.{HidesNone, LoadFailed, LoadWent, OnlyFetched}
 use Rattle.sample_compiler.specs.declared.task.Task.{Task}
 use Rattle.sample_compiler.specs.Seeking.{is_known, first_unknown, firsts_after, task_names}
 use Rattle.std.specs.Cmp.Lexicographic.{slice_cmp, nat_list_eq_equiv, same_text}
 use Rattle.std.specs.Ordering.{nat_cmp}
 use Rattle.sample_compiler.proofs.LoadLemmas.{at_end, put_at, same_bytes}
+use Rattle.sample_compiler.proofs.Fetching.{cause_then}
 
 -- these names are known, and no others
 abbrev pub Knows : Files → List (List ℕ) → List (List ℕ) → Type 0
@@ -286,3 +287,14 @@ pub hides_then : (start before after : KeeperView) (task : Task) (path : List �
 hides_then start before after task path Failed only listed first last = tt
 hides_then start before after task path (TooMuch bytes) only listed first last = tt
 hides_then start before after task path Memory only listed first last = stands_then start before after task path only listed first last
+
+-- a load of one name that failed after others is a load of all of them that failed
+pub failed_then : (start before after : KeeperView) (task : Task) (path : List ℕ) (fault : LoadFault) → OnlyFetched before after
+    → (IsTrue after.files.known → is_listed (task_names (unstaged after.files.value) task) path ≡ true)
+    → OnlyFetched start before → LoadWent start before (task_names (unstaged before.files.value) task)
+    → LoadFailed before after (path ∷ []) fault → LoadFailed start after (task_names (unstaged after.files.value) task) fault
+failed_then start before after task path fault only listed first went failed = record {
+  cause = cause_then start before after fault first went.calm failed.cause;
+  named = long_among after (task_names (unstaged after.files.value) task) path fault listed failed.named;
+  hides = hides_then start before after task path fault only listed went.missed failed.hides;
+}

@@ -1,7 +1,8 @@
 -- What a load of files leaves, and when it may fail.
-use Rattle.std.specs.Prelude.{ℕ, ◌≡◌, ◌⊎◌, ◌<◌, ◌≤◌, not, true, List, [], ◌∷◌, ◌++◌, length, Option, Some, None, IsTrue}
+use Rattle.std.specs.Prelude.{ℕ, ◌≡◌, ◌⊎◌, ◌||◌, ◌<◌, ◌≤◌, not, true, false, List, [], ◌∷◌, ◌++◌, length, Option, Some, None, IsTrue}
 use Rattle.std.specs.List.{flat_map}
 use Rattle.std.specs.FinMap.{get, retain_keys}
+use Rattle.std.specs.Str.{bytes_eq}
 use Rattle.farm_types.specs.Limits.{source_max}
 use Rattle.farm_types.specs.declared.ran.Ran.{Ran}
 use Rattle.edge_traits.specs.Told.{Told, Grew, Became}
@@ -10,11 +11,12 @@ use Rattle.edge_traits.specs.Causes.{Rose, Still}
 use Rattle.edge_traits.specs.Keepers.{KeeperView, IsIdle, HasLength}
 use Rattle.arg_scan.specs.Names.{is_reserved}
 use Rattle.file_map.specs.FileMaps.{Files}
+use Rattle.sample_compiler.specs.declared.loading.Known.{Known}
 use Rattle.sample_compiler.specs.declared.loading.LoadFault.{LoadFault}
 use Rattle.sample_compiler.specs.declared.loading.LoadFault.TheVariants.{Failed, TooMuch, Memory}
-use Rattle.sample_compiler.specs.Lookups.{is_listed}
+use Rattle.sample_compiler.specs.Lookups.{is_listed, Agrees}
 use Rattle.sample_compiler.specs.Samples.{SampleOf}
-use Rattle.sample_compiler.specs.Seeking.{asked_names, firsts_after}
+use Rattle.sample_compiler.specs.Seeking.{asked_names, firsts_after, is_known}
 use Rattle.sample_compiler.specs.Tasks.{task_of}
 
 -- the files whose names don't end in `.farm~`
@@ -92,6 +94,28 @@ abbrev pub HidesNone : KeeperView → KeeperView → List (List ℕ) → LoadFau
 HidesNone old now names Failed = Unit {0}
 HidesNone old now names (TooMuch bytes) = Unit {0}
 HidesNone old now names Memory = OverrunsStand old now names
+
+-- ---- how it ends
+
+-- A load of these names that went well: no fault, and no overrun but for a name that is no file.
+pub record LoadWent (old now : KeeperView) (names : List (List ℕ)) : Type 0 where
+  pub calm : Still old.faults now.faults
+  pub missed : OverrunsStand old now names
+
+-- A load of these names that failed may return this.
+pub record LoadFailed (old now : KeeperView) (names : List (List ℕ)) (fault : LoadFault) : Type 0 where
+  pub cause : LoadCause old now fault
+  pub named : LongNamed now names fault
+  pub hides : HidesNone old now names fault
+
+-- A file is known after a load, or is known not to be there.
+pub record Learned (now : KeeperView) (before after : Known) (path : List ℕ) : Type 0 where
+  -- what agreed with the keeper's files agrees with them still
+  pub agrees : IsTrue now.files.known → Agrees before.files before.absent false (unstaged now.files.value)
+      → Agrees after.files after.absent false (unstaged now.files.value)
+  -- exactly this name is known, and those that were
+  pub knows : (name : List ℕ) → is_known after.files after.absent name ≡ (is_known before.files before.absent name || bytes_eq path name)
+  pub short : AreShort before.files → AreShort after.files
 
 -- ---- what they leave
 

@@ -1,5 +1,5 @@
 -- What a run of the compiler leaves at a station.
-use Rattle.std.specs.Prelude.{ℕ, ◌≡◌, ◌∷◌, List, [], Bool, false, length, map, codes, ◌&&◌, if◌then◌else◌, Option, Some, None}
+use Rattle.std.specs.Prelude.{ℕ, ◌≡◌, ◌∷◌, List, [], Bool, false, length, map, codes, ◌&&◌, if◌then◌else◌, Option, Some, None, Result, IfErr}
 use Rattle.std.specs.FinMap.{insert}
 use Rattle.std.specs.Str.{bytes_eq}
 use Rattle.farm_types.specs.declared.ran.Ran.{Ran}
@@ -10,7 +10,7 @@ use Rattle.edge_traits.specs.declared.faults.Stream.TheVariants as stream
 use Rattle.edge_traits.specs.declared.faults.StationFault.{StationFault}
 use Rattle.edge_traits.specs.declared.faults.StationFault.TheVariants as fault
 use Rattle.edge_traits.specs.Told.{told}
-use Rattle.edge_traits.specs.Stations.{StationView, has_output}
+use Rattle.edge_traits.specs.Stations.{StationView, has_output, overruns_after_run}
 use Rattle.file_map.specs.FileMaps.{Files}
 use Rattle.sample_compiler.specs.declared.station.SampleStation.{SampleStation}
 use Rattle.sample_compiler.specs.declared.task.Product.{Product}
@@ -84,3 +84,10 @@ station_shows s = record { runs = told s.runs; faults = 0; overruns = s.overruns
 
 abbrev pub fresh_shows : StationView
 fresh_shows = record { runs = told []; faults = 0; overruns = 0 }
+
+-- When a run by these words on this input gives too much, and what that counts.
+pub record OverrunsAre (old new : SampleStation) (words : List Word) (input : List ℕ) (result : Result Ran StationFault) : Type 0 where
+  -- A run that gives too much is one that the compiler leaves, with a stream of exactly that many bytes.
+  pub stops : IfErr result (RunStops (station_files new) words input)
+  -- A run that gives too much counts once, and no other counts.
+  pub count : (station_shows new).overruns ≡ overruns_after_run (station_shows old).overruns result

@@ -1,15 +1,13 @@
 //! The files that a command's words look up, fetched from a keeper of files.
 
-ghost use Rattle.std.specs.Prelude.{ℕ, ◌≡◌, ◌||◌, ◌∷◌, [], List, false, IsTrue, IfOk, IfErr, IfNone, OnOk, OnErr};
-ghost use Rattle.std.specs.Str.{bytes_eq};
-ghost use Rattle.edge_traits.specs.Causes.{Still};
+ghost use Rattle.std.specs.Prelude.{◌≡◌, ◌∷◌, [], false, IsTrue, IfOk, IfErr, IfNone, OnOk, OnErr};
 ghost use Rattle.edge_traits.specs.Told.{Grew};
 ghost use Rattle.file_map.specs.FileMaps.{Files};
 ghost use Rattle.sample_compiler.specs.Lookups.{Agrees};
 ghost use Rattle.sample_compiler.specs.Samples.{task_text};
 ghost use Rattle.edge_traits.specs.Keepers.{IsIdle};
-ghost use Rattle.sample_compiler.specs.Loads.{unstaged, AreShort, entry_at, entries_at, names_for, FetchedFront, LongNamed, OverrunsStand, HidesNone, OnlyFetched, LoadCause, SameRuns};
-ghost use Rattle.sample_compiler.specs.Seeking.{asked_names, first_unknown, firsts_after, is_known, task_names};
+ghost use Rattle.sample_compiler.specs.Loads.{unstaged, AreShort, entry_at, entries_at, names_for, FetchedFront, Learned, LoadWent, LoadFailed, OnlyFetched, SameRuns};
+ghost use Rattle.sample_compiler.specs.Seeking.{asked_names, first_unknown, firsts_after, task_names};
 ghost use Rattle.sample_compiler.specs.Tasks.{task_of};
 
 use crate::compiler::task_text;
@@ -84,21 +82,14 @@ fn learn<K: Keeper>(
     keeper: &mut K,
 ) -> Result<(), LoadFault>
     requires { IsIdle (K.shows keeper.old) }
-    ensures known { OnOk result (IsTrue (K.shows keeper.new).files.known
-        → Agrees known.old.files known.old.absent false (unstaged (K.shows keeper.new).files.value)
-        → Agrees known.new.files known.new.absent false (unstaged (K.shows keeper.new).files.value)) }
-    ensures knows { OnOk result ((name : List ℕ) → is_known known.new.files known.new.absent name ≡ (is_known known.old.files known.old.absent name || bytes_eq path name)) }
-    ensures short { OnOk result (AreShort known.old.files → AreShort known.new.files) }
+    ensures learned { OnOk result (Learned (K.shows keeper.new) known.old known.new path) }
     ensures fetched { OnOk result (IsTrue (K.shows keeper.new).files.known
         → Grew (K.shows keeper.old).fetches (K.shows keeper.new).fetches (entry_at (unstaged (K.shows keeper.new).files.value) path)) }
     ensures tried { OnErr result (IsTrue (K.shows keeper.new).files.known
         → FetchedFront (unstaged (K.shows keeper.new).files.value) (path ∷ []) (K.shows keeper.old).fetches (K.shows keeper.new).fetches) }
-    ensures named { IfErr result (LongNamed (K.shows keeper.new) (path ∷ [])) }
-    ensures missed { OnOk result (OverrunsStand (K.shows keeper.old) (K.shows keeper.new) (path ∷ [])) }
-    ensures hides { IfErr result (HidesNone (K.shows keeper.old) (K.shows keeper.new) (path ∷ [])) }
+    ensures went { OnOk result (LoadWent (K.shows keeper.old) (K.shows keeper.new) (path ∷ [])) }
+    ensures failed { IfErr result (LoadFailed (K.shows keeper.old) (K.shows keeper.new) (path ∷ [])) }
     ensures only { OnlyFetched (K.shows keeper.old) (K.shows keeper.new) }
-    ensures calm { OnOk result (Still (K.shows keeper.old).faults (K.shows keeper.new).faults) }
-    ensures cause { IfErr result (LoadCause (K.shows keeper.old) (K.shows keeper.new)) }
 {
     if is_reserved(path.as_slice()) {
         known.absent.try_push(path)?;
@@ -129,12 +120,9 @@ fn load_task<K: Keeper>(alloc: Global, task: &Task, keeper: &mut K) -> Result<Fi
         → Grew (K.shows keeper.old).fetches (K.shows keeper.new).fetches (entries_at (unstaged (K.shows keeper.new).files.value) (firsts_after [] (task_names (unstaged (K.shows keeper.new).files.value) task.now)))) }
     ensures tried { OnErr result (IsTrue (K.shows keeper.new).files.known
         → FetchedFront (unstaged (K.shows keeper.new).files.value) (firsts_after [] (task_names (unstaged (K.shows keeper.new).files.value) task.now)) (K.shows keeper.old).fetches (K.shows keeper.new).fetches) }
-    ensures named { IfErr result (LongNamed (K.shows keeper.new) (task_names (unstaged (K.shows keeper.new).files.value) task.now)) }
-    ensures missed { OnOk result (OverrunsStand (K.shows keeper.old) (K.shows keeper.new) (task_names (unstaged (K.shows keeper.new).files.value) task.now)) }
-    ensures hides { IfErr result (HidesNone (K.shows keeper.old) (K.shows keeper.new) (task_names (unstaged (K.shows keeper.new).files.value) task.now)) }
+    ensures went { OnOk result (LoadWent (K.shows keeper.old) (K.shows keeper.new) (task_names (unstaged (K.shows keeper.new).files.value) task.now)) }
+    ensures failed { IfErr result (LoadFailed (K.shows keeper.old) (K.shows keeper.new) (task_names (unstaged (K.shows keeper.new).files.value) task.now)) }
     ensures only { OnlyFetched (K.shows keeper.old) (K.shows keeper.new) }
-    ensures calm { OnOk result (Still (K.shows keeper.old).faults (K.shows keeper.new).faults) }
-    ensures cause { IfErr result (LoadCause (K.shows keeper.old) (K.shows keeper.new)) }
 {
     let mut known = Known {
         files: FileMap::new(alloc),
@@ -162,12 +150,9 @@ pub fn load<K: Keeper>(alloc: Global, words: &Words, keeper: &mut K) -> Result<F
         → Grew (K.shows keeper.old).fetches (K.shows keeper.new).fetches (entries_at (unstaged (K.shows keeper.new).files.value) (names_for (unstaged (K.shows keeper.new).files.value) words.now))) }
     ensures tried { OnErr result (IsTrue (K.shows keeper.new).files.known
         → FetchedFront (unstaged (K.shows keeper.new).files.value) (names_for (unstaged (K.shows keeper.new).files.value) words.now) (K.shows keeper.old).fetches (K.shows keeper.new).fetches) }
-    ensures named { IfErr result (LongNamed (K.shows keeper.new) (asked_names (unstaged (K.shows keeper.new).files.value) (task_of words.now))) }
-    ensures missed { OnOk result (OverrunsStand (K.shows keeper.old) (K.shows keeper.new) (asked_names (unstaged (K.shows keeper.new).files.value) (task_of words.now))) }
-    ensures hides { IfErr result (HidesNone (K.shows keeper.old) (K.shows keeper.new) (asked_names (unstaged (K.shows keeper.new).files.value) (task_of words.now))) }
+    ensures went { OnOk result (LoadWent (K.shows keeper.old) (K.shows keeper.new) (asked_names (unstaged (K.shows keeper.new).files.value) (task_of words.now))) }
+    ensures failed { IfErr result (LoadFailed (K.shows keeper.old) (K.shows keeper.new) (asked_names (unstaged (K.shows keeper.new).files.value) (task_of words.now))) }
     ensures only { OnlyFetched (K.shows keeper.old) (K.shows keeper.new) }
-    ensures calm { OnOk result (Still (K.shows keeper.old).faults (K.shows keeper.new).faults) }
-    ensures cause { IfErr result (LoadCause (K.shows keeper.old) (K.shows keeper.new)) }
 {
     match task_of(alloc, words.as_slice())? {
         Some(task) => load_task(alloc, &task, keeper),

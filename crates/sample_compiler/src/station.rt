@@ -144,8 +144,8 @@ impl SampleStation {
 impl Station for SampleStation {
     ghost use Rattle.std.specs.Prelude.{◌≡◌, ◌≤◌, false, [], IfOk, IfErr, OnOk};
     ghost use Rattle.edge_traits.specs.Told.{Grew, SameRelation3};
-    ghost use Rattle.edge_traits.specs.Stations.{IsWithin, StationStill, RunFault, has_output, run_entries, overruns_after_run};
-    ghost use Rattle.sample_compiler.specs.Stations.{StationRan, RunStops, station_files, station_shows};
+    ghost use Rattle.edge_traits.specs.Stations.{IsWithin, StationStill, RunFault, has_output, run_entries};
+    ghost use Rattle.sample_compiler.specs.Stations.{StationRan, OverrunsAre, station_files, station_shows};
 
     ghost shows = { station_shows };
 
@@ -159,6 +159,9 @@ impl Station for SampleStation {
         input: &[u8],
         bounds: &Bounds,
     ) -> Result<Ran, StationFault>
+        ensures overrun { OverrunsAre self.old self.new words.now input.now result }
+
+        // What each station ensures.
         ensures within { IfOk result (IsWithin bounds.now) }
         ensures ran { IfOk result (StationRan (station_files self.new) words.now input.now) }
         ensures no_object { IfOk result (λ ran. has_output words.now ≡ false → ran.object ≡ []) }
@@ -168,11 +171,6 @@ impl Station for SampleStation {
         ensures overruns { (station_shows self.old).overruns ≤ (station_shows self.new).overruns }
         ensures done { OnOk result (StationStill (station_shows self.old) (station_shows self.new)) }
         ensures cause { IfErr result (RunFault bounds.now (station_shows self.old) (station_shows self.new)) }
-
-        // A run that gives too much is one that the compiler leaves, with a stream of exactly that many bytes.
-        ensures stops { IfErr result (RunStops (station_files self.new) words.now input.now) }
-        // A run that gives too much counts once, and no other counts.
-        ensures count { (station_shows self.new).overruns ≡ overruns_after_run (station_shows self.old).overruns result }
     {
         let room = Room::new(alloc)?;
         let ran = left(alloc, &mut self.files, words, input)?;

@@ -4,19 +4,18 @@ use Rattle.sample_compiler.specs.Lookups.{is_listed}
 use Rattle.sample_compiler.specs.Seeking.{task_names}
 use Rattle.sample_compiler.specs.Loads.{unstaged}
 use Rattle.sample_compiler.proofs.LoadLemmas.{nothing_agrees, none_short}
-use Rattle.sample_compiler.proofs.Fetching.{only_none, only_then, cause_then, agrees_on, agrees_then}
-use Rattle.sample_compiler.proofs.KnownLemmas.{nothing_loaded, loading_on, loading_more, loading_done, loading_failed, long_among}
-use Rattle.sample_compiler.proofs.KnownLemmas.{next_listed, stands_then, hides_then}
+use Rattle.sample_compiler.proofs.Fetching.{only_none, only_then, agrees_on, agrees_then}
+use Rattle.sample_compiler.proofs.KnownLemmas.{nothing_loaded, loading_on, loading_more, loading_done, loading_failed}
+use Rattle.sample_compiler.proofs.KnownLemmas.{next_listed, stands_then, failed_then}
 use Rattle.sample_compiler.proofs.loading.load_task.Goals as goal
 
 pub loop-turn-init : goal.loop-turn-init
 loop-turn-init g c = record {
   only = only_none (g.K.Keeper.shows c.args.keeper.now) c.requires;
-  calm = refl;
+  went = record { calm = refl; missed = λ told. inl refl };
   agrees = λ told. nothing_agrees c.new.result (unstaged (g.K.Keeper.shows c.args.keeper.now).files.value) c.new-2.result
       c.new.ensures c.new-2.ensures;
   short = none_short c.new.result c.new.ensures;
-  stands = λ told. inl refl;
   loading = λ told. nothing_loaded (unstaged (g.K.Keeper.shows c.args.keeper.now).files.value) c.new.result c.new-2.result
       (task_names (unstaged (g.K.Keeper.shows c.args.keeper.now).files.value) c.args.task.now)
       (g.K.Keeper.shows c.args.keeper.now).fetches c.new.ensures c.new-2.ensures;
@@ -26,13 +25,6 @@ pub returns-in_err-learn-in-Some-clause-only : goal.returns-in_err-learn-in-Some
 returns-in_err-learn-in-Some-clause-only g c =
     only_then (g.K.Keeper.shows c.args.keeper.now) (g.K.Keeper.shows c.loop-turn.keeper) (g.K.Keeper.shows c.learn.new.keeper)
     c.loop-turn.invariant.only c.learn.ensures.only
-
-pub returns-in_err-learn-in-Some-clause-cause : goal.returns-in_err-learn-in-Some-clause-cause
-returns-in_err-learn-in-Some-clause-cause g c =
-    let p = err_from_is_err_and c.from_residual-in_err-learn-in-Some.result c.from_residual-in_err-learn-in-Some.ensures.1 in
-    rw (p.1, p.2) (cause_then (g.K.Keeper.shows c.args.keeper.now) (g.K.Keeper.shows c.loop-turn.keeper)
-    (g.K.Keeper.shows c.learn.new.keeper) c.in_err-learn-in-Some.field-0.0 c.loop-turn.invariant.only c.loop-turn.invariant.calm
-    c.in_err-learn-in-Some.ensures.cause)
 
 pub returns-in-None-clause-same : goal.returns-in-None-clause-same
 returns-in-None-clause-same g c told =
@@ -64,22 +56,8 @@ returns-in_err-learn-in-Some-clause-tried g c =
     loading_failed files c.loop-turn.known.files c.loop-turn.known.absent (task_names files c.args.task.now) c.in-Some.path
     start.fetches before.fetches after.fetches loading first (c.in_err-learn-in-Some.ensures.tried told))
 
-pub returns-in_err-learn-in-Some-clause-named : goal.returns-in_err-learn-in-Some-clause-named
-returns-in_err-learn-in-Some-clause-named g c =
-    let p = err_from_is_err_and c.from_residual-in_err-learn-in-Some.result c.from_residual-in_err-learn-in-Some.ensures.1 in
-    let before = g.K.Keeper.shows c.loop-turn.keeper in
-    let after = g.K.Keeper.shows c.learn.new.keeper in
-    let files = unstaged after.files.value in
-    let listed : IsTrue after.files.known → is_listed (task_names files c.args.task.now) c.in-Some.path ≡ true = λ told.
-    let agrees = agrees_on before after c.loop-turn.known.files c.loop-turn.known.absent c.learn.ensures.only told
-    (c.loop-turn.invariant.agrees (c.learn.ensures.only.files.known told)) in
-    next_listed c.loop-turn.known.files c.loop-turn.known.absent (task_names files c.args.task.now) c.in-Some.path
-    (rw c.in-Some.is at (c.in_ok-path.ensures.first files agrees)) in
-    rw (p.1, p.2) (long_among after (task_names files c.args.task.now) c.in-Some.path c.in_err-learn-in-Some.field-0.0 listed
-    c.in_err-learn-in-Some.ensures.named)
-
-pub returns-in_err-learn-in-Some-clause-hides : goal.returns-in_err-learn-in-Some-clause-hides
-returns-in_err-learn-in-Some-clause-hides g c =
+pub returns-in_err-learn-in-Some-clause-failed : goal.returns-in_err-learn-in-Some-clause-failed
+returns-in_err-learn-in-Some-clause-failed g c =
     let p = err_from_is_err_and c.from_residual-in_err-learn-in-Some.result c.from_residual-in_err-learn-in-Some.ensures.1 in
     let start = g.K.Keeper.shows c.args.keeper.now in
     let before = g.K.Keeper.shows c.loop-turn.keeper in
@@ -90,8 +68,8 @@ returns-in_err-learn-in-Some-clause-hides g c =
     (c.loop-turn.invariant.agrees (c.learn.ensures.only.files.known told)) in
     next_listed c.loop-turn.known.files c.loop-turn.known.absent (task_names files c.args.task.now) c.in-Some.path
     (rw c.in-Some.is at (c.in_ok-path.ensures.first files agrees)) in
-    rw (p.1, p.2) (hides_then start before after c.args.task.now c.in-Some.path c.in_err-learn-in-Some.field-0.0
-    c.learn.ensures.only listed c.loop-turn.invariant.stands c.in_err-learn-in-Some.ensures.hides)
+    rw (p.1, p.2) (failed_then start before after c.args.task.now c.in-Some.path c.in_err-learn-in-Some.field-0.0
+    c.learn.ensures.only listed c.loop-turn.invariant.only c.loop-turn.invariant.went c.in_err-learn-in-Some.ensures.failed)
 
 pub loop-turn-preserved : goal.loop-turn-preserved
 loop-turn-preserved g c =
@@ -100,18 +78,20 @@ loop-turn-preserved g c =
     let after = g.K.Keeper.shows c.learn.new.keeper in
     record {
       only = only_then start before after c.loop-turn.invariant.only c.learn.ensures.only;
-      calm = c.in_ok-learn-in-Some.ensures.calm ∙ c.loop-turn.invariant.calm;
       agrees = agrees_then before after c.loop-turn.known.files c.learn.new.known.files c.loop-turn.known.absent
-          c.learn.new.known.absent c.learn.ensures.only c.loop-turn.invariant.agrees c.in_ok-learn-in-Some.ensures.known;
-      short = c.in_ok-learn-in-Some.ensures.short c.loop-turn.invariant.short;
-      stands = stands_then start before after c.args.task.now c.in-Some.path c.learn.ensures.only
-          (λ told.
-          let files = unstaged after.files.value in
-          let agrees = agrees_on before after c.loop-turn.known.files c.loop-turn.known.absent c.learn.ensures.only told
-          (c.loop-turn.invariant.agrees (c.learn.ensures.only.files.known told)) in
-          next_listed c.loop-turn.known.files c.loop-turn.known.absent (task_names files c.args.task.now) c.in-Some.path
-          (rw c.in-Some.is at (c.in_ok-path.ensures.first files agrees)))
-          c.loop-turn.invariant.stands c.in_ok-learn-in-Some.ensures.missed;
+          c.learn.new.known.absent c.learn.ensures.only c.loop-turn.invariant.agrees c.in_ok-learn-in-Some.ensures.learned.agrees;
+      short = c.in_ok-learn-in-Some.ensures.learned.short c.loop-turn.invariant.short;
+      went = record {
+        calm = c.in_ok-learn-in-Some.ensures.went.calm ∙ c.loop-turn.invariant.went.calm;
+        missed = stands_then start before after c.args.task.now c.in-Some.path c.learn.ensures.only
+            (λ told.
+            let files = unstaged after.files.value in
+            let agrees = agrees_on before after c.loop-turn.known.files c.loop-turn.known.absent c.learn.ensures.only told
+            (c.loop-turn.invariant.agrees (c.learn.ensures.only.files.known told)) in
+            next_listed c.loop-turn.known.files c.loop-turn.known.absent (task_names files c.args.task.now) c.in-Some.path
+            (rw c.in-Some.is at (c.in_ok-path.ensures.first files agrees)))
+            c.loop-turn.invariant.went.missed c.in_ok-learn-in-Some.ensures.went.missed;
+      };
       loading = λ told.
           let files = unstaged after.files.value in
           let earlier = c.learn.ensures.only.files.known told in
@@ -122,5 +102,5 @@ loop-turn-preserved g c =
           let first = rw c.in-Some.is at (c.in_ok-path.ensures.first files agrees) in
           loading_more files c.loop-turn.known.files c.learn.new.known.files c.loop-turn.known.absent c.learn.new.known.absent
           (task_names files c.args.task.now) c.in-Some.path start.fetches before.fetches after.fetches loading first
-          c.in_ok-learn-in-Some.ensures.knows (c.in_ok-learn-in-Some.ensures.fetched told);
+          c.in_ok-learn-in-Some.ensures.learned.knows (c.in_ok-learn-in-Some.ensures.fetched told);
     }

@@ -11,8 +11,8 @@ returns-in_err-put_object-clause-stop g c =
     let before = g.K.Keeper.shows c.args.keeper.now in
     let mid = g.K.Keeper.shows c.load.new.keeper in
     let after = g.K.Keeper.shows c.put_object.new.keeper in
-    let done = loaded words c.in_ok-words.words before mid c.in_ok-words.ensures c.in-Ok.ensures.only c.in-Ok.ensures.calm
-    c.in-Ok.ensures.fetched c.in-Ok.ensures.missed in
+    let done = loaded words c.in_ok-words.words before mid c.in_ok-words.ensures c.in-Ok.ensures.only c.in-Ok.ensures.went.calm
+    c.in-Ok.ensures.fetched c.in-Ok.ensures.went.missed in
     rw (p.1, p.2) (stopped_put words before mid after c.in_err-put_object.field-0.0 done c.in_err-put_object.ensures.err
     c.put_object.ensures.none c.in_err-put_object.ensures.cause)
 
@@ -22,8 +22,8 @@ returns-clause-ran g c =
     let before = g.K.Keeper.shows c.args.keeper.now in
     let mid = g.K.Keeper.shows c.load.new.keeper in
     let after = g.K.Keeper.shows c.put_object.new.keeper in
-    let done = loaded words c.in_ok-words.words before mid c.in_ok-words.ensures c.in-Ok.ensures.only c.in-Ok.ensures.calm
-    c.in-Ok.ensures.fetched c.in-Ok.ensures.missed in
+    let done = loaded words c.in_ok-words.words before mid c.in_ok-words.ensures c.in-Ok.ensures.only c.in-Ok.ensures.went.calm
+    c.in-Ok.ensures.fetched c.in-Ok.ensures.went.missed in
     did_run words c.in_ok-words.words before mid after c.in-Ok.files c.in_ok-ran.ran c.in_ok-asked.asked c.in_ok-words.ensures done
     c.in-Ok.ensures.same c.in_ok-ran.ensures (c.in_ok-asked.ensures.task ∙ ap task_of c.as_slice.ensures)
     c.in_ok-put_object.ensures.ok c.put_object.ensures.none c.in_ok-put_object.ensures.calm
@@ -35,8 +35,8 @@ returns-in_err-asked-clause-stop g c =
     let before = g.K.Keeper.shows c.args.keeper.now in
     let mid = g.K.Keeper.shows c.load.new.keeper in
     rw (p.1, p.2) (stopped_loaded words before mid
-    (loaded words c.in_ok-words.words before mid c.in_ok-words.ensures c.in-Ok.ensures.only c.in-Ok.ensures.calm
-    c.in-Ok.ensures.fetched c.in-Ok.ensures.missed))
+    (loaded words c.in_ok-words.words before mid c.in_ok-words.ensures c.in-Ok.ensures.only c.in-Ok.ensures.went.calm
+    c.in-Ok.ensures.fetched c.in-Ok.ensures.went.missed))
 
 pub returns-in_err-ran-clause-stop : goal.returns-in_err-ran-clause-stop
 returns-in_err-ran-clause-stop g c =
@@ -45,5 +45,5 @@ returns-in_err-ran-clause-stop g c =
     let before = g.K.Keeper.shows c.args.keeper.now in
     let mid = g.K.Keeper.shows c.load.new.keeper in
     rw (p.1, p.2) (stopped_loaded words before mid
-    (loaded words c.in_ok-words.words before mid c.in_ok-words.ensures c.in-Ok.ensures.only c.in-Ok.ensures.calm
-    c.in-Ok.ensures.fetched c.in-Ok.ensures.missed))
+    (loaded words c.in_ok-words.words before mid c.in_ok-words.ensures c.in-Ok.ensures.only c.in-Ok.ensures.went.calm
+    c.in-Ok.ensures.fetched c.in-Ok.ensures.went.missed))
