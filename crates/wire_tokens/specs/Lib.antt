@@ -7,3 +7,4 @@ pub mod Step
 pub mod Request
 pub mod Numbers
 pub mod Partial
+pub mod Laws

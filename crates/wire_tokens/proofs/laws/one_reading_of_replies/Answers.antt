@@ -5,20 +5,25 @@ use Rattle.wire_tokens.proofs.laws.one_reading_of_replies.Goals as goal
 
 pub returns : goal.returns
 returns c = record {
-  one_spelling = laws.one_value;
-  one_value = laws.one_meaning;
-  no_proper_prefix = laws.no_longer_spelling;
+  spellings = record {
+    one_spelling = laws.one_value;
+    one_value = laws.one_meaning;
+    no_proper_prefix = laws.no_longer_spelling;
+  };
   written = reply_written;
   read_again = laws.written_again;
-  one_fault = laws.one_fault;
-  longer = laws.fault_longer;
-  one_of_three = laws.one_of_three;
-  spelled_or_fault = laws.spelled_or_fault;
-  spelled_or_short = λ text used v b s. s.no_value used v b;
-  fault_or_short = λ text at fault t s. s.no_fault at fault t;
-  empty = laws.empty_is_short;
-  cut = laws.cut_is_short;
+  faults = record { one_fault = laws.one_fault; longer = laws.fault_longer };
+  kinds = record {
+    one_of_three = laws.one_of_three;
+    spelled_or_fault = laws.spelled_or_fault;
+    spelled_or_short = λ text used v b s. s.no_value used v b;
+    fault_or_short = λ text at fault t s. s.no_fault at fault t;
+  };
   len = length-reply_text;
-  short = laws.short_len;
-  longest = longest_short_reply;
+  short_texts = record {
+    empty = laws.empty_is_short;
+    cut = laws.cut_is_short;
+    short = laws.short_len;
+    longest = longest_short_reply;
+  };
 }
