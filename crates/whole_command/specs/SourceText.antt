@@ -1,5 +1,5 @@
 -- What only the source's own text gives a compiler, and its preprocessed text doesn't.
-use Rattle.std.specs.Prelude.{ℕ, Bool, false, not, ◌&&◌, ◌||◌, bytes_eq, nat_eq, if◌then◌else◌, List, [], ◌∷◌, drop, codes}
+use Rattle.std.specs.Prelude.{ℕ, Bool, true, false, not, ◌&&◌, ◌||◌, bytes_eq, nat_eq, if◌then◌else◌, List, [], ◌∷◌, drop, codes}
 use Rattle.std.specs.List.{list_any, position_or_len, starts_with}
 use Rattle.std.specs.Option.{is_some}
 use Rattle.memchr.specs.Find.{first_of, matches}
