@@ -143,22 +143,37 @@ fn seen_of(ended: &Ended) -> Option<(u8, usize)> {
     }
 }
 
+// The streams of a run.
+#[derive(Drop)]
+struct Streams {
+    input: MemSource,
+    out: MemSink,
+    err: MemSink,
+}
+
 // Does the jobs of these words.
 fn run<W: Threads + Wait + Sync>(
     rt: &W,
     alloc: Global,
     words: &[String],
-    input: &mut MemSource,
     kits: &mut Vec<FileKit>,
-    out: &mut MemSink,
-    err: &mut MemSink,
+    streams: &mut Streams,
 ) -> Option<(u8, usize)>
-    requires input { (source_shows (source_state input.old)).ended ≡ false }
+    requires input { (source_shows (source_state streams.old.input)).ended ≡ false }
     requires kits { AreReady 1 (λ kit. IsIdle (keeper_view (files_shows (files_state kit.keeper.files)) kit.keeper.pending)) kits.old.items }
-    requires out { (sink_shows (sink_state out.old)).stopped ≡ false }
-    requires err { (sink_shows (sink_state err.old)).stopped ≡ false }
+    requires out { (sink_shows (sink_state streams.old.out)).stopped ≡ false }
+    requires err { (sink_shows (sink_state streams.old.err)).stopped ≡ false }
 {
-    let ended = farm(rt, alloc, words, &[], input, kits, out, err);
+    let ended = farm(
+        rt,
+        alloc,
+        words,
+        &[],
+        &mut streams.input,
+        kits,
+        &mut streams.out,
+        &mut streams.err,
+    );
     seen_of(&ended)
 }
 
@@ -211,15 +226,17 @@ pub fn twelve_jobs<W: Threads + Wait + Sync>(
 ) -> Result<Verdict, AllocError> {
     let words = words_of(alloc, shape)?;
     let text = job_list(alloc, shape)?;
-    let mut input = MemSource::new(text, CallNumbers::new(alloc), 4_096);
+    let mut streams = Streams {
+        input: MemSource::new(text, CallNumbers::new(alloc), 4_096),
+        out: MemSink::new(alloc, moves(alloc)),
+        err: MemSink::new(alloc, moves(alloc)),
+    };
     let mut kits = kits(alloc, shape == Shape::Four)?;
-    let mut out = MemSink::new(alloc, moves(alloc));
-    let mut err = MemSink::new(alloc, moves(alloc));
-    let words = words.as_slice();
-    let Some((status, reports)) = run(rt, alloc, words, &mut input, &mut kits, &mut out, &mut err)
-    else {
+    let Some((status, reports)) = run(rt, alloc, words.as_slice(), &mut kits, &mut streams) else {
         return Ok(Verdict::Wrong("a slot isn't back"));
     };
     let whole = all_objects(alloc, kits)?;
-    Ok(judge(status, out.written(), err.written(), reports, whole))
+    let out = streams.out.written();
+    let err = streams.err.written();
+    Ok(judge(status, out, err, reports, whole))
 }
