@@ -1,10 +1,12 @@
 // A compile command: it is sent as a job, or run here as it stands.
-ghost use Rattle.std.specs.Prelude.{◌≡◌, All, IfOk, None, vec_len};
+ghost use Rattle.std.specs.Prelude.{◌≡◌, All, IfOk, IfSome, None, vec_len};
+ghost use Rattle.arg_scan.specs.Class.{IsRemote, plan_of};
 
-use crate::command::{add_words, bytes_of, compile_command, driver_named, is_whole};
+use crate::command::{add_words, bytes_of, compile_command, driver_named, is_whole, plan_for};
 use crate::run::tell_end;
 use crate::settings::{FALLBACK, HOSTS, notices_of, variables_of};
 use crate::sharing::{Lent, share_slot};
+use arg_scan::Plan;
 use desk_real::{Below, VARIABLE, parse_variable, within_text};
 use edge_real::{
     ChildStation, DiskFiles, KitSettings, StdSink, StdSource, SystemKit, TcpDialer, WaitingStream,
@@ -42,17 +44,8 @@ pub fn compile<W: Threads + Wait + Sync>(
     rt: &HostRuntime,
     words: Vec<String>,
 ) -> Result<u8, AllocError> {
-    let variables = variables_of(rt, true)?;
-    let asked = compile_command(words.as_slice()).unwrap_or(&[]);
-    let command = bytes_of(rt.alloc(), asked)?;
-    let driver = driver_named(rt, asked)?;
-    let place = place_of(rt, &command, driver.as_slice(), variables.as_slice())?;
-    let mut job = Job {
-        words,
-        command,
-        driver,
-        variables,
-    };
+    let mut job = job_of(rt, words)?;
+    let place = place_of(rt, &job)?;
     let Some(text) = variable(rt, VARIABLE)? else {
         return Ok(do_job(waits, rt, None, job, place)?.status);
     };
@@ -85,13 +78,33 @@ pub fn compile<W: Threads + Wait + Sync>(
     Ok(end.status)
 }
 
-// A compile command: the words of the command line, those after `cc`, the name of the driver that they run, and the variables.
+// A compile command: the words of the command line, those after `cc`, how these are sent if they may be, the name of the driver that they run, and the
+// variables.
 #[derive(Drop)]
 struct Job {
     words: Vec<String>,
     command: Words,
+    plan: Option<Plan>,
     driver: Bytes,
     variables: Vec<(String, String)>,
+}
+
+// The compile command of a command line.
+fn job_of(rt: &HostRuntime, words: Vec<String>) -> Result<Job, AllocError>
+    ensures { IfOk result (λ job. IfSome job.plan (λ plan. IsRemote job.command × (plan ≡ plan_of job.command))) }
+{
+    let variables = variables_of(rt, true)?;
+    let asked = compile_command(words.as_slice()).unwrap_or(&[]);
+    let command = bytes_of(rt.alloc(), asked)?;
+    let driver = driver_named(rt, asked)?;
+    let plan = plan_for(&command);
+    Ok(Job {
+        words,
+        command,
+        plan,
+        driver,
+        variables,
+    })
 }
 
 // How a compile command ended: its exit status, and whether the exchange with its host broke.
@@ -108,7 +121,9 @@ fn do_job<W: Threads + Wait + Sync>(
     mark: Option<&str>,
     job: Job,
     place: Place,
-) -> Result<Done, AllocError> {
+) -> Result<Done, AllocError>
+    requires plan { IfSome job.plan (λ plan. IsRemote job.command × (plan ≡ plan_of job.command)) }
+{
     let below = Below::new(*rt, mark);
     let mut words = job.words;
     let variables = job.variables.as_slice();
@@ -121,7 +136,9 @@ fn do_job<W: Threads + Wait + Sync>(
         });
     }
     let count = words.len();
-    add_words(rt, &mut words, &job.command, job.driver.as_slice())?;
+    if let Some(plan) = &job.plan {
+        add_words(rt, &mut words, &job.command, plan, job.driver.as_slice())?;
+    }
     // A driver of gcc or clang leaves no empty object.
     let puts_empty = !is_driver(job.driver.as_slice());
     let kits = kits_of(rt, below, puts_empty, fallback)?;
@@ -161,12 +178,8 @@ impl Place {
     }
 }
 
-fn place_of(
-    rt: &HostRuntime,
-    command: &Words,
-    driver: &[u8],
-    variables: &[(String, String)],
-) -> Result<Place, AllocError> {
+fn place_of(rt: &HostRuntime, job: &Job) -> Result<Place, AllocError> {
+    let variables = job.variables.as_slice();
     let Some(_period) = back_off_period(variables) else {
         return Ok(Place::Host);
     };
@@ -176,8 +189,12 @@ fn place_of(
     ) {
         Err(HostError::Fault { .. }) => Ok(Place::Host),
         Err(HostError::Memory) => Err(AllocError),
-        Ok(_) if is_whole(rt, command, driver)? => Ok(Place::Here),
-        Ok(hosts) => Ok(first_of(hosts.list.as_slice())),
+        Ok(hosts) => match &job.plan {
+            Some(plan) if !is_whole(rt, &job.command, plan, job.driver.as_slice())? => {
+                Ok(first_of(hosts.list.as_slice()))
+            }
+            _ => Ok(Place::Here),
+        },
     }
 }
 

@@ -1,5 +1,6 @@
 use crate::lines::{line_of, words_of};
 use crate::same::same_bytes;
+use arg_scan::remote_plan;
 use arg_strip::is_remote;
 use dependency_words::dependency_words;
 use farm_types::{Bytes, Words};
@@ -43,7 +44,7 @@ fn with_added(alloc: Global, given: &Words) -> Result<Bytes, Fail> {
     if !is_remote(given) {
         return Err(Fail::from("not remote"));
     }
-    let all = dependency_words(alloc, given)?;
+    let all = dependency_words(alloc, given, &remote_plan(given))?;
     Ok(line_of(alloc, all.as_slice())?)
 }
 
