@@ -40,9 +40,7 @@ fn move_in<A: Drop, S: Station + Drop>(
         let DoorKit { door, station } = kit;
         let book = Book::new(alloc, bound);
         let station = CachedStation { station, book };
-        let Ok(()) = cached.push(DoorKit { door, station }) else {
-            unreachable!()
-        };
+        cached.push_reserved(DoorKit { door, station });
     }
 }
 
@@ -62,12 +60,8 @@ fn move_out<A: Drop, S: Station + Drop>(
     'moving: while let Some(kit) = cached.pop() {
         let DoorKit { door, station } = kit;
         let CachedStation { station, book } = station;
-        let Ok(()) = stats.push(book.stats()) else {
-            unreachable!()
-        };
-        let Ok(()) = doors.push(DoorKit { door, station }) else {
-            unreachable!()
-        };
+        stats.push_reserved(book.stats());
+        doors.push_reserved(DoorKit { door, station });
     }
     stats.reverse();
     doors.reverse();

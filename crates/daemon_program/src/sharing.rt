@@ -52,9 +52,7 @@ fn share_in<'a, A: Drop, S: Station + Drop, P: Sharing, R>(
         };
         let DoorKit { door, station } = kit;
         let station = SharedStation::new(rt, book, bound, station);
-        let Ok(()) = shared.push(DoorKit { door, station }) else {
-            unreachable!()
-        };
+        shared.push_reserved(DoorKit { door, station });
     }
 }
 
@@ -73,12 +71,8 @@ fn share_out<'a, A: Drop, S: Station + Drop, P: Sharing, R>(
     'moving: while let Some(kit) = shared.pop() {
         let DoorKit { door, station } = kit;
         let (station, counted) = station.apart();
-        let Ok(()) = counts.push(counted) else {
-            unreachable!()
-        };
-        let Ok(()) = doors.push(DoorKit { door, station }) else {
-            unreachable!()
-        };
+        counts.push_reserved(counted);
+        doors.push_reserved(DoorKit { door, station });
     }
     counts.reverse();
     doors.reverse();

@@ -18,9 +18,7 @@ pub(crate) fn note(log: &mut Vec<Entry>, entry: Entry)
     ensures len { vec_len log.new ≡ vec_len log.old + 1 }
     ensures capacity { vec_capacity log.old ≤ vec_capacity log.new }
 {
-    let Ok(()) = log.push(entry) else {
-        unreachable!()
-    };
+    log.push_reserved(entry);
 }
 
 /// Serves the connections of one door, one after the other: `config.serve` of them, or fewer if the door fails or memory runs out at it. Each is

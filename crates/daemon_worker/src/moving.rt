@@ -46,9 +46,7 @@ pub(crate) fn take_kits<A: Drop, S: Drop>(
         let Some(kit) = doors.pop() else {
             unreachable!()
         };
-        let Ok(()) = workers.push(Worker { kit, log }) else {
-            unreachable!()
-        };
+        workers.push_reserved(Worker { kit, log });
     }
     Ok(workers)
 }
@@ -63,9 +61,7 @@ pub(crate) fn put_back<A: Drop, S: Drop>(
 {
     'moving: while let Some(worker) = workers.pop() {
         let Worker { kit, log: _ } = worker;
-        let Ok(()) = doors.push(kit) else {
-            unreachable!()
-        };
+        doors.push_reserved(kit);
     }
     doors.reverse();
 }

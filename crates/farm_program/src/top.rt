@@ -25,6 +25,7 @@ use crate::work::carry_out;
 use edge_traits::{Clock, Dialer, Keeper, Kit, Sink, Source, Station};
 use farm_answers::{Refusal, refuse};
 use farm_words::parse_command;
+use kit_types::{KitOf, KitTypes, Observed};
 use std::alloc::Global;
 use std::sync::Wait;
 use std::thread::Threads;
@@ -53,29 +54,18 @@ fn end_refused<O: Sink, E: Sink>(alloc: Global, refusal: Refusal, out: &mut O, e
 }
 
 // Does a command, and answers its exit status.
-fn answer<
-    T: Threads + Wait + Sync,
-    D: Dialer + Send + Drop,
-    S: Station + Send + Drop,
-    K: Keeper + Send + Drop,
-    C: Clock + Send + Drop,
-    R: Source,
-    O: Sink,
-    E: Sink + Send,
->(
+fn answer<T: Threads + Wait + Sync, X: KitTypes, R: Source, O: Sink, E: Sink + Send>(
     rt: &T,
     call: Invocation<'_>,
     input: &mut R,
-    kits: &mut Vec<Kit<D, S, K, C>>,
+    kits: &mut Vec<KitOf<X>>,
     out: &mut O,
     err: &mut E,
 ) -> Ended
-where
-    D::Link: Send,
     requires input { (R.shows input.old).ended ≡ false }
-    requires kits { AreReady 1 (λ kit. IsIdle (K.shows kit.keeper)) kits.old.items }
+    requires kits { AreReady 1 (λ kit. IsIdle (X.Keeper.shows kit.keeper)) kits.old.items }
     requires within { IsWithin (meaning call.command) }
-    ensures does { Does (devices D.shows S.shows K.shows C.shows D.may_give S.ran)
+    ensures does { Does ⟦<KitOf<X> as Observed>⟧.devices
         (map (λ v. (string_bytes v.0, string_bytes v.1)) call.entry.env.now)
         (world R.shows O.shows E.shows input.old kits.old.items out.old err.old [])
         (world R.shows O.shows E.shows input.new kits.new.items out.new err.new result.built)
@@ -88,7 +78,7 @@ where
         Ok(work) => work,
         Err(refusal) => return end_refused(alloc, refusal, out, err),
     };
-    match carry_out(rt, alloc, work, kits, err) {
+    match carry_out::<T, X, E>(rt, alloc, work, kits, err) {
         Ok(done) => Ended {
             status: tell(alloc, &done, out, err),
             built: done.into_built(alloc),
@@ -191,7 +181,7 @@ where
                 command,
                 env,
             };
-            answer(rt, call, input, kits, out, err)
+            answer::<T, Kit<D, S, K, C>, R, O, E>(rt, call, input, kits, out, err)
         }
         Err(place) => end_refused(alloc, Refusal::Words { place }, out, err),
     }

@@ -2,7 +2,6 @@
 ghost use Rattle.std.specs.Prelude.{◌≡◌, ◌≤◌, [], ◌∷◌, Bool, IfOk, OnErr, length};
 ghost use Rattle.farm_types.specs.Limits.{lines_max};
 ghost use Rattle.edge_traits.specs.Keepers.{IsIdle};
-ghost use Rattle.farm_machine.specs.Devices.{devices};
 ghost use Rattle.job_driver.specs.declared.driver.Built.{Built};
 ghost use Rattle.job_driver.specs.Watching.{WasWatched};
 ghost use Rattle.farm_program.specs.declared.work.Work.TheVariants as works;
@@ -12,35 +11,27 @@ ghost use Rattle.farm_program.specs.Works.{CanRun, WatchedListRan, WorkDone};
 
 use crate::jobs::{BuiltList, run_list};
 use crate::work::{Done, ListWork};
-use edge_traits::{Clock, Dialer, Keeper, Kit, Sink, Station};
+use edge_traits::Sink;
 use job_driver::{LineEnd, build_watched};
+use kit_types::{KitOf, KitTypes, Observed};
 use std::alloc::{AllocError, Global};
 use std::sync::Wait;
 use std::thread::Threads;
 
 // Runs jobs while lines report how far they have come. What was built, and how the printing of the lines ended. An error says that
 // memory ran out before the first of the jobs began.
-fn watch_jobs<
-    T: Threads + Wait + Sync,
-    D: Dialer + Send + Drop,
-    S: Station + Send + Drop,
-    K: Keeper + Send + Drop,
-    C: Clock + Send + Drop,
-    E: Sink + Send,
->(
+fn watch_jobs<T: Threads + Wait + Sync, X: KitTypes, E: Sink + Send>(
     rt: &T,
     alloc: Global,
     list: &ListWork,
     lines: u8,
-    kits: &mut Vec<Kit<D, S, K, C>>,
+    kits: &mut Vec<KitOf<X>>,
     err: &mut E,
 ) -> Result<(BuiltList, LineEnd), AllocError>
-where
-    D::Link: Send,
     requires list { CanRun list.now }
     requires lines { lines ≤ lines_max }
-    requires kits { AreReady 2 (λ kit. IsIdle (K.shows kit.keeper)) kits.old.items }
-    ensures done { IfOk result (λ made. WatchedListRan (devices D.shows S.shows K.shows C.shows D.may_give S.ran)
+    requires kits { AreReady 2 (λ kit. IsIdle (X.Keeper.shows kit.keeper)) kits.old.items }
+    ensures done { IfOk result (λ made. WatchedListRan ⟦<KitOf<X> as Observed>⟧.devices
         kits.old.items kits.new.items list.now made.0) }
     ensures printed { IfOk result (λ made. (told : Bool) × ((one : Built) → made.0 ≡ one ∷ [] → WasWatched (length list.now.jobs)
         (watched_workers list.now.most kits.old.items list.now.jobs) lines one.reports told (E.shows err.old) (E.shows err.new) made.1)) }
@@ -61,46 +52,35 @@ where
         err,
     )?;
     let printed = watched.printed;
-    let Ok(()) = built.push(watched.built) else {
-        unreachable!()
-    };
+    built.push_reserved(watched.built);
     Ok((BuiltList::from_vec(built), printed))
 }
 
 /// Runs the jobs of a list while lines on the sink of errors report how far they have come. With one kit no line is printed, since the last
 /// kit lends its clock. An error says that memory ran out before the first of the jobs began.
-pub fn run_watched<
-    T: Threads + Wait + Sync,
-    D: Dialer + Send + Drop,
-    S: Station + Send + Drop,
-    K: Keeper + Send + Drop,
-    C: Clock + Send + Drop,
-    E: Sink + Send,
->(
+pub fn run_watched<T: Threads + Wait + Sync, X: KitTypes, E: Sink + Send>(
     rt: &T,
     alloc: Global,
     list: ListWork,
     lines: u8,
-    kits: &mut Vec<Kit<D, S, K, C>>,
+    kits: &mut Vec<KitOf<X>>,
     err: &mut E,
 ) -> Result<Done, AllocError>
-where
-    D::Link: Send,
     requires list { CanRun list }
     requires lines { lines ≤ lines_max }
-    requires kits { AreReady 1 (λ kit. IsIdle (K.shows kit.keeper)) kits.old.items }
-    ensures done { IfOk result (λ done. WorkDone (devices D.shows S.shows K.shows C.shows D.may_give S.ran)
+    requires kits { AreReady 1 (λ kit. IsIdle (X.Keeper.shows kit.keeper)) kits.old.items }
+    ensures done { IfOk result (λ done. WorkDone ⟦<KitOf<X> as Observed>⟧.devices
         kits.old.items kits.new.items (E.shows err.old) (E.shows err.new) (works.Watched list lines) done) }
     ensures undone { OnErr result ((kits.new.items ≡ kits.old.items) × (err.new ≡ err.old)) }
 {
     if kits.len() == 1 {
-        let built = run_list(rt, alloc, &list, kits)?;
+        let built = run_list::<T, X>(rt, alloc, &list, kits)?;
         return Ok(Done::List {
             hosts: list.config.hosts,
             built,
         });
     }
-    let (built, end) = watch_jobs(rt, alloc, &list, lines, kits, err)?;
+    let (built, end) = watch_jobs::<T, X, E>(rt, alloc, &list, lines, kits, err)?;
     Ok(Done::Watched {
         hosts: list.config.hosts,
         built,

@@ -1,7 +1,6 @@
 //! What a command comes to, and what is done of it: a list, a graph level by level, one command, or nothing.
 ghost use Rattle.std.specs.Prelude.{◌≡◌, IfOk, OnErr};
 ghost use Rattle.edge_traits.specs.Keepers.{IsIdle};
-ghost use Rattle.farm_machine.specs.Devices.{devices};
 ghost use Rattle.farm_program.specs.Worlds.{AreReady};
 ghost use Rattle.farm_program.specs.Works.{CanDo, WorkDone, built_of};
 
@@ -10,11 +9,12 @@ use crate::jobs::{BuiltList, run_list};
 use crate::outcomes::State;
 use crate::rehearsing::run_rehearsal;
 use crate::watch::run_watched;
-use edge_traits::{Clock, Dialer, Keeper, Kit, Sink, Station};
+use edge_traits::Sink;
 use farm_answers::Text;
 use farm_types::{Hosts, Items, JobConfig, Jobs};
 use job_driver::LineEnd;
 use job_graph::Graph;
+use kit_types::{KitOf, KitTypes, Observed};
 use rehearsal::Count;
 use std::alloc::{AllocError, Global};
 use std::sync::Wait;
@@ -110,46 +110,37 @@ impl Done {
 }
 
 /// Does it. An error says that memory ran out before the first job began.
-pub fn carry_out<
-    T: Threads + Wait + Sync,
-    D: Dialer + Send + Drop,
-    S: Station + Send + Drop,
-    K: Keeper + Send + Drop,
-    C: Clock + Send + Drop,
-    E: Sink + Send,
->(
+pub fn carry_out<T: Threads + Wait + Sync, X: KitTypes, E: Sink + Send>(
     rt: &T,
     alloc: Global,
     work: Work,
-    kits: &mut Vec<Kit<D, S, K, C>>,
+    kits: &mut Vec<KitOf<X>>,
     err: &mut E,
 ) -> Result<Done, AllocError>
-where
-    D::Link: Send,
     requires work { CanDo work }
-    requires kits { AreReady 1 (λ kit. IsIdle (K.shows kit.keeper)) kits.old.items }
-    ensures done { IfOk result (λ done. WorkDone (devices D.shows S.shows K.shows C.shows D.may_give S.ran)
+    requires kits { AreReady 1 (λ kit. IsIdle (X.Keeper.shows kit.keeper)) kits.old.items }
+    ensures done { IfOk result (λ done. WorkDone ⟦<KitOf<X> as Observed>⟧.devices
         kits.old.items kits.new.items (E.shows err.old) (E.shows err.new) work done) }
     ensures undone { OnErr result ((kits.new.items ≡ kits.old.items) × (err.new ≡ err.old)) }
 {
     match work {
         Work::Say(text) => Ok(Done::Said(text)),
         Work::Command(list) => {
-            let built = run_list(rt, alloc, &list, kits)?;
+            let built = run_list::<T, X>(rt, alloc, &list, kits)?;
             Ok(Done::Command {
                 hosts: list.config.hosts,
                 built,
             })
         }
         Work::List(list) => {
-            let built = run_list(rt, alloc, &list, kits)?;
+            let built = run_list::<T, X>(rt, alloc, &list, kits)?;
             Ok(Done::List {
                 hosts: list.config.hosts,
                 built,
             })
         }
-        Work::Watched { list, lines } => run_watched(rt, alloc, list, lines, kits, err),
-        Work::Graph(plan) => run_graph(rt, alloc, plan, kits),
+        Work::Watched { list, lines } => run_watched::<T, X, E>(rt, alloc, list, lines, kits, err),
+        Work::Graph(plan) => run_graph::<T, X>(rt, alloc, plan, kits),
         Work::Rehearse { jobs } => run_rehearsal(rt, alloc, jobs),
     }
 }

@@ -2,7 +2,6 @@
 ghost use Rattle.std.specs.Prelude.{◌≡◌, ◌≤◌, [], length, map, vec_capacity};
 ghost use Rattle.farm_cell.specs.Passes.{limits_of};
 ghost use Rattle.job_driver.specs.Workers.{AreSlotsFor, IsReady, HasWorked};
-ghost use Rattle.farm_machine.specs.Devices.{devices};
 ghost use Rattle.farm_machine.specs.Usable.{job_at};
 ghost use Rattle.job_driver.specs.Watching.{worker_of, marker_of, HasMarkedOff};
 
@@ -10,8 +9,9 @@ use crate::marker::Marker;
 use crate::run::JobPlan;
 use crate::worker::work;
 use crate::workers::Worker;
-use edge_traits::{Clock, Dialer, Keeper, Station};
+use edge_traits::{Clock, Dialer, Keeper, Kit, Station};
 use farm_cell::{Cell, Held};
+use kit_types::Observed;
 use std::sync::Wait;
 
 /// A worker, with what marks how far it has come.
@@ -28,8 +28,8 @@ pub fn work_marked<R: Wait, D: Dialer, S: Station, K: Keeper, C: Clock>(
     marked: &mut Marked<D, S, K, C>,
 )
     requires slots { AreSlotsFor plan.jobs.now plan.config.now (limits_of cell.now) }
-    requires ready { IsReady (devices D.shows S.shows K.shows C.shows D.may_give S.ran) cell.now (length plan.jobs.now) marked.old.worker }
-    ensures worked { HasWorked (devices D.shows S.shows K.shows C.shows D.may_give S.ran) cell.now
+    requires ready { IsReady ⟦<Kit<D, S, K, C> as Observed>⟧.devices cell.now (length plan.jobs.now) marked.old.worker }
+    ensures worked { HasWorked ⟦<Kit<D, S, K, C> as Observed>⟧.devices cell.now
         (job_at plan.entry.jobs.now plan.entry.config.now) plan.entry.config.now.period marked.old.worker marked.new.worker }
     ensures marked { HasMarkedOff marked.old.marker marked.new.marker marked.new.worker.reserve.reports.items }
 {
@@ -80,9 +80,7 @@ pub fn unpair<D: Drop, S: Drop, K: Drop, C: Drop>(
 {
     while let Some(marked) = pairs.pop() {
         let Marked { worker, marker } = marked;
-        let Ok(()) = workers.push(worker) else {
-            unreachable!()
-        };
+        workers.push_reserved(worker);
         markers.push_reserved(marker);
     }
     workers.reverse();

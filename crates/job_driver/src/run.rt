@@ -1,7 +1,6 @@
 //! What a run of jobs has beside the jobs.
 ghost use Rattle.std.specs.Prelude.{◌≡◌, ℕ, ◌+◌, ◌<◌, ◌≤◌, ◌++◌, [], All, IfOk, OnErr, length, map, slice_index_or, vec_capacity};
 ghost use Rattle.farm_cell.specs.Passes.{limits_of as limits_in, seen_of};
-ghost use Rattle.farm_machine.specs.Devices.{devices};
 ghost use Rattle.farm_machine.specs.Usable.{job_at, AreDoable, IsUsable};
 ghost use Rattle.job_driver.specs.Workers.{HasRoom, kit_of, reserve_of, reports_on};
 ghost use Rattle.job_driver.specs.Driven.{reports_by, JobsRan};
@@ -13,6 +12,7 @@ use edge_traits::{Clock, Dialer, Keeper, Kit, Station};
 use farm_cell::{Cell, Pass};
 use farm_machine::{Report, ReportList, limits_of};
 use farm_types::{JobConfig, Jobs};
+use kit_types::Observed;
 use std::alloc::{AllocError, Global};
 use std::sync::Wait;
 
@@ -57,8 +57,8 @@ pub fn open_run<R: Wait, D: Dialer + Drop, S: Station + Drop, K: Keeper + Drop, 
     kits: &mut Vec<Kit<D, S, K, C>>,
     workers: u32,
 ) -> Result<Run<D, S, K, C>, AllocError>
-    requires kits { HasKits (devices D.shows S.shows K.shows C.shows D.may_give S.ran) workers kits.old.items }
-    ensures opened { IfOk result (λ run. IsOpen (devices D.shows S.shows K.shows C.shows D.may_give S.ran)
+    requires kits { HasKits ⟦<Kit<D, S, K, C> as Observed>⟧.devices workers kits.old.items }
+    ensures opened { IfOk result (λ run. IsOpen ⟦<Kit<D, S, K, C> as Observed>⟧.devices
         plan.entry.jobs.now plan.entry.config.now workers run) }
     ensures kits { IfOk result (λ run. (kits.new.items ≡ []) × (map kit_of run.workers.items ++ run.unused.items ≡ kits.old.items)) }
     ensures undone { OnErr result (kits.new.items ≡ kits.old.items) }
@@ -90,15 +90,15 @@ pub fn close_run<R: Wait, D: Dialer + Drop, S: Station + Drop, K: Keeper + Drop,
     run: Run<D, S, K, C>,
     kits: &mut Vec<Kit<D, S, K, C>>,
 ) -> Built
-    requires done { HasWorkedOff (devices D.shows S.shows K.shows C.shows D.may_give S.ran) run }
+    requires done { HasWorkedOff ⟦<Kit<D, S, K, C> as Observed>⟧.devices run }
     requires empty { kits.old.items ≡ [] }
     requires room { length run.workers.items + length run.unused.items ≤ vec_capacity kits.old }
     ensures ran { (jobs : _) (config : _) (before : _)
-        → AreDone (devices D.shows S.shows K.shows C.shows D.may_give S.ran) jobs config before run
-        → JobsRan (devices D.shows S.shows K.shows C.shows D.may_give S.ran) result.last.limits (job_at jobs config) config.period
+        → AreDone ⟦<Kit<D, S, K, C> as Observed>⟧.devices jobs config before run
+        → JobsRan ⟦<Kit<D, S, K, C> as Observed>⟧.devices result.last.limits (job_at jobs config) config.period
         (length before) result.reports (seen_of result.pass) result.last.state (map kit_of before ++ run.unused.items) kits.new.items }
     ensures reports { (jobs : _) (config : _) (before : _)
-        → AreDone (devices D.shows S.shows K.shows C.shows D.may_give S.ran) jobs config before run
+        → AreDone ⟦<Kit<D, S, K, C> as Observed>⟧.devices jobs config before run
         → (worker : ℕ) (other : _) → worker < length before
         → reports_by worker result.reports ≡ reports_on (reserve_of (slice_index_or run.workers.items worker other)) }
     ensures limits { result.last.limits ≡ limits_in run.cell }

@@ -7,7 +7,6 @@ ghost use Rattle.farm_cell.specs.Passes.{limits_of};
 ghost use Rattle.farm_monitor.specs.Boards.{board_watched};
 ghost use Rattle.watch_lines.specs.Counts.{known};
 ghost use Rattle.job_driver.specs.Workers.{reserve_of, reports_on, AreReady, AreSlotsFor, IsReady, HasWorked};
-ghost use Rattle.farm_machine.specs.Devices.{devices};
 ghost use Rattle.farm_machine.specs.Usable.{job_at};
 ghost use Rattle.job_driver.specs.Watching.{worker_of, marker_of, AreBack, CalledEach, CanPrint, HasMarkedOff, HasPrinted, HasWatched, IsFor, LinesTell};
 
@@ -15,9 +14,10 @@ use crate::beside::{Marked, pair, unpair, work_marked};
 use crate::marker::Marker;
 use crate::run::JobPlan;
 use crate::workers::Worker;
-use edge_traits::{Clock, Dialer, Keeper, Sink, Station};
+use edge_traits::{Clock, Dialer, Keeper, Kit, Sink, Station};
 use farm_cell::Cell;
 use farm_monitor::Watcher;
+use kit_types::Observed;
 use std::sync::Wait;
 use std::thread::{Threads, for_each_mut, join_mut};
 use watch_lines::{LineEnd, watch};
@@ -145,11 +145,11 @@ where
     D::Link: Send,
     requires some_workers { 0 < length pairs.old.items }
     requires slots { AreSlotsFor plan.jobs.now plan.config.now (limits_of cell.now) }
-    requires ready { All (λ marked. IsReady (devices D.shows S.shows K.shows C.shows D.may_give S.ran) cell.now (length plan.jobs.now) (worker_of marked)) pairs.old.items }
+    requires ready { All (λ marked. IsReady ⟦<Kit<D, S, K, C> as Observed>⟧.devices cell.now (length plan.jobs.now) (worker_of marked)) pairs.old.items }
     requires can { CanPrint watch.old }
     ensures len { (vec_len pairs.new ≡ vec_len pairs.old) × (length pairs.new.items ≡ length pairs.old.items) }
     ensures each { (number : ℕ) (d : _) → number < length pairs.old.items →
-        HasWorked (devices D.shows S.shows K.shows C.shows D.may_give S.ran) cell.now (job_at plan.entry.jobs.now plan.entry.config.now) plan.entry.config.now.period
+        HasWorked ⟦<Kit<D, S, K, C> as Observed>⟧.devices cell.now (job_at plan.entry.jobs.now plan.entry.config.now) plan.entry.config.now.period
         (worker_of (slice_index_or pairs.old.items number d)) (worker_of (slice_index_or pairs.new.items number d)) }
     ensures marked { (number : ℕ) (d : _) → number < length pairs.old.items →
         HasMarkedOff (marker_of (slice_index_or pairs.old.items number d)) (marker_of (slice_index_or pairs.new.items number d))
@@ -185,12 +185,12 @@ pub fn work_beside<
 where
     D::Link: Send,
     requires slots { AreSlotsFor plan.jobs.now plan.config.now (limits_of cell.now) }
-    requires ready { AreReady (devices D.shows S.shows K.shows C.shows D.may_give S.ran) cell.now (length plan.jobs.now) workers.old.items }
+    requires ready { AreReady ⟦<Kit<D, S, K, C> as Observed>⟧.devices cell.now (length plan.jobs.now) workers.old.items }
     requires few { length workers.old.items ≤ workers_max }
     requires fits { IsFor (length workers.old.items) beside.old }
     ensures len { (vec_len workers.new ≡ vec_len workers.old) × (length workers.new.items ≡ length workers.old.items) }
     ensures each { (number : ℕ) (d : _) → number < length workers.old.items →
-        HasWorked (devices D.shows S.shows K.shows C.shows D.may_give S.ran) cell.now (job_at plan.entry.jobs.now plan.entry.config.now) plan.entry.config.now.period
+        HasWorked ⟦<Kit<D, S, K, C> as Observed>⟧.devices cell.now (job_at plan.entry.jobs.now plan.entry.config.now) plan.entry.config.now.period
         (slice_index_or workers.old.items number d) (slice_index_or workers.new.items number d) }
     ensures back { AreBack beside.new }
     ensures marked { (number : ℕ) (d : _) (w : _) → number < length workers.old.items →

@@ -17,6 +17,7 @@ use crate::watch::{Beside, Watch, work_beside};
 use edge_traits::{Clock, Dialer, Keeper, Kit, Sink, Station};
 use farm_monitor::Watcher;
 use farm_types::{JobConfig, Jobs};
+use kit_types::Observed;
 use std::alloc::{AllocError, Global};
 use std::sync::Wait;
 use std::thread::Threads;
@@ -49,9 +50,9 @@ fn build_beside<
 ) -> Result<(Built, LineEnd), AllocError>
 where
     D::Link: Send,
-    requires kits { HasKits (devices D.shows S.shows K.shows C.shows D.may_give S.ran) workers kits.old.items }
+    requires kits { HasKits ⟦<Kit<D, S, K, C> as Observed>⟧.devices workers kits.old.items }
     requires fits { IsFor workers beside.old }
-    ensures built { IfOk result (λ made. HasBuilt (devices D.shows S.shows K.shows C.shows D.may_give S.ran)
+    ensures built { IfOk result (λ made. HasBuilt ⟦<Kit<D, S, K, C> as Observed>⟧.devices
         plan.entry.jobs.now plan.entry.config.now workers made.0 kits.old.items kits.new.items) }
     ensures undone { OnErr result ((kits.new.items ≡ kits.old.items) × (beside.new ≡ beside.old) × (err.new ≡ err.old)) }
     ensures len { length kits.new.items ≡ length kits.old.items }

@@ -68,9 +68,7 @@ pub fn work<R: Wait, D: Dialer, S: Station, K: Keeper, C: Clock, G: Grants, M: M
             &mut places,
             room,
         );
-        let Ok(()) = reserve.reports.push(report) else {
-            unreachable!()
-        };
+        reserve.reports.push_reserved(report);
         marks.end(rt);
     }
     unreachable!()

@@ -3,7 +3,6 @@ ghost use Rattle.std.specs.Prelude.{◌≡◌, ℕ, ◌+◌, ◌<◌, ◌≤◌,
 ghost use Rattle.std.specs.List.{flat_map};
 ghost use Rattle.farm_cell.specs.Passes.{limits_of};
 ghost use Rattle.job_driver.specs.Workers.{kit_of, pass_of, reserve_of, reports_on, AreReady, AreSlotsFor, HasRoom, IsReady, HasWorked};
-ghost use Rattle.farm_machine.specs.Devices.{devices};
 ghost use Rattle.farm_machine.specs.Usable.{job_at};
 
 use crate::marks::Unwatched;
@@ -13,6 +12,7 @@ use edge_traits::{Clock, Dialer, Keeper, Kit, Station};
 use farm_cell::{Cell, Held, Pass};
 use farm_machine::Report;
 use job_run::EventRoom;
+use kit_types::Observed;
 use std::alloc::{AllocError, Global};
 use std::sync::Wait;
 use std::thread;
@@ -55,8 +55,8 @@ fn work_over<R: Wait, D: Dialer, S: Station, K: Keeper, C: Clock>(
     worker: &mut Worker<D, S, K, C>,
 )
     requires slots { AreSlotsFor plan.jobs.now plan.config.now (limits_of cell.now) }
-    requires ready { IsReady (devices D.shows S.shows K.shows C.shows D.may_give S.ran) cell.now (length plan.jobs.now) worker.old }
-    ensures { HasWorked (devices D.shows S.shows K.shows C.shows D.may_give S.ran) cell.now
+    requires ready { IsReady ⟦<Kit<D, S, K, C> as Observed>⟧.devices cell.now (length plan.jobs.now) worker.old }
+    ensures { HasWorked ⟦<Kit<D, S, K, C> as Observed>⟧.devices cell.now
         (job_at plan.entry.jobs.now plan.entry.config.now) plan.entry.config.now.period worker.old worker.new }
 {
     let mut held = Held::new(rt, cell, &mut worker.pass);
@@ -81,10 +81,10 @@ pub fn work_all<
 where
     D::Link: Send,
     requires slots { AreSlotsFor plan.jobs.now plan.config.now (limits_of cell.now) }
-    requires ready { AreReady (devices D.shows S.shows K.shows C.shows D.may_give S.ran) cell.now (length plan.jobs.now) workers.old.items }
+    requires ready { AreReady ⟦<Kit<D, S, K, C> as Observed>⟧.devices cell.now (length plan.jobs.now) workers.old.items }
     ensures len { (vec_len workers.new ≡ vec_len workers.old) × (length workers.new.items ≡ length workers.old.items) }
     ensures each { (number : ℕ) (d : _) → number < length workers.old.items →
-        HasWorked (devices D.shows S.shows K.shows C.shows D.may_give S.ran) cell.now (job_at plan.entry.jobs.now plan.entry.config.now) plan.entry.config.now.period
+        HasWorked ⟦<Kit<D, S, K, C> as Observed>⟧.devices cell.now (job_at plan.entry.jobs.now plan.entry.config.now) plan.entry.config.now.period
         (slice_index_or workers.old.items number d) (slice_index_or workers.new.items number d) }
 {
     let threads = workers.len();
@@ -119,9 +119,7 @@ pub fn set_up<D: Drop, S: Drop, K: Drop, C: Drop>(
         let Some(reserve) = reserves.pop() else {
             unreachable!()
         };
-        let Ok(()) = workers.push(Worker { kit, pass, reserve }) else {
-            unreachable!()
-        };
+        workers.push_reserved(Worker { kit, pass, reserve });
     }
     workers.reverse();
 }
@@ -142,15 +140,9 @@ pub fn take_down<D: Drop, S: Drop, K: Drop, C: Drop>(
 {
     while let Some(worker) = workers.pop() {
         let Worker { kit, pass, reserve } = worker;
-        let Ok(()) = kits.push(kit) else {
-            unreachable!()
-        };
-        let Ok(()) = passes.push(pass) else {
-            unreachable!()
-        };
-        let Ok(()) = reserves.push(reserve) else {
-            unreachable!()
-        };
+        kits.push_reserved(kit);
+        passes.push_reserved(pass);
+        reserves.push_reserved(reserve);
     }
     kits.reverse();
     passes.reverse();

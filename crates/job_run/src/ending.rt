@@ -7,7 +7,6 @@ ghost use Rattle.edge_traits.specs.Keepers.{IsIdle};
 ghost use Rattle.slot_table.specs.declared.limits.Limits.{Limits};
 ghost use Rattle.slot_table.specs.declared.calls.CallEntry.{CallEntry};
 ghost use Rattle.farm_machine.specs.declared.reports.End.TheVariants.{Done};
-ghost use Rattle.farm_machine.specs.Devices.{devices};
 ghost use Rattle.reply_stream.specs.Objects.{with_object};
 ghost use Rattle.job_run.specs.Stages.{compiled_at, HasObject, CanDeliver, HasPut};
 ghost use Rattle.job_run.specs.Seen.{seen, job_in};
@@ -19,6 +18,7 @@ use crate::task::Task;
 use edge_traits::{Clock, Dialer, EdgeFault, Keeper, Kit, Station};
 use farm_machine::{By, End};
 use farm_types::{Bytes, Outcome};
+use kit_types::Observed;
 use std::alloc::Global;
 
 fn done(by: By, note: Bytes, outcome: Outcome) -> End
@@ -74,8 +74,8 @@ pub(crate) fn deliver<D: Dialer, S: Station, K: Keeper, C: Clock>(
     ensures ended { (h : ℕ) (l : Limits h) (caller number : ℕ) (mine : List CallEntry) (object : List ℕ) →
         HasObject by outcome task.now.output.now object (K.shows kit.old.keeper) →
         HasEnded (job_in task.now) l caller number
-        (seen (devices D.shows S.shows K.shows C.shows D.may_give S.ran) kit.old mine journal.old)
-        (seen (devices D.shows S.shows K.shows C.shows D.may_give S.ran) kit.new mine journal.new)
+        (seen ⟦<Kit<D, S, K, C> as Observed>⟧.devices kit.old mine journal.old)
+        (seen ⟦<Kit<D, S, K, C> as Observed>⟧.devices kit.new mine journal.new)
         (compiled_at by note (with_object outcome object)) result }
 {
     if outcome.status != 0 {

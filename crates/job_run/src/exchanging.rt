@@ -5,7 +5,6 @@ ghost use Rattle.slot_table.specs.History.{holding};
 ghost use Rattle.slot_table.specs.Grants.{host_of, job_of};
 ghost use Rattle.slot_table.specs.Limits.{is_local};
 ghost use Rattle.farm_machine.specs.Course.{Tried, Lent};
-ghost use Rattle.farm_machine.specs.Devices.{devices};
 ghost use Rattle.job_run.specs.Events.{lent_events};
 ghost use Rattle.job_run.specs.Gives.{GaveBroken};
 ghost use Rattle.job_run.specs.Seen.{seen, job_in, IsElsewhere, IsHolding, StaysFree};
@@ -17,6 +16,7 @@ use crate::step::{Asked, Step, after_whole};
 use edge_traits::{Clock, Dialer, Keeper, Kit, Station};
 use farm_machine::{Event, Why5};
 use farm_types::Host;
+use kit_types::Observed;
 use remote_transfer::{Landed, attempt_into};
 use slot_table::host_backoff::bad_until;
 use slot_table::{Grant, Grants};
@@ -67,8 +67,8 @@ pub(crate) fn exchange<D: Dialer, S: Station, K: Keeper, C: Clock, G: Grants>(
     ensures idle { AskedIdle result (K.shows kit.new.keeper) }
     ensures asked { (note : List ℕ) (tried : List Tried) →
         AskedIs (job_in sending.now.task.now) (G.limits grants.old) (G.caller_number grants.old) (job_of grant)
-        (seen (devices D.shows S.shows K.shows C.shows D.may_give S.ran) kit.old (G.mine grants.old) journal.old)
-        (seen (devices D.shows S.shows K.shows C.shows D.may_give S.ran) kit.new (G.mine grants.new) journal.new)
+        (seen ⟦<Kit<D, S, K, C> as Observed>⟧.devices kit.old (G.mine grants.old) journal.old)
+        (seen ⟦<Kit<D, S, K, C> as Observed>⟧.devices kit.new (G.mine grants.new) journal.new)
         (Lent (host_of grant) sending.now.request.now.source note tried) sending.now.request.now.source note tried result }
 {
     let Sending { task, request, .. } = *sending;

@@ -6,7 +6,6 @@ ghost use Rattle.edge_traits.specs.Keepers.{IsIdle};
 ghost use Rattle.edge_traits.specs.Kits.{kit_view};
 ghost use Rattle.edge_traits.specs.Told.{SameRelation, SameRelation3};
 ghost use Rattle.farm_machine.specs.Course.{Start, Send};
-ghost use Rattle.farm_machine.specs.Devices.{devices};
 ghost use Rattle.farm_machine.specs.Jobs.{job_of, may_be_sent, AreLimitsOf};
 ghost use Rattle.job_run.specs.Events.{local_events, compile_events, sent_events};
 ghost use Rattle.job_run.specs.JobRuns.{JobRan, CanRun, CanBegin, HasReturned};
@@ -29,6 +28,7 @@ use child_runner::in_place;
 use edge_traits::{Clock, Dialer, Keeper, Kit, Station};
 use farm_machine::{By, End, Event, EventList, Places, Report, Why5};
 use farm_types::{Bytes, JobConfig, Outcome, Request, Words};
+use kit_types::Observed;
 use slot_table::Grants;
 use std::alloc::{AllocError, Global};
 use std::sync::Wait;
@@ -48,8 +48,8 @@ fn run_in_place<R: Wait, D: Dialer, S: Station, K: Keeper, C: Clock, G: Grants>(
     ensures idle { IsIdle (K.shows kit.new.keeper) }
     ensures ended { may_be_sent (job_asked command.now) ≡ false →
         HasEnded (job_asked command.now) (G.limits grants.old) (G.caller_number grants.old) command.now.number
-        (seen (devices D.shows S.shows K.shows C.shows D.may_give S.ran) kit.old (G.mine grants.old) journal.old)
-        (seen (devices D.shows S.shows K.shows C.shows D.may_give S.ran) kit.new (G.mine grants.new) journal.new)
+        (seen ⟦<Kit<D, S, K, C> as Observed>⟧.devices kit.old (G.mine grants.old) journal.old)
+        (seen ⟦<Kit<D, S, K, C> as Observed>⟧.devices kit.new (G.mine grants.new) journal.new)
         Start result }
 {
     let grant = borrow_local(rt, command.number, grants, &mut kit.clock);
@@ -92,8 +92,8 @@ fn compile_source<R: Wait, D: Dialer, S: Station, K: Keeper, C: Clock, G: Grants
     ensures follows { G.follows grants.old grants.new }
     ensures idle { OnErr result (IsIdle (K.shows kit.new.keeper)) }
     ensures compiled { (note : List ℕ) → CompiledIs (job_in task.now) (G.limits grants.old) (G.caller_number grants.old) task.now.number
-        (seen (devices D.shows S.shows K.shows C.shows D.may_give S.ran) kit.old (G.mine grants.old) journal.old)
-        (seen (devices D.shows S.shows K.shows C.shows D.may_give S.ran) kit.new (G.mine grants.new) journal.new)
+        (seen ⟦<Kit<D, S, K, C> as Observed>⟧.devices kit.old (G.mine grants.old) journal.old)
+        (seen ⟦<Kit<D, S, K, C> as Observed>⟧.devices kit.new (G.mine grants.new) journal.new)
         (Send source note []) note result }
 {
     let Ok(sent) = words_to_send(task) else {
@@ -128,8 +128,8 @@ fn run_remote<R: Wait, D: Dialer, S: Station, K: Keeper, C: Clock, G: Grants>(
     ensures follows { G.follows grants.old grants.new }
     ensures idle { IsIdle (K.shows kit.new.keeper) }
     ensures ended { HasEnded (job_in task.now) (G.limits grants.old) (G.caller_number grants.old) task.now.number
-        (seen (devices D.shows S.shows K.shows C.shows D.may_give S.ran) kit.old (G.mine grants.old) journal.old)
-        (seen (devices D.shows S.shows K.shows C.shows D.may_give S.ran) kit.new (G.mine grants.new) journal.new)
+        (seen ⟦<Kit<D, S, K, C> as Observed>⟧.devices kit.old (G.mine grants.old) journal.old)
+        (seen ⟦<Kit<D, S, K, C> as Observed>⟧.devices kit.new (G.mine grants.new) journal.new)
         Start result }
 {
     let (source, note) = match prepare(task, kit, journal) {
@@ -157,8 +157,8 @@ fn run_class<R: Wait, D: Dialer, S: Station, K: Keeper, C: Clock, G: Grants>(
     ensures follows { G.follows grants.old grants.new }
     ensures idle { IsIdle (K.shows kit.new.keeper) }
     ensures ended { HasEnded (job_asked command.now) (G.limits grants.old) (G.caller_number grants.old) command.now.number
-        (seen (devices D.shows S.shows K.shows C.shows D.may_give S.ran) kit.old (G.mine grants.old) journal.old)
-        (seen (devices D.shows S.shows K.shows C.shows D.may_give S.ran) kit.new (G.mine grants.new) journal.new)
+        (seen ⟦<Kit<D, S, K, C> as Observed>⟧.devices kit.old (G.mine grants.old) journal.old)
+        (seen ⟦<Kit<D, S, K, C> as Observed>⟧.devices kit.new (G.mine grants.new) journal.new)
         Start result }
 {
     let Command {

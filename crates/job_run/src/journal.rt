@@ -40,9 +40,7 @@ impl Journal {
         ensures left { self.new.left + 1 ≡ self.old.left }
     {
         self.left -= 1;
-        let Ok(()) = self.events.push(event) else {
-            unreachable!()
-        };
+        self.events.push_reserved(event);
     }
 
     /// A run was added.

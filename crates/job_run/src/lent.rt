@@ -4,7 +4,6 @@ ghost use Rattle.edge_traits.specs.Keepers.{IsIdle};
 ghost use Rattle.slot_table.specs.History.{holding};
 ghost use Rattle.slot_table.specs.Grants.{host_of, job_of};
 ghost use Rattle.farm_machine.specs.Course.{Tried, Lent};
-ghost use Rattle.farm_machine.specs.Devices.{devices};
 ghost use Rattle.farm_machine.specs.Jobs.{is_local_host};
 ghost use Rattle.job_run.specs.Events.{lent_events};
 ghost use Rattle.job_run.specs.Seen.{seen, job_in, IsHolding, StaysFree};
@@ -17,6 +16,7 @@ use child_runner::compile;
 use edge_traits::{Clock, Dialer, Keeper, Kit, Station};
 use farm_machine::{By, Event};
 use farm_types::Bytes;
+use kit_types::Observed;
 use slot_table::{Grant, Grants};
 
 /// Compiles here, in a slot of an entry that is this machine.
@@ -37,8 +37,8 @@ pub(crate) fn compile_lent<D: Dialer, S: Station, K: Keeper, C: Clock, G: Grants
     ensures idle { IsIdle (K.shows kit.new.keeper) }
     ensures compiled { (note : List ℕ) (tried : List Tried) →
         StepIs (job_in task.now) (G.limits grants.old) (G.caller_number grants.old) (job_of grant)
-        (seen (devices D.shows S.shows K.shows C.shows D.may_give S.ran) kit.old (G.mine grants.old) journal.old)
-        (seen (devices D.shows S.shows K.shows C.shows D.may_give S.ran) kit.new (G.mine grants.new) journal.new)
+        (seen ⟦<Kit<D, S, K, C> as Observed>⟧.devices kit.old (G.mine grants.old) journal.old)
+        (seen ⟦<Kit<D, S, K, C> as Observed>⟧.devices kit.new (G.mine grants.new) journal.new)
         (Lent (host_of grant) source.now note tried) source.now note result }
 {
     let at = grant.host();

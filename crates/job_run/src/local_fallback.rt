@@ -2,7 +2,6 @@
 ghost use Rattle.std.specs.Prelude.{ℕ, List};
 ghost use Rattle.edge_traits.specs.Keepers.{IsIdle};
 ghost use Rattle.farm_machine.specs.Course.{At};
-ghost use Rattle.farm_machine.specs.Devices.{devices};
 ghost use Rattle.job_run.specs.Events.{local_events};
 ghost use Rattle.job_run.specs.Seen.{seen, job_in, IsFree, StaysFree};
 ghost use Rattle.job_run.specs.Stages.{IsForHere, LocalIs};
@@ -15,6 +14,7 @@ use child_runner::compile;
 use edge_traits::{Clock, Dialer, Keeper, Kit, Station};
 use farm_machine::{Event, Why5};
 use farm_types::{Bytes, Outcome};
+use kit_types::Observed;
 use slot_table::Grants;
 use std::sync::Wait;
 
@@ -34,8 +34,8 @@ pub(crate) fn compile_here<R: Wait, D: Dialer, S: Station, K: Keeper, C: Clock, 
     ensures idle { IsIdle (K.shows kit.new.keeper) }
     ensures compiled { (note : List ℕ) (at : At) → IsForHere (job_in task.now) source.now note at →
         LocalIs (job_in task.now) (G.limits grants.old) (G.caller_number grants.old) task.now.number
-        (seen (devices D.shows S.shows K.shows C.shows D.may_give S.ran) kit.old (G.mine grants.old) journal.old)
-        (seen (devices D.shows S.shows K.shows C.shows D.may_give S.ran) kit.new (G.mine grants.new) journal.new)
+        (seen ⟦<Kit<D, S, K, C> as Observed>⟧.devices kit.old (G.mine grants.old) journal.old)
+        (seen ⟦<Kit<D, S, K, C> as Observed>⟧.devices kit.new (G.mine grants.new) journal.new)
         at note result }
 {
     let grant = borrow_local(rt, task.number, grants, &mut kit.clock);

@@ -9,7 +9,6 @@ ghost use Rattle.edge_traits.specs.FileMaps.{IsStaged};
 ghost use Rattle.edge_traits.specs.Keepers.{IsIdle};
 ghost use Rattle.slot_table.specs.declared.limits.Limits.{Limits};
 ghost use Rattle.slot_table.specs.declared.calls.CallEntry.{CallEntry};
-ghost use Rattle.farm_machine.specs.Devices.{devices};
 ghost use Rattle.farm_machine.specs.Jobs.{Job, job_of, may_be_sent, is_source_ready, source_name};
 ghost use Rattle.job_run.specs.Stages.{PreparedIs, FetchedIs};
 ghost use Rattle.job_run.specs.Seen.{seen, job_in};
@@ -22,6 +21,7 @@ use edge_traits::{Clock, Dialer, Keeper, Kit, Station};
 use farm_machine::End;
 use farm_types::limits::PREPROCESSED_MAX;
 use farm_types::{Bytes, Words};
+use kit_types::Observed;
 use std::alloc::Global;
 
 /// A preprocessed source, and the note, which is what the preprocessor wrote to standard error; or the end of a job that has
@@ -57,8 +57,8 @@ fn fetch_source<D: Dialer, S: Station, K: Keeper, C: Clock>(
     ensures prepared { (h : ℕ) (l : Limits h) (caller number : ℕ) (mine : List CallEntry) (j : Job) →
         may_be_sent j ≡ true → is_source_ready j ≡ true → source_name j ≡ name.now →
         PreparedIs j l caller number
-        (seen (devices D.shows S.shows K.shows C.shows D.may_give S.ran) kit.old mine journal.old)
-        (seen (devices D.shows S.shows K.shows C.shows D.may_give S.ran) kit.new mine journal.new)
+        (seen ⟦<Kit<D, S, K, C> as Observed>⟧.devices kit.old mine journal.old)
+        (seen ⟦<Kit<D, S, K, C> as Observed>⟧.devices kit.new mine journal.new)
         result }
 {
     match kit.keeper.fetch(alloc, name, PREPROCESSED_MAX) {
@@ -89,8 +89,8 @@ fn preprocess_source<D: Dialer, S: Station, K: Keeper, C: Clock>(
     ensures idle { IsIdle (K.shows kit.new.keeper) }
     ensures prepared { (h : ℕ) (l : Limits h) (caller number : ℕ) (mine : List CallEntry) (config : JobConfig) →
         PreparedIs (job_of words.now config) l caller number
-        (seen (devices D.shows S.shows K.shows C.shows D.may_give S.ran) kit.old mine journal.old)
-        (seen (devices D.shows S.shows K.shows C.shows D.may_give S.ran) kit.new mine journal.new)
+        (seen ⟦<Kit<D, S, K, C> as Observed>⟧.devices kit.old mine journal.old)
+        (seen ⟦<Kit<D, S, K, C> as Observed>⟧.devices kit.new mine journal.new)
         result }
 {
     match preprocess(alloc, words, &mut kit.station) {
@@ -121,8 +121,8 @@ pub(crate) fn prepare<D: Dialer, S: Station, K: Keeper, C: Clock>(
     ensures idle { IsIdle (K.shows kit.new.keeper) }
     ensures prepared { (h : ℕ) (l : Limits h) (caller number : ℕ) (mine : List CallEntry) →
         PreparedIs (job_in task.now) l caller number
-        (seen (devices D.shows S.shows K.shows C.shows D.may_give S.ran) kit.old mine journal.old)
-        (seen (devices D.shows S.shows K.shows C.shows D.may_give S.ran) kit.new mine journal.new)
+        (seen ⟦<Kit<D, S, K, C> as Observed>⟧.devices kit.old mine journal.old)
+        (seen ⟦<Kit<D, S, K, C> as Observed>⟧.devices kit.new mine journal.new)
         result }
 {
     if task.preprocessed {

@@ -3,7 +3,6 @@ ghost use Rattle.std.specs.Prelude.{◌≡◌, ℕ, List, []};
 ghost use Rattle.arg_strip.specs.Words.{stripped};
 ghost use Rattle.edge_traits.specs.Keepers.{IsIdle};
 ghost use Rattle.farm_machine.specs.Course.{Tried, Send};
-ghost use Rattle.farm_machine.specs.Devices.{devices};
 ghost use Rattle.farm_machine.specs.Jobs.{AreLimitsOf};
 ghost use Rattle.job_run.specs.Events.{try_events, tries_events};
 ghost use Rattle.job_run.specs.Seen.{seen, job_in, IsSent, IsFree, StaysFree};
@@ -18,6 +17,7 @@ use crate::waiting::borrow_host;
 use edge_traits::{Clock, Dialer, Keeper, Kit, Station};
 use farm_machine::{Event, Why5};
 use farm_types::Request;
+use kit_types::Observed;
 use slot_table::{Grants, Mask};
 use std::sync::Wait;
 
@@ -46,8 +46,8 @@ fn ask_one<R: Wait, D: Dialer, S: Station, K: Keeper, C: Clock, G: Grants>(
     ensures idle { AskedIdle result (K.shows kit.new.keeper) }
     ensures asked { (note : List ℕ) (tried : List Tried) → HasUntried (G.limits grants.old) mask tried →
         AskedIs (job_in sending.now.task.now) (G.limits grants.old) (G.caller_number grants.old) sending.now.task.now.number
-        (seen (devices D.shows S.shows K.shows C.shows D.may_give S.ran) kit.old (G.mine grants.old) journal.old)
-        (seen (devices D.shows S.shows K.shows C.shows D.may_give S.ran) kit.new (G.mine grants.new) journal.new)
+        (seen ⟦<Kit<D, S, K, C> as Observed>⟧.devices kit.old (G.mine grants.old) journal.old)
+        (seen ⟦<Kit<D, S, K, C> as Observed>⟧.devices kit.new (G.mine grants.new) journal.new)
         (Send sending.now.request.now.source note tried) sending.now.request.now.source note tried result }
 {
     let Some(grant) = borrow_host(rt, sending.task.number, mask, grants, &mut kit.clock) else {
@@ -87,8 +87,8 @@ fn ask_hosts<R: Wait, D: Dialer, S: Station, K: Keeper, C: Clock, G: Grants>(
     ensures idle { StepIdle result (K.shows kit.new.keeper) }
     ensures asked { (note : List ℕ) →
         StepIs (job_in sending.now.task.now) (G.limits grants.old) (G.caller_number grants.old) sending.now.task.now.number
-        (seen (devices D.shows S.shows K.shows C.shows D.may_give S.ran) kit.old (G.mine grants.old) journal.old)
-        (seen (devices D.shows S.shows K.shows C.shows D.may_give S.ran) kit.new (G.mine grants.new) journal.new)
+        (seen ⟦<Kit<D, S, K, C> as Observed>⟧.devices kit.old (G.mine grants.old) journal.old)
+        (seen ⟦<Kit<D, S, K, C> as Observed>⟧.devices kit.new (G.mine grants.new) journal.new)
         (Send sending.now.request.now.source note []) sending.now.request.now.source note result }
 {
     let config = sending.task.config;
@@ -125,8 +125,8 @@ pub(crate) fn ask_if_fits<R: Wait, D: Dialer, S: Station, K: Keeper, C: Clock, G
     ensures idle { StepIdle result (K.shows kit.new.keeper) }
     ensures asked { (note : List ℕ) →
         SentIs (job_in task.now) (G.limits grants.old) (G.caller_number grants.old) task.now.number
-        (seen (devices D.shows S.shows K.shows C.shows D.may_give S.ran) kit.old (G.mine grants.old) journal.old)
-        (seen (devices D.shows S.shows K.shows C.shows D.may_give S.ran) kit.new (G.mine grants.new) journal.new)
+        (seen ⟦<Kit<D, S, K, C> as Observed>⟧.devices kit.old (G.mine grants.old) journal.old)
+        (seen ⟦<Kit<D, S, K, C> as Observed>⟧.devices kit.new (G.mine grants.new) journal.new)
         request.now.source note result }
 {
     if !request.fits() {

@@ -15,9 +15,9 @@ pub moving-preserved : goal.moving-preserved
 moving-preserved g c =
     let before = c.moving.invariant in
     record {
-      kits = one_moved plain_kit c.moving.doors.items c.pop.new.self.items _ c.moving.cached.items c.push.new.self.items _
-          c.in-Some.ensures.items c.in-Ok.ensures.items before.kits;
-      books = subst (All (λ kit. book_of kit ≡ new_book c.args.bound)) (sym c.in-Ok.ensures.items)
+      kits = one_moved plain_kit c.moving.doors.items c.pop.new.self.items _ c.moving.cached.items c.push_reserved.new.self.items _
+          c.in-Some.ensures.items c.push_reserved.ensures.items before.kits;
+      books = subst (All (λ kit. book_of kit ≡ new_book c.args.bound)) (sym c.push_reserved.ensures.items)
           (All-push (λ kit. book_of kit ≡ new_book c.args.bound) c.moving.cached.items _ before.books c.new-book.ensures);
       many = grind (arith, common_steps);
       left = grind (arith, common_steps);

@@ -21,13 +21,13 @@ new-station-requires-clause-same g c =
 pub moving-preserved : goal.moving-preserved
 moving-preserved g c =
     let before = c.moving.invariant in
-    let pushed : c.push.new.self.items ≡ c.moving.shared.items ++ record {
+    let pushed : c.push_reserved.new.self.items ≡ c.moving.shared.items ++ record {
       door = c.in-Some.kit.door;
       station = record { station = c.in-Some.kit.station; counts = no_counts };
-    } ∷ [] = c.in-Ok.ensures.items ∙ ap (λ s. c.moving.shared.items ++ record { door = c.in-Some.kit.door; station = s } ∷ [])
+    } ∷ [] = c.push_reserved.ensures.items ∙ ap (λ s. c.moving.shared.items ++ record { door = c.in-Some.kit.door; station = s } ∷ [])
     c.new-station.ensures in
     record {
-      kits = one_moved bare_kit c.moving.doors.items c.pop.new.self.items _ c.moving.shared.items c.push.new.self.items _
+      kits = one_moved bare_kit c.moving.doors.items c.pop.new.self.items _ c.moving.shared.items c.push_reserved.new.self.items _
           c.in-Some.ensures.items pushed before.kits;
       alike = (all_popped (λ kit. SameRelation3 (g.S.Station.ran kit.station) g.P.Sharing.ran) c.pop.new.self.items _
           (subst (All (λ kit. SameRelation3 (g.S.Station.ran kit.station) g.P.Sharing.ran)) c.in-Some.ensures.items before.alike)).0;

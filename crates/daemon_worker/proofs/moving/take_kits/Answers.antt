@@ -16,12 +16,12 @@ moving-preserved g c =
     let Room : Vec Entry Global → Type 0 = λ log. IsRoom c.args.serve log.items (vec_len log) (vec_capacity log) in
     let popped = All-pop Room c.moving.logs.items c.pop.new.self.items (Some c.in-Some.log) c.in-Some.ensures.items before.rooms in
     record {
-      kits = one_moved c.moving.doors.items c.pop-in-Some.new.self.items _ c.moving.workers.items c.push.new.self.items _
-          c.in-Some-pop.ensures.items c.in-Ok.ensures.items before.kits;
+      kits = one_moved c.moving.doors.items c.pop-in-Some.new.self.items _ c.moving.workers.items c.push_reserved.new.self.items _
+          c.in-Some-pop.ensures.items c.push_reserved.ensures.items before.kits;
       left = grind (arith, common_steps);
       many = grind (arith, common_steps);
       rooms = popped.0;
-      ready = subst (All (IsReady c.args.serve)) (sym c.in-Ok.ensures.items)
+      ready = subst (All (IsReady c.args.serve)) (sym c.push_reserved.ensures.items)
           (All-push (IsReady c.args.serve) c.moving.workers.items _ before.ready popped.1);
       space = grind (arith, common_steps);
       back = grind (arith, common_steps);

@@ -5,7 +5,6 @@ use Rattle.farm_monitor.specs.declared.ends.Watcher.{Watcher}
 use Rattle.farm_monitor.specs.Boards.{board_of, board_watched, shown_rows}
 use Rattle.watch_lines.specs.Counts.{known}
 use Rattle.logbook.specs.Pages.{Book}
-use Rattle.job_driver.specs.declared.marker.Marker.{Marker}
 use Rattle.job_driver.specs.Watching.{board_marked, IsFreshMarker}
 use Rattle.job_driver.proofs.Watching.{fresh_more, unread_more}
 use Rattle.job_driver.proofs.boards.make_boards.Goals as goal

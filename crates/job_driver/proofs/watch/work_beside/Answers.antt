@@ -1,12 +1,9 @@
 use Rattle.std.proofs.Common.{◌≡◌, ℕ, List, length, get_or, map, sym, ap, ◌∙◌, subst, arith}
 use Rattle.std.proofs.lemmas.List.{length-map}
 use Rattle.farm_monitor.specs.Boards.{board_watched}
-use Rattle.edge_traits.specs.declared.kit.Kit.{Kit}
-use Rattle.farm_machine.specs.declared.reports.Report.{Report}
 use Rattle.watch_lines.specs.Counts.{known}
 use Rattle.job_driver.specs.declared.beside.Marked.{Marked}
 use Rattle.job_driver.specs.declared.marker.Marker.{Marker}
-use Rattle.job_driver.specs.declared.workers.Worker.{Worker}
 use Rattle.job_driver.specs.Workers.{reserve_of, reports_on, IsReady, HasWorked}
 use Rattle.farm_machine.specs.Devices.{devices}
 use Rattle.farm_machine.specs.Usable.{job_at}

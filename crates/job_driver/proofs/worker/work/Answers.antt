@@ -92,34 +92,33 @@ working-preserved g c =
       works = works-more c.run_job-report.result (g.met.G.Grants.limits_stay _ _ drawn) (g.met.G.Grants.caller_stays _ _ drawn)
           (job-found job c.args.plan.config.now c.as_slice.ensures c.index-as_slice-job.is below) refl
           (relation-then i.peers w.peers) (relation3-then i.programs w.programs)
-          (drawn-as _ (g.met.G.Grants.caller_stays _ _ i.follows) c.in-Some-draw.is c.draw.ensures.mine) c.in-Ok.ensures.items
+          (drawn-as _ (g.met.G.Grants.caller_stays _ _ i.follows) c.in-Some-draw.is c.draw.ensures.mine) c.push_reserved.ensures.items
           w.number w.worker i.works w.ran;
-      few = subst AreFew (sym c.in-Ok.ensures.items) (few-more _ _ job w.number i.few later);
-      within = subst (λ rs. All (λ number. number < length c.args.plan.jobs.now) (numbers_of rs)) (sym c.in-Ok.ensures.items)
+      few = subst AreFew (sym c.push_reserved.ensures.items) (few-more _ _ job w.number i.few later);
+      within = subst (λ rs. All (λ number. number < length c.args.plan.jobs.now) (numbers_of rs)) (sym c.push_reserved.ensures.items)
           (within-more _ _ _ job w.number below i.within);
-      counted = counted-more c.run_job-report.result c.in-Ok.ensures.items c.args.plan.usable.some c.args.plan.usable.tries i.counted w.ran;
-      rooms = grind (arith, common_steps, c.in-Some-pop.ensures.items, c.in-Ok.ensures.items, i.rooms);
-      room = let r = i.room in let k = c.push.ensures.capacity in omega (arith, r, k);
+      counted = counted-more c.run_job-report.result c.push_reserved.ensures.items c.args.plan.usable.some c.args.plan.usable.tries i.counted w.ran;
+      rooms = grind (arith, common_steps, c.in-Some-pop.ensures.items, c.push_reserved.ensures.items, i.rooms);
+      room = let r = i.room in let k = c.push_reserved.ensures.capacity in omega (arith, r, k);
       spare = spare-more _ (length c.args.plan.jobs.now) (length c.working.reserve.reports.items) _ _ _ _
-          (grind (arith, common_steps, c.in-Ok.ensures.items)) i.spare d.spare w.returned.spare;
+          (grind (arith, common_steps, c.push_reserved.ensures.items)) i.spare d.spare w.returned.spare;
       pending = w.returned.pending;
       back = w.returned.none;
       ready = w.returned.ready;
       follows = g.met.G.Grants.follows_on _ _ _ drawn w.returned.follows;
       marked = marked-more g.M.Marks.board g.M.Marks.all g.M.Marks.rows c.args.marks.now c.working.marks c.begin.new.self c.end.new.self
-          c.working.reserve.reports.items c.push.new.self.items c.run_job-report.result job i.marked
-          c.begin.ensures.board c.begin.ensures.added c.end.ensures.board c.end.ensures.added c.in-Ok.ensures.items w.number;
+          c.working.reserve.reports.items c.push_reserved.new.self.items c.run_job-report.result job i.marked
+          c.begin.ensures.board c.begin.ensures.added c.end.ensures.board c.end.ensures.added c.push_reserved.ensures.items w.number;
       peers = relation-then i.peers w.peers;
       programs = relation3-then i.programs w.programs;
     }
 
-pub unreachable-requires-in_default-push : goal.unreachable-requires-in_default-push
-unreachable-requires-in_default-push g c =
+pub push_reserved-requires : goal.push_reserved-requires
+push_reserved-requires g c =
     let i = c.working.invariant in
     let few = i.few c.in-Some-draw.job (report-later c.in-Some-draw.job i.works c.in-Some-draw.ensures.later) in
     let below : c.in-Some-draw.job < length c.args.plan.jobs.now = subst (λ (k : ℕ). c.in-Some-draw.job < k)
     (ap (λ l. l.jobs) (g.met.G.Grants.limits_stay _ _ i.follows) ∙ c.requires.slots.number) c.in-Some-draw.ensures.job in
     let room = i.room in
-    let full = c.in_default-push.ensures.full in
     let k = c.working.reserve.reports.ok in
-    omega (arith, few, below, room, full, k)
+    omega (arith, few, below, room, k)
