@@ -9,6 +9,7 @@ ghost use Rattle.compile_database.specs.Entries.{texts_of, words_of_array, words
 ghost use Rattle.compile_database.specs.Unread.{IsUnread};
 
 use crate::shell::split_command;
+use arg_scan::remote_plan;
 use arg_strip::is_remote;
 use dependency_words::dependency_words;
 use farm_types::{Bytes, Words};
@@ -122,5 +123,5 @@ pub(crate) fn words_of(alloc: Global, entry: &Value) -> Result<Words, Unread>
     if !is_remote(&words) {
         return Ok(words);
     }
-    Ok(dependency_words(alloc, &words)?)
+    Ok(dependency_words(alloc, &words, &remote_plan(&words))?)
 }
