@@ -32,7 +32,7 @@ gate:
 quick:
 	tools/quick
 
-# Has the prover try each edit that it has to refuse, those beside the gate's too, in some hours: before a release.
+# Has the prover try each edit that it has to refuse and that isn't known to be refused, those beside the gate's too, in some hours: before a release.
 edits:
 	tools/more-edits --all
 
