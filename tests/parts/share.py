@@ -407,6 +407,8 @@ def check_false_desks():
 
 def check_signals():
     """What a signal to farm share leaves, and its statuses."""
+    # nohup, by which a check may be started, has it ignored
+    signal.signal(signal.SIGHUP, signal.SIG_DFL)
     for name in ("SIGINT", "SIGTERM", "SIGHUP", "SIGPIPE", "SIGKILL"):
         build = share(HOSTS, "sh", "-c", "echo $$; exec sleep 60", stdout=subprocess.PIPE)
         command = int(build.stdout.readline())
