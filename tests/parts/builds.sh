@@ -73,6 +73,7 @@ DISTCC_HOSTS=$HOST "$FARM" cc gcc -O2 good.c -o whole >whole.out 2>whole.err
 DISTCC_HOSTS=127.0.0.1:1 DISTCC_FALLBACK=0 answers unlinked cc gcc -O2 -c good.c -o unlinked.o
 refuses unlinked 103 'farm: failed 127.0.0.1:1 dial'
 
-if [ -z "$(missing python3)" ]; then
+# measures of time and memory, which programs with checks at run time don't meet
+if [ -z "$(missing python3)" ] && [ -z "${UNPROVED:-}" ]; then
   python3 "$TOP/tests/parts/builds.py" "$FARM" || fail "builds by many workers"
 fi
