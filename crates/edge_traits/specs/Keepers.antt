@@ -80,6 +80,11 @@ pub record KeeperStill (old new : KeeperView) : Type 0 where
   pub faults : Still old.faults new.faults
   pub overruns : Still old.overruns new.overruns
 
+-- neither the faults nor the overruns fell
+pub record KeeperLater (old new : KeeperView) : Type 0 where
+  pub faults : old.faults ≤ new.faults
+  pub overruns : old.overruns ≤ new.overruns
+
 -- when a failed fetch may return this fault
 abbrev pub FetchCause : List ℕ → ℕ → KeeperView → KeeperView → FetchFault → Type 0
 FetchCause path bound old now Failed = IsFailedFetch old now

@@ -3,7 +3,7 @@ ghost use Rattle.std.specs.Bool.{OnFalse};
 ghost use Rattle.edge_traits.specs.Told.{Grew, Became};
 ghost use Rattle.edge_traits.specs.Causes.{HasPutCause, IsRemoval, Still};
 ghost use Rattle.edge_traits.specs.FileMaps.{files_after, IsStaged};
-ghost use Rattle.edge_traits.specs.Keepers.{KeeperView, IsIdle, IsPending, HasPending, put_entries, fetch_entries, Fetched, FetchCause, KeeperStill};
+ghost use Rattle.edge_traits.specs.Keepers.{KeeperView, IsIdle, IsPending, HasPending, put_entries, fetch_entries, Fetched, FetchCause, KeeperLater, KeeperStill};
 
 use crate::{EdgeFault, FetchFault};
 use farm_types::Bytes;
@@ -95,8 +95,7 @@ pub trait Keeper {
         ensures files { Became (shows self.old).files (shows self.new).files (shows self.old).files.value }
         ensures puts { Grew (shows self.old).puts (shows self.new).puts [] }
         ensures idle { IsIdle (shows self.new) }
-        ensures faults { (shows self.old).faults ≤ (shows self.new).faults }
-        ensures overruns { (shows self.old).overruns ≤ (shows self.new).overruns }
+        ensures counts { KeeperLater (shows self.old) (shows self.new) }
         ensures done { OnOk result (KeeperStill (shows self.old) (shows self.new)) }
         ensures cause { IfErr result (FetchCause path.now bound (shows self.old) (shows self.new)) };
 }

@@ -3,9 +3,8 @@ use Rattle.std.proofs.Common.{◌≡◌, ◌≢◌, ◌⊎◌, inl, inr, ℕ, Bo
 use Rattle.std.proofs.Common.{arith}
 use Rattle.farm_types.specs.Limits.{preprocessed_max}
 use Rattle.slot_table.specs.declared.calls.CallEntry.{CallEntry}
-use Rattle.slot_table.specs.declared.calls.SlotCall.TheVariants.{GiveBad as GiveBadCall, GiveLocal}
+use Rattle.slot_table.specs.declared.calls.SlotCall.TheVariants.{GiveLocal}
 use Rattle.slot_table.specs.declared.calls.SlotReply.TheVariants.{Given}
-use Rattle.slot_table.specs.Backoff.{bad_until}
 use Rattle.slot_table.specs.History.{entry}
 use Rattle.edge_traits.specs.declared.faults.Bounds.{Bounds}
 use Rattle.edge_traits.specs.declared.faults.StationFault.{StationFault}
@@ -32,7 +31,7 @@ use Rattle.remote_transfer.specs.Landings.{LandedCause, IsUnasked}
 use Rattle.remote_transfer.specs.declared.answers.Attempt.TheVariants.{Memory as AttemptMemory}
 use Rattle.remote_transfer.specs.declared.answers.Landed.TheVariants.{Broke as LandedBroke, Memory as LandedMemory}
 use Rattle.farm_machine.specs.declared.reports.Event.{Event}
-use Rattle.farm_machine.specs.declared.reports.Event.TheVariants.{Took, Gave, GaveBad}
+use Rattle.farm_machine.specs.declared.reports.Event.TheVariants.{Took}
 use Rattle.farm_machine.specs.declared.reports.Why5.{Why5}
 use Rattle.farm_machine.specs.declared.reports.Why5.TheVariants.{Station, Put, Fetch, Memory, Broke}
 use Rattle.farm_machine.specs.declared.reports.By.{By}
@@ -205,15 +204,8 @@ done-unfetched name acts k k' {end = end} {status = status} {note = note} {err =
     subst (λ (e : End). FetchEnds name e acts k k') (sym is) tt
 
 -- a host that is known by another name
-pub gave-as : (host other : ℕ) (es es' : List Event) → host ≡ other → es' ≡ es ++ Gave host ∷ [] → es' ≡ es ++ Gave other ∷ []
-gave-as host other es es' same is = is ∙ ap (λ (h : ℕ). es ++ Gave h ∷ []) same
-
 pub took-as : (host other : ℕ) (es es' : List Event) → host ≡ other → es' ≡ es ++ Took host ∷ [] → es' ≡ es ++ Took other ∷ []
 took-as host other es es' same is = is ∙ ap (λ (h : ℕ). es ++ Took h ∷ []) same
-
-pub gave-bad-as : (host other until : ℕ) (es es' : List Event) → host ≡ other → es' ≡ es ++ GaveBad host until ∷ []
-    → es' ≡ es ++ GaveBad other until ∷ []
-gave-bad-as host other until es es' same is = is ∙ ap (λ (h : ℕ). es ++ GaveBad h until ∷ []) same
 
 -- what is so of the request that was made and of the host that was asked is so of the job's
 pub begun-as : (j : Job) (source : List ℕ) (host : ℕ) (q : Request) (h : Host) (x : Exchange) → request_for j source ≡ q
@@ -261,14 +253,3 @@ dialed_once may q host old new dialed is adds =
           }
       | false ↦ λ i a. absurd (cc)
     ] is adds
-
--- the period of a back-off by another name
-pub alone-noted : (host moment period other : ℕ) (es es' : List Event) → other ≡ period
-    → es' ≡ es ++ GaveBad host (bad_until moment period) ∷ [] → es' ≡ es ++ GaveBad host (bad_until moment other) ∷ []
-alone-noted host moment period other es es' same is = is ∙ ap (λ (p : ℕ). es ++ GaveBad host (bad_until moment p) ∷ []) (sym same)
-
-pub alone-called : (w host job moment period other : ℕ) (es es' : List CallEntry) → other ≡ period
-    → es' ≡ es ++ entry w (GiveBadCall host job (bad_until moment period)) Given ∷ []
-    → es' ≡ es ++ entry w (GiveBadCall host job (bad_until moment other)) Given ∷ []
-alone-called w host job moment period other es es' same is =
-    is ∙ ap (λ (p : ℕ). es ++ entry w (GiveBadCall host job (bad_until moment p)) Given ∷ []) (sym same)

@@ -1,19 +1,20 @@
 -- Waits for slots, and what they leave outstanding.
-use Rattle.std.proofs.Common.{◌≡◌, ℕ, ◌+◌, ◌*◌, ◌<◌, ◌≤◌, Bool, true, false, ◌||◌, cond, List, [], ◌∷◌, ◌++◌, Some, None, map, replicate}
+use Rattle.std.proofs.Common.{◌≡◌, ℕ, ◌+◌, ◌*◌, ◌≤◌, Bool, true, false, cond, List, [], ◌∷◌, ◌++◌, map, replicate}
 use Rattle.std.proofs.Common.{refl, sym, ap, ◌∙◌, append_assoc, arith, true≢false}
 use Rattle.std.proofs.lemmas.List.{replicate_more, map-append}
 use Rattle.slot_table.specs.declared.mask.Mask.{Mask}
 use Rattle.slot_table.specs.declared.calls.CallEntry.{CallEntry}
-use Rattle.slot_table.specs.declared.calls.SlotCall.TheVariants.{Take, Give, GiveBad, TakeLocal, GiveLocal}
+use Rattle.slot_table.specs.declared.calls.SlotCall.TheVariants.{Take, TakeLocal}
 use Rattle.slot_table.specs.declared.calls.SlotReply.{SlotReply}
-use Rattle.slot_table.specs.declared.calls.SlotReply.TheVariants.{Local, Given}
+use Rattle.slot_table.specs.declared.calls.SlotReply.TheVariants.{Local}
 use Rattle.slot_table.specs.Grants.{cost}
-use Rattle.slot_table.specs.History.{entry, Holding, holding, without, has, outstanding, outstanding_then}
+use Rattle.slot_table.specs.History.{entry, Holding, without, outstanding, outstanding_then}
 use Rattle.slot_table.proofs.Histories.{outstanding_from-append}
 use Rattle.slot_table.proofs.Holdings.{holding_eq-refl}
 use Rattle.edge_traits.specs.Told.{Told, Grew}
 use Rattle.edge_traits.proofs.ToldLemmas.{Grew-join}
 use Rattle.job_run.specs.Events.{events_max}
+use Rattle.job_run.specs.Seen.{IsHolding, StaysFree}
 use Rattle.job_run.specs.Waits.{refused_local, borrowed, refused_take, asked}
 use Rattle.job_run.specs.Went.{HasSpare, Spent}
 
@@ -22,30 +23,8 @@ pub outstanding-more : (es es' : List CallEntry) (e : CallEntry) → es' ≡ es 
     → outstanding es' ≡ outstanding_then (outstanding es) e
 outstanding-more es es' e is = ap outstanding is ∙ outstanding_from-append [] es (e ∷ [])
 
--- a grant of this holding, and of no other, is outstanding
-pub out-alone : (x : Holding) (es : List CallEntry) → outstanding es ≡ x ∷ [] → has x (outstanding es) ≡ true
-out-alone x es is = ap (has x) is ∙ ap (λ (b : Bool). b || false) (holding_eq-refl x)
-
 given-all : (x : Holding) → without x (x ∷ []) ≡ []
 given-all x = ap (λ (b : Bool). cond b [] (x ∷ [])) (holding_eq-refl x)
-
--- a give of the one slot that is outstanding
-pub gave-local : (w job : ℕ) (es : List CallEntry) {es' : List CallEntry} → outstanding es ≡ holding w job None ∷ []
-    → es' ≡ es ++ entry w (GiveLocal job) Given ∷ [] → outstanding es' ≡ []
-gave-local w job es {es' = es'} held is =
-    outstanding-more es es' (entry w (GiveLocal job) Given) is ∙ ap (without (holding w job None)) held ∙ given-all (holding w job None)
-
-pub gave-host : (w job host : ℕ) (es : List CallEntry) {es' : List CallEntry} → outstanding es ≡ holding w job (Some host) ∷ []
-    → es' ≡ es ++ entry w (Give host job) Given ∷ [] → outstanding es' ≡ []
-gave-host w job host es {es' = es'} held is =
-    outstanding-more es es' (entry w (Give host job) Given) is ∙ ap (without (holding w job (Some host))) held
-    ∙ given-all (holding w job (Some host))
-
-pub gave-bad : (w job host until : ℕ) (es : List CallEntry) {es' : List CallEntry} → outstanding es ≡ holding w job (Some host) ∷ []
-    → es' ≡ es ++ entry w (GiveBad host job until) Given ∷ [] → outstanding es' ≡ []
-gave-bad w job host until es {es' = es'} held is =
-    outstanding-more es es' (entry w (GiveBad host job until) Given) is ∙ ap (without (holding w job (Some host))) held
-    ∙ given-all (holding w job (Some host))
 
 -- the calls of a wait for a local slot, one more each time
 pub got-local : {w w' : ℕ} (job : ℕ) (old : List CallEntry) {mid new : List CallEntry} (n : ℕ) → w' ≡ w
@@ -104,40 +83,29 @@ pub no-cost : (alone : Bool) (spare spare' : ℕ) → (alone ≡ true → ⊥) �
 no-cost true spare spare' never is = absurd (never refl)
 no-cost false spare spare' never is = omega (arith, is)
 
--- a call may be made where there is room for an event
-pub can-call : (alone : Bool) (left spare : ℕ) → HasSpare alone left spare → 1 ≤ left → cost alone ≤ spare
-can-call true left spare has some = let enough : left ≤ spare = has refl in omega (arith, enough, some)
-can-call false left spare has some = omega arith
-
 pub spent-none : (alone : Bool) (left spare : ℕ) → Spent alone left spare left spare
 spent-none alone left spare = record { alone_spent = λ e. omega arith; shared = λ e. refl; fell = omega arith }
 
 -- a call and an event
-pub spent-one : (alone : Bool) (left left' spare spare' : ℕ) → left' + 1 ≡ left → spare' + cost alone ≡ spare
+spent-one : {alone : Bool} {left left' spare spare' : ℕ} → left' + 1 ≡ left → spare' + cost alone ≡ spare
     → Spent alone left spare left' spare'
-spent-one true left left' spare spare' one paid =
+spent-one {alone = true} {left = left} {left' = left'} {spare = spare} {spare' = spare'} one paid =
     record { alone_spent = λ e. omega (arith, one, paid); shared = λ e. absurd (true≢false e); fell = omega (arith, one) }
-spent-one false left left' spare spare' one paid =
+spent-one {alone = false} {left = left} {left' = left'} {spare = spare} {spare' = spare'} one paid =
     record { alone_spent = λ e. absurd (true≢false (sym e)); shared = λ e. omega (arith, paid); fell = omega (arith, one) }
 
--- a call, or two, with at least as many events
-pub spent-call : {alone : Bool} {left left' spare spare' : ℕ} → left' < left → spare' + cost alone ≡ spare
-    → Spent alone left spare left' spare'
-spent-call {alone = true} {left = left} {left' = left'} {spare = spare} {spare' = spare'} less paid =
-    record { alone_spent = λ e. omega (arith, less, paid); shared = λ e. absurd (true≢false e); fell = omega (arith, less) }
-spent-call {alone = false} {left = left} {left' = left'} {spare = spare} {spare' = spare'} less paid =
-    record { alone_spent = λ e. absurd (true≢false (sym e)); shared = λ e. omega (arith, paid); fell = omega (arith, less) }
-
-pub spent-two : {alone : Bool} {left left' spare : ℕ} (mid : ℕ) {spare' : ℕ} → left' + 2 ≤ left → mid + cost alone ≡ spare
-    → spare' + cost alone ≡ mid → Spent alone left spare left' spare'
-spent-two {alone = true} {left = left} {left' = left'} {spare = spare} mid {spare' = spare'} less paid paid_too =
-    record { alone_spent = λ e. omega (arith, less, paid, paid_too); shared = λ e. absurd (true≢false e); fell = omega (arith, less) }
-spent-two {alone = false} {left = left} {left' = left'} {spare = spare} mid {spare' = spare'} less paid paid_too =
-    record { alone_spent = λ e. absurd (true≢false (sym e)); shared = λ e. omega (arith, paid, paid_too); fell = omega (arith, less) }
-
--- an event and no call
-pub spent-left : (alone : Bool) (left left' spare : ℕ) → left' ≤ left → Spent alone left spare left' spare
-spent-left alone left left' spare less = record { alone_spent = λ e. omega (arith, less); shared = λ e. refl; fell = less }
+-- the one slot that was held is given back by this call, which is noted
+pub gave-noted : {G : Type 0} {is_ready : G → Type 0} {alone : Bool} {spare_of : G → ℕ} {mine_of : G → List CallEntry} {held : Holding}
+    {old new : G} {left left' : ℕ} (call : CallEntry)
+    → IsHolding is_ready alone spare_of mine_of (held ∷ []) old left 1 → is_ready new → spare_of new + cost alone ≡ spare_of old
+    → mine_of new ≡ mine_of old ++ call ∷ [] → outstanding_then (held ∷ []) call ≡ without held (held ∷ []) → left' + 1 ≡ left
+    → StaysFree is_ready alone spare_of mine_of old new left left' 1
+gave-noted {held = held} call lent ready paid called gives noted = record {
+  ready = ready;
+  none = outstanding-more _ _ call called ∙ ap (λ (xs : List Holding). outstanding_then xs call) lent.out ∙ gives ∙ given-all held;
+  spent = spent-one noted paid;
+  room = omega (arith, noted);
+}
 
 pub spent-then : {alone : Bool} {left left1 left2 spare spare1 spare2 : ℕ} → Spent alone left spare left1 spare1
     → Spent alone left1 spare1 left2 spare2 → Spent alone left spare left2 spare2
@@ -155,11 +123,7 @@ pub spare-then : (alone : Bool) (left left' spare spare' : ℕ) → Spent alone 
 spare-then alone left left' spare spare' spent has e =
     let a : spare + left' ≤ spare' + left = spent.alone_spent e in let b : left ≤ spare = has e in omega (arith, a, b)
 
--- at the start, and at the end
-pub spare-first : (alone : Bool) (spare : ℕ) → events_max * cost alone ≤ spare → HasSpare alone events_max spare
-spare-first true spare has e = omega (arith, has)
-spare-first false spare has e = absurd (true≢false (sym e))
-
+-- at the end
 pub spare-last : (alone : Bool) (left spare spare' : ℕ) → Spent alone events_max spare left spare'
     → spare ≤ spare' + events_max * cost alone
 spare-last true left spare spare' spent = let a : spare + left ≤ spare' + events_max = spent.alone_spent refl in omega (arith, a)

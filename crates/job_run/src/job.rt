@@ -15,6 +15,7 @@ ghost use Rattle.job_run.specs.Went.{HasEnded};
 
 use crate::EventRoom;
 use crate::ending::deliver;
+use crate::giving::give_back_local;
 use crate::journal::Journal;
 use crate::local_fallback::compile_here;
 use crate::preparing::{Prepared, prepare};
@@ -57,13 +58,11 @@ fn run_in_place<R: Wait, D: Dialer, S: Station, K: Keeper, C: Clock, G: Grants>(
     match in_place(command.alloc, command.words, &mut kit.station) {
         Ok(ran) => {
             journal.ran();
-            grants.give_local(grant);
-            journal.note(Event::GaveLocal);
+            give_back_local(grant, grants, journal);
             done_in_place(command.alloc, ran)
         }
         Err(fault) => {
-            grants.give_local(grant);
-            journal.note(Event::GaveLocal);
+            give_back_local(grant, grants, journal);
             End::Failed(why_not_run(fault))
         }
     }

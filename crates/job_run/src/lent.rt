@@ -9,12 +9,13 @@ ghost use Rattle.job_run.specs.Events.{lent_events};
 ghost use Rattle.job_run.specs.Seen.{seen, job_in, IsHolding, StaysFree};
 ghost use Rattle.job_run.specs.Stages.{StepIs};
 
+use crate::giving::give_back;
 use crate::journal::Journal;
 use crate::step::{Step, outcome_of, why_not_run};
 use crate::task::Task;
 use child_runner::compile;
 use edge_traits::{Clock, Dialer, Keeper, Kit, Station};
-use farm_machine::{By, Event};
+use farm_machine::By;
 use farm_types::Bytes;
 use kit_types::Observed;
 use slot_table::{Grant, Grants};
@@ -41,20 +42,17 @@ pub(crate) fn compile_lent<D: Dialer, S: Station, K: Keeper, C: Clock, G: Grants
         (seen ⟦<Kit<D, S, K, C> as Observed>⟧.devices kit.new (G.mine grants.new) journal.new)
         (Lent (host_of grant) source.now note tried) source.now note result }
 {
-    let at = grant.host();
     match compile(task.alloc, task.words, source, &mut kit.station) {
         Ok(ran) => {
             journal.ran();
-            grants.give(grant);
-            journal.note(Event::Gave(at));
+            give_back(grant, grants, journal);
             Step::Compiled {
                 by: By::Here,
                 outcome: outcome_of(ran),
             }
         }
         Err(fault) => {
-            grants.give(grant);
-            journal.note(Event::Gave(at));
+            give_back(grant, grants, journal);
             Step::Failed(why_not_run(fault))
         }
     }

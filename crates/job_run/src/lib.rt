@@ -3,6 +3,7 @@
 
 mod ending;
 mod exchanging;
+mod giving;
 mod job;
 mod journal;
 mod lent;

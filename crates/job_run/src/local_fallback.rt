@@ -6,6 +6,7 @@ ghost use Rattle.job_run.specs.Events.{local_events};
 ghost use Rattle.job_run.specs.Seen.{seen, job_in, IsFree, StaysFree};
 ghost use Rattle.job_run.specs.Stages.{IsForHere, LocalIs};
 
+use crate::giving::give_back_local;
 use crate::journal::Journal;
 use crate::step::{outcome_of, why_not_run};
 use crate::task::Task;
@@ -43,13 +44,11 @@ pub(crate) fn compile_here<R: Wait, D: Dialer, S: Station, K: Keeper, C: Clock, 
     match compile(task.alloc, task.words, source, &mut kit.station) {
         Ok(ran) => {
             journal.ran();
-            grants.give_local(grant);
-            journal.note(Event::GaveLocal);
+            give_back_local(grant, grants, journal);
             Ok(outcome_of(ran))
         }
         Err(fault) => {
-            grants.give_local(grant);
-            journal.note(Event::GaveLocal);
+            give_back_local(grant, grants, journal);
             Err(why_not_run(fault))
         }
     }

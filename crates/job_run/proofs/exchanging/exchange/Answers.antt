@@ -1,4 +1,4 @@
-use Rattle.std.proofs.Common.{inl, inr, ℕ, List, refl, sym, ap, ◌∙◌, subst, [], ◌∷◌, arith}
+use Rattle.std.proofs.Common.{inl, inr, ℕ, List, refl, sym, ap, ◌∙◌, subst, [], ◌∷◌}
 use Rattle.reply_stream.specs.Objects.{with_object}
 use Rattle.edge_traits.specs.Deeds.{exchanged, timed}
 use Rattle.edge_traits.specs.FileMaps.{IsStaged}
@@ -12,14 +12,13 @@ use Rattle.job_run.specs.Gives.{IsUnhurt}
 use Rattle.job_run.specs.Seen.{job_in}
 use Rattle.job_run.specs.Stages.{step_after}
 use Rattle.job_run.proofs.Composing.{none-rose, went-on, later-exchanged}
-use Rattle.job_run.proofs.Failing.{broken-cause, gave-as, begun-as, whole-as, broken-as, undialed, unasked, dialed_once}
+use Rattle.job_run.proofs.Failing.{broken-cause, begun-as, whole-as, broken-as, undialed, unasked, dialed_once}
 use Rattle.job_run.proofs.Leaves.{noted-then, did-no-exchange, did-exchange, did-exchange-look, exchanged-given, exchanged-alone}
 use Rattle.job_run.proofs.Leaves.{given-back, same_programs}
 use Rattle.job_run.proofs.Asking.{whole-step, wanted-step, broke-as}
 use Rattle.job_run.proofs.Strictness.{strict-unhurt, strict-broken}
 use Rattle.job_run.proofs.Keeping.{whole-idle}
 use Rattle.job_run.proofs.Names.{output_not_staged}
-use Rattle.job_run.proofs.Outstanding.{gave-host, spent-call}
 use Rattle.job_run.proofs.exchanging.exchange.Goals as goal
 
 pub attempt_into-requires-clause-name : goal.attempt_into-requires-clause-name
@@ -34,6 +33,7 @@ returns-in-Whole-clause-asked g c = λ note tried.
     let host = host_of c.args.grant in
     let source = c.args.sending.now.request.now.source in
     let attempt = c.in-Whole.ensures in
+    let gave = c.give_back.ensures in
     let x = attempt.adds.adds.entry in
     let is = attempt.adds.adds.is in
     let same_request = ap (λ words. record { words = words; source = source }) (sym c.args.sending.now.sent.words) in
@@ -47,8 +47,7 @@ returns-in-Whole-clause-asked g c = λ note tried.
     (did-exchange _ _ x attempt.adds.adds.grew refl attempt.stays (Grew-refl _))
     (later-exchanged _ _ refl attempt.stays attempt.later) attempt.adds.adds.may attempt.may_give (same_programs _)
     (noted-then (Did (exchanged x) ∷ []) (Met (Gives host) ∷ []) _ _ (c.exchanged.ensures.events, c.exchanged.ensures.places)
-    (gave-as _ _ _ _ c.host-at.ensures c.note.ensures.events, c.note.ensures.places))
-    c.give.ensures.mine
+    (gave.noted, gave.places)) gave.called
     (ap (λ h. h.local) same_host ∙ c.requires.elsewhere.remote, begun-as j _ _ _ _ x same_request same_host is.0.begun, refl)
     (refl, inl (o, whole-as j _ _ _ _ x _ same_request same_host is.0, refl))
     (strict-unhurt host host source note tried x (after_whole j host source note o) unhurt) (inr unhurt)
@@ -95,6 +94,7 @@ returns-in-Memory-true-clause-asked g c = λ note tried.
     let host = host_of c.args.grant in
     let source = c.args.sending.now.request.now.source in
     let attempt = c.in-Memory-true.ensures in
+    let gave = c.give_back-in-Memory-true.ensures in
     let adds = dialed_once _ _ _ _ _ c.in-Memory-true.dialed c.in-Memory-true.dialed-test attempt.adds.adds in
     let x = adds.entry in
     let same_request = ap (λ words. record { words = words; source = source }) (sym c.args.sending.now.sent.words) in
@@ -105,22 +105,21 @@ returns-in-Memory-true-clause-asked g c = λ note tried.
     (later-exchanged _ _ refl attempt.stays attempt.later) adds.may attempt.may_give (same_programs _)
     (noted-then (Did (exchanged x) ∷ []) (Met (Gives host) ∷ []) _ _
     (c.exchanged-in-Memory-true.ensures.events, c.exchanged-in-Memory-true.ensures.places)
-    (gave-as _ _ _ _ c.host-at.ensures c.note-in-Memory-true.ensures.events, c.note-in-Memory-true.ensures.places))
-    c.give-in-Memory-true.ensures.mine
+    (gave.noted, gave.places)) gave.called
     (ap (λ h. h.local) same_host ∙ c.requires.elsewhere.remote, begun-as j _ _ _ _ x same_request same_host adds.is.0, refl)
     (refl, inr (inr refl)) adds.is.1 (inr adds.is.1) (none-rose _) attempt.stays.overruns)
 
 pub returns-in-Memory-false-clause-asked : goal.returns-in-Memory-false-clause-asked
 returns-in-Memory-false-clause-asked g c = λ note tried.
     let attempt = c.in-Memory-false.ensures in
+    let gave = c.give_back-in-Memory-false.ensures in
     let same = unasked c.in-Memory-false.dialed _ _ c.in-Memory-false.dialed-test attempt.unasked in
     wanted-step
     (went-on (given-back (host_of c.args.grant)
     (did-no-exchange _ _ (undialed _ _ _ _ _ c.in-Memory-false.dialed c.in-Memory-false.dialed-test attempt.adds.adds) refl attempt.stays
     (Grew-refl _))
     (later-exchanged _ _ refl attempt.stays attempt.later) attempt.may_give (same_programs _)
-    (gave-as _ _ _ _ c.host-at.ensures c.note-in-Memory-false.ensures.events, c.note-in-Memory-false.ensures.places)
-    c.give-in-Memory-false.ensures.mine
+    (gave.noted, gave.places) gave.called
     (refl, inr refl) tt) (none-rose _)
     (record { faults = λ none. ap (λ (k : KeeperView). k.faults) same; overruns = attempt.stays.overruns }))
 
@@ -129,31 +128,3 @@ returns-in-Whole-clause-idle g c =
     let task = c.args.sending.now.task.now in
     let adds = c.in-Whole.ensures.adds in
     whole-idle task.config.now _ c.in-Whole.outcome c.in-Whole.landing task.output.now adds.object _ _ _ c.after_whole.ensures adds.lands.1
-
-pub returns-in-Whole-clause-free : goal.returns-in-Whole-clause-free
-returns-in-Whole-clause-free g c = record {
-  ready = c.give.ensures.ready;
-  none = gave-host _ _ _ _ c.requires.lent.out c.give.ensures.mine;
-  spent = spent-call (omega (arith, c.exchanged.ensures.left, c.note.ensures.left)) c.give.ensures.spare;
-  room = omega (arith, c.exchanged.ensures.left, c.note.ensures.left);
-}
-
-pub returns-in-Memory-true-clause-free : goal.returns-in-Memory-true-clause-free
-returns-in-Memory-true-clause-free g c = record {
-  ready = c.give-in-Memory-true.ensures.ready;
-  none = gave-host _ _ _ _ c.requires.lent.out c.give-in-Memory-true.ensures.mine;
-  spent = spent-call (omega (
-    arith,
-    c.exchanged-in-Memory-true.ensures.left,
-    c.note-in-Memory-true.ensures.left,
-  )) c.give-in-Memory-true.ensures.spare;
-  room = omega (arith, c.exchanged-in-Memory-true.ensures.left, c.note-in-Memory-true.ensures.left);
-}
-
-pub returns-in-Memory-false-clause-free : goal.returns-in-Memory-false-clause-free
-returns-in-Memory-false-clause-free g c = record {
-  ready = c.give-in-Memory-false.ensures.ready;
-  none = gave-host _ _ _ _ c.requires.lent.out c.give-in-Memory-false.ensures.mine;
-  spent = spent-call (omega (arith, c.note-in-Memory-false.ensures.left)) c.give-in-Memory-false.ensures.spare;
-  room = omega (arith, c.note-in-Memory-false.ensures.left);
-}

@@ -1,4 +1,4 @@
-use Rattle.std.proofs.Common.{inl, refl, ap, [], ◌∷◌, arith}
+use Rattle.std.proofs.Common.{inl, refl, ap, [], ◌∷◌}
 use Rattle.edge_traits.specs.Deeds.{ran}
 use Rattle.farm_machine.specs.declared.reports.By.TheVariants.{Here}
 use Rattle.farm_machine.specs.declared.reports.End.TheVariants.{Failed}
@@ -9,38 +9,21 @@ use Rattle.edge_traits.proofs.ToldLemmas.{Grew-refl}
 use Rattle.arg_strip.specs.Words.{placed_words}
 use Rattle.slot_table.specs.Grants.{host_of}
 use Rattle.job_run.proofs.Composing.{keeps-none, keeps-by, unfetched, later-ran, went-on}
-use Rattle.job_run.proofs.Failing.{over-not-run, not-run-cause, not-run-station, not-run-unfetched, over-lent, gave-as}
+use Rattle.job_run.proofs.Failing.{over-not-run, not-run-cause, not-run-station, not-run-unfetched, over-lent}
 use Rattle.job_run.proofs.Leaves.{noted-then, did-run, did-nothing, lent-ran, given-back, same_peers}
-use Rattle.job_run.proofs.Outstanding.{gave-host, spent-call}
 use Rattle.job_run.proofs.lent.compile_lent.Goals as goal
-
-pub returns-in-Ok-clause-free : goal.returns-in-Ok-clause-free
-returns-in-Ok-clause-free g c = record {
-  ready = c.give.ensures.ready;
-  none = gave-host _ _ _ _ c.requires.lent.out c.give.ensures.mine;
-  spent = spent-call (omega (arith, c.ran.ensures.left, c.note.ensures.left)) c.give.ensures.spare;
-  room = omega (arith, c.ran.ensures.left, c.note.ensures.left);
-}
-
-pub returns-in-Err-clause-free : goal.returns-in-Err-clause-free
-returns-in-Err-clause-free g c = record {
-  ready = c.give-in-Err.ensures.ready;
-  none = gave-host _ _ _ _ c.requires.lent.out c.give-in-Err.ensures.mine;
-  spent = spent-call (omega (arith, c.note-in-Err.ensures.left)) c.give-in-Err.ensures.spare;
-  room = omega (arith, c.note-in-Err.ensures.left);
-}
 
 pub returns-in-Ok-clause-compiled : goal.returns-in-Ok-clause-compiled
 returns-in-Ok-clause-compiled g c = λ note tried.
     let host = host_of c.args.grant in
     let run = c.in-Ok.ensures in
+    let gave = c.give_back.ensures in
     let x : Run = record { words = placed_words c.args.task.now.words.now; input = c.args.source.now; ran = c.in-Ok.ran } in (
       c.outcome_of.result.object,
       went-on (lent-ran host (RanThere host note c.in-Ok.ran) x
           (did-run _ _ x run.runs refl refl (Grew-refl _)) (later-ran _ _ run.faults run.overruns refl refl) run.ran (same_peers _) run.same
           (noted-then (Did (ran x) ∷ []) (Met (Gives host) ∷ []) _ _ (c.ran.ensures.events, c.ran.ensures.places)
-          (gave-as _ _ _ _ c.host-at.ensures c.note.ensures.events, c.note.ensures.places))
-          c.give.ensures.mine
+          (gave.noted, gave.places)) gave.called
           (c.requires.here, (refl, refl), refl) run.within (refl, inl (ap (λ o. Finish Here note o) c.outcome_of.ensures)) tt)
           run.done (keeps-none _ _),
       (refl, c.requires.idle),
@@ -49,6 +32,7 @@ returns-in-Ok-clause-compiled g c = λ note tried.
 pub returns-in-Err-clause-compiled : goal.returns-in-Err-clause-compiled
 returns-in-Err-clause-compiled g c = λ note tried.
     let run = c.in-Err.ensures in
+    let gave = c.give_back-in-Err.ensures in
     let why = c.why_not_run.result in
     let is = c.why_not_run.ensures in
     record {
@@ -56,7 +40,7 @@ returns-in-Err-clause-compiled g c = λ note tried.
       went = given-back (host_of c.args.grant)
           (did-nothing _ _ run.runs (Grew-refl _) refl (Grew-refl _)) (later-ran _ _ run.faults run.overruns refl refl)
           (same_peers _) run.same
-          (gave-as _ _ _ _ c.host-at.ensures c.note-in-Err.ensures.events, c.note-in-Err.ensures.places) c.give-in-Err.ensures.mine
+          (gave.noted, gave.places) gave.called
           (refl, over-lent _ _ c.requires.here (over-not-run c.in-Err.fault _ is)) tt;
       ends = refl;
       cause = not-run-cause _ c.in-Err.fault _ _ _ is run.cause;

@@ -25,7 +25,7 @@ returns-in-Ok-clause-prepared g c = λ h l caller number mine j sent ready named
             moments = Grew-refl _;
             files = got.files;
           })
-          (later-kept _ _ refl got.faults got.overruns (omega arith)) tt (same_peers _) (same_programs _)
+          (later-kept _ _ refl got.counts.faults got.counts.overruns (omega arith)) tt (same_peers _) (same_programs _)
           (c.fetched.ensures.events, c.fetched.ensures.places) refl
           (sent, ready, sym named, ap (λ note. Send c.in-Ok.source note []) c.new.ensures) got.whole.within;
       station = none-rose _;
@@ -46,7 +46,7 @@ returns-in-Err-clause-prepared g c = λ h l caller number mine j sent ready name
             moments = Grew-refl _;
             files = got.files;
           })
-          (later-kept _ _ refl got.faults got.overruns (omega arith)) (same_peers _) (same_programs _)
+          (later-kept _ _ refl got.counts.faults got.counts.overruns (omega arith)) (same_peers _) (same_programs _)
           (sym (append-nil _), refl) refl;
       ends = ends-unfetched j _ sent ready (not-fetched c.in-Err.fault _ c.why_not_fetched.ensures);
       cause = not-fetched-cause _ _ c.in-Err.fault _ _ _ c.why_not_fetched.ensures got.cause;
