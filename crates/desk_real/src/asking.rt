@@ -50,10 +50,7 @@ pub fn ask<R: Net>(
         let Some(mut stream) = dial(rt, run.port) else {
             return Ok(None);
         };
-        if stream.write_all(line.as_bytes()).is_err() {
-            continue;
-        }
-        match read_line(alloc, &mut stream)? {
+        match answer_to(alloc, &mut stream, line.as_str())? {
             Read::Line(answer) => {
                 let granted = granted_by(alloc, answer.as_slice())?;
                 return Ok(granted.map(|granted| (granted, Seat { stream })));
@@ -63,6 +60,18 @@ pub fn ask<R: Net>(
         }
     }
     Ok(None)
+}
+
+// Sends a line, and reads the answer.
+fn answer_to<S: io::Read + Write>(
+    alloc: Global,
+    stream: &mut S,
+    line: &str,
+) -> Result<Read, AllocError> {
+    match stream.write_all(line.as_bytes()) {
+        Ok(()) => read_line(alloc, stream),
+        Err(_) => Ok(Read::End),
+    }
 }
 
 fn dial<R: Net>(rt: &R, port: u16) -> Option<R::Stream> {

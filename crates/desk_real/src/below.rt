@@ -1,7 +1,7 @@
 //! A runtime whose programs know that they run below a caller that has a slot.
 
 use crate::variable::VARIABLE;
-use std::alloc::{Alloc, Allocator};
+use std::alloc::{Alloc, AllocError, Allocator};
 use std::env::{Env, FillError};
 use std::fmt::Display;
 use std::fs::{Metadata, OpenOptions, Permissions};
@@ -40,21 +40,31 @@ impl<'a, R: Processes> Processes for Below<'a, R> {
             return self.rt.spawn(command, stdin, stdout, stderr);
         };
         let mut marked = Command::new(command.allocator().clone()?, command.get_program())?;
-        for word in command.get_args() {
-            marked.arg(word)?;
-        }
-        for (name, value) in command.get_envs() {
-            match value {
-                Some(value) => marked.env(name, value)?,
-                None => marked.env_remove(name)?,
-            };
-        }
-        if let Some(folder) = command.get_current_dir() {
-            marked.current_dir(folder)?;
-        }
-        marked.env(VARIABLE, value)?;
+        complete(&mut marked, command, value)?;
         self.rt.spawn(&marked, stdin, stdout, stderr)
     }
+}
+
+// Gives a command, which has its program only, the rest of another one and this value of the variable.
+fn complete<B: Allocator + Clone>(
+    marked: &mut Command<B>,
+    command: &Command<B>,
+    value: &str,
+) -> Result<(), AllocError> {
+    for word in command.get_args() {
+        marked.arg(word)?;
+    }
+    for (name, value) in command.get_envs() {
+        match value {
+            Some(value) => marked.env(name, value)?,
+            None => marked.env_remove(name)?,
+        };
+    }
+    if let Some(folder) = command.get_current_dir() {
+        marked.current_dir(folder)?;
+    }
+    marked.env(VARIABLE, value)?;
+    Ok(())
 }
 
 impl<'a, R: Files> Files for Below<'a, R> {

@@ -4,10 +4,12 @@
 mod asking;
 mod below;
 mod place;
+mod places;
 mod room;
 mod serving;
 mod starting;
 mod variable;
+mod watch;
 
 pub use asking::{Granted, Seat, ask};
 pub use below::Below;

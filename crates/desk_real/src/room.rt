@@ -3,10 +3,11 @@ ghost use Rattle.std.specs.Prelude.{[], true};
 ghost use Rattle.edge_traits.specs.Told.{untold};
 
 use crate::place::{Found, Place};
+use crate::places::{GREETING, Places};
+use crate::watch::Watch;
 use desk_service::{Callers, Came};
 use desk_words::{Answer, answer_text};
-use mio::unix::SourceFd;
-use mio::{Events, Interest, Poll, Token};
+use mio::Token;
 use slot_desk::{Loan, Place as Lent, Reply};
 use std::alloc::{AllocError, Global};
 use std::io::{self, Read};
@@ -25,9 +26,8 @@ pub struct DeskRoom<R, L, S, P> {
     parent: P,
     /// The entries of the host list, as its print has them.
     entries: Vec<Vec<u8>>,
-    poll: Poll,
-    events: Events,
-    places: Vec<Option<Place<S>>>,
+    watch: Watch,
+    places: Places<S>,
     /// How many connections were taken in.
     taken: u32,
     /// Whether the listener may have a connection.
@@ -46,26 +46,18 @@ pub struct DeskRoom<R, L, S, P> {
 /// How many callers the desk knows at most.
 pub const CALLERS: u32 = 512;
 
-/// How many connections may not have said a line yet.
-const GREETING: usize = 64;
-
 const PLACES: usize = CALLERS as usize + GREETING;
 
 /// How many connections are taken in before their lines are read.
 const TAKEN_AT_ONCE: usize = GREETING / 2;
 
-/// How long a connection has for its first line.
-const GREETING_SECS: u64 = 1;
-
 /// How long the desk waits at most while somebody waits for it.
 const LOOK_MILLIS: u64 = 50;
 
-/// How many events the system reports at once.
-const EVENTS: usize = 128;
+// The numbers of the listener and of the parent, above those of the places.
+const LISTENER: usize = PLACES;
 
-const LISTENER: Token = Token(PLACES);
-
-const PARENT: Token = Token(PLACES + 1);
+const PARENT: usize = PLACES + 1;
 
 impl<R: Net + Drop, L: OpenListener + AsRawFd + Drop, P: AsRawFd + Drop> DeskRoom<
     R,
@@ -84,31 +76,15 @@ impl<R: Net + Drop, L: OpenListener + AsRawFd + Drop, P: AsRawFd + Drop> DeskRoo
         parent: P,
         entries: Vec<Vec<u8>>,
     ) -> io::Result<DeskRoom<R, L, L::Stream, P>> {
-        let mut places = Vec::with_capacity(alloc, PLACES)?;
-        for _ in 0..PLACES {
-            places.push(None)?;
-        }
-        let poll = Poll::new(&rt)?;
-        listener.set_nonblocking(true)?;
-        let registry = poll.registry();
-        registry.register(
-            &mut SourceFd(&listener.as_raw_fd()),
-            LISTENER,
-            Interest::READABLE,
-        )?;
-        registry.register(
-            &mut SourceFd(&parent.as_raw_fd()),
-            PARENT,
-            Interest::READABLE,
-        )?;
+        let watch = watch_of(&rt, alloc, &listener, &parent)?;
+        let places = Places::new(alloc, PLACES)?;
         Ok(DeskRoom {
             rt,
             alloc,
             listener,
             parent,
             entries,
-            poll,
-            events: Events::with_capacity(alloc, EVENTS)?,
+            watch,
             places,
             taken: 0,
             is_called: true,
@@ -121,64 +97,24 @@ impl<R: Net + Drop, L: OpenListener + AsRawFd + Drop, P: AsRawFd + Drop> DeskRoo
     }
 }
 
+// A watch of a listener and of a parent.
+fn watch_of<R: Net, L: OpenListener + AsRawFd, P: AsRawFd>(
+    rt: &R,
+    alloc: Global,
+    listener: &L,
+    parent: &P,
+) -> io::Result<Watch> {
+    listener.set_nonblocking(true)?;
+    let watch = Watch::new(rt, alloc)?;
+    watch.add(listener, LISTENER)?;
+    watch.add(parent, PARENT)?;
+    Ok(watch)
+}
+
 impl<R, L, S, P> DeskRoom<R, L, S, P> {
     /// The number of the command's process, if the parent has said it.
     pub fn command(&self) -> Option<u32> {
         self.command
-    }
-
-    fn place_of(&self, caller: u32) -> Option<usize> {
-        for (at, place) in self.places.iter().enumerate() {
-            if let Some(place) = place {
-                if place.caller == caller {
-                    return Some(at);
-                }
-            }
-        }
-        None
-    }
-
-    fn free_place(&self) -> Option<usize> {
-        for (at, place) in self.places.iter().enumerate() {
-            if place.is_none() {
-                return Some(at);
-            }
-        }
-        None
-    }
-
-    // The place of the one that was taken in first of those that may have something, or of those that have not said a line yet.
-    fn first_of(&self, is_ready: bool) -> Option<usize> {
-        let mut found: Option<(usize, u32)> = None;
-        for (at, place) in self.places.iter().enumerate() {
-            let Some(place) = place else {
-                continue;
-            };
-            let is_earlier = match found {
-                Some((_, caller)) => place.caller < caller,
-                None => true,
-            };
-            let is_one = if is_ready {
-                place.is_ready()
-            } else {
-                !place.has_spoken
-            };
-            if is_earlier && is_one {
-                found = Some((at, place.caller));
-            }
-        }
-        Some(found?.0)
-    }
-
-    // How many have not said a line yet.
-    fn greeting(&self) -> usize {
-        let mut count = 0usize;
-        for place in &self.places {
-            if matches!(place, Some(place) if !place.has_spoken) {
-                count = count.saturating_add(1);
-            }
-        }
-        count
     }
 
     // How long to wait for what comes: for ever, if nobody waits for the desk.
@@ -191,12 +127,7 @@ impl<R, L, S, P> DeskRoom<R, L, S, P> {
                 Some(Duration::ZERO)
             };
         }
-        for place in &self.places {
-            if matches!(place, Some(place) if place.awaits()) {
-                return look;
-            }
-        }
-        None
+        if self.places.is_awaited() { look } else { None }
     }
 
     // Waits until something comes, or until it is time to look again.
@@ -205,28 +136,20 @@ impl<R, L, S, P> DeskRoom<R, L, S, P> {
         R: Clock,
     {
         let patience = self.patience();
-        if self.poll.poll(&mut self.events, patience).is_err() {
+        if self.watch.wait(patience).is_err() {
             thread::sleep(&self.rt, Duration::from_millis(LOOK_MILLIS));
             return;
         }
-        for event in &self.events {
+        for event in self.watch.events() {
             let Token(at) = event.token();
-            if at == PLACES {
+            if at == LISTENER {
                 self.is_called = true;
-            } else if at > PLACES {
+            } else if at == PARENT {
                 self.is_told = true;
                 self.is_closed |= event.is_read_closed();
-            } else if let Some(Some(place)) = self.places.get_mut(at) {
+            } else if let Some(place) = self.places.get_mut(at) {
                 place.has_news = true;
             }
-        }
-    }
-}
-
-impl<R, L, S: Drop, P> DeskRoom<R, L, S, P> {
-    fn remove(&mut self, at: usize) {
-        if let Some(place) = self.places.get_mut(at) {
-            *place = None;
         }
     }
 }
@@ -234,19 +157,6 @@ impl<R, L, S: Drop, P> DeskRoom<R, L, S, P> {
 impl<R: Clock, L, S, P> DeskRoom<R, L, S, P> {
     fn moment(&self) -> Duration {
         self.rt.monotonic().unwrap_or(Duration::ZERO)
-    }
-
-    // Gives up those that had their time for a first line.
-    fn give_up_late(&mut self) {
-        let now = self.moment();
-        for place in self.places.iter_mut() {
-            if let Some(place) = place {
-                let waited = now.saturating_sub(place.begun);
-                if !place.has_spoken && waited >= Duration::from_secs(GREETING_SECS) {
-                    place.end();
-                }
-            }
-        }
     }
 }
 
@@ -295,36 +205,19 @@ impl<R: Clock, L: OpenListener<Stream = S>, S: OpenStream + AsRawFd + Drop, P> D
 
     // Gives a connection a place. If too many have not said a line, the oldest of them goes.
     fn seat(&mut self, stream: S) {
-        if self.greeting() >= GREETING || self.free_place().is_none() {
-            if let Some(at) = self.first_of(false) {
-                self.remove(at);
-            }
-        }
-        let Some(at) = self.free_place() else {
+        let Some(at) = self.places.make_room() else {
             return;
         };
         let Some(caller) = self.taken.checked_add(1) else {
             return;
         };
         let _ = stream.set_nodelay(true);
-        let is_set = stream.set_nonblocking(true).is_ok()
-            && self
-                .poll
-                .registry()
-                .register(
-                    &mut SourceFd(&stream.as_raw_fd()),
-                    Token(at),
-                    Interest::READABLE,
-                )
-                .is_ok();
-        if !is_set {
+        if stream.set_nonblocking(true).is_err() || self.watch.add(&stream, at).is_err() {
             return;
         }
         self.taken = caller;
         let place = Place::new(stream, caller, self.moment());
-        if let Some(free) = self.places.get_mut(at) {
-            *free = Some(place);
-        }
+        self.places.fill(at, place);
     }
 }
 
@@ -332,16 +225,14 @@ impl<R: Clock, L, S: Read + Drop, P> DeskRoom<R, L, S, P> {
     // What comes first of those that have something.
     fn first_heard(&mut self) -> Option<Came> {
         for _ in 0..PLACES {
-            let at = self.first_of(true)?;
+            let at = self.places.first(true)?;
             let now = self.moment().as_secs();
-            let Some(Some(place)) = self.places.get_mut(at) else {
-                return None;
-            };
+            let place = self.places.get_mut(at)?;
             let caller = place.caller;
             match place.look(self.alloc) {
                 Found::Line(line) => return Some(Came::Line { caller, line, now }),
                 Found::End => {
-                    self.remove(at);
+                    self.places.remove(at);
                     return Some(Came::Left { caller, now });
                 }
                 Found::Nothing => {}
@@ -367,10 +258,10 @@ impl<R, L, S: io::Write, P> DeskRoom<R, L, S, P> {
     }
 
     fn say(&mut self, caller: u32, answer: Result<Vec<u8>, AllocError>) {
-        let Some(at) = self.place_of(caller) else {
+        let Some(at) = self.places.of(caller) else {
             return;
         };
-        if let Some(Some(place)) = self.places.get_mut(at) {
+        if let Some(place) = self.places.get_mut(at) {
             match answer {
                 Ok(line) => place.say(line.as_slice()),
                 Err(_) => place.end(),
@@ -409,10 +300,9 @@ impl<
             self.hear_parent();
         }
         self.take_in();
-        self.give_up_late();
-        Came::Time {
-            now: self.moment().as_secs(),
-        }
+        let now = self.moment();
+        self.places.give_up_late(now);
+        Came::Time { now: now.as_secs() }
     }
 
     fn answer(&mut self, reply: Reply) {
@@ -431,8 +321,8 @@ impl<
     }
 
     fn close(&mut self, caller: u32) {
-        if let Some(at) = self.place_of(caller) {
-            self.remove(at);
+        if let Some(at) = self.places.of(caller) {
+            self.places.remove(at);
         }
     }
 }

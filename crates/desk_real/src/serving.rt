@@ -45,17 +45,54 @@ where
         return Err(io::Error::from(ErrorKind::InvalidInput));
     }
     let mut desk: Desk<16> = Desk::new(alloc, plan.limits, plan.period, CALLERS)?;
-    let greetings = Greetings::new(alloc, token(&rt, alloc)?)?;
-    let place = SocketAddr::V4(SocketAddrV4::new(Ipv4Addr::LOCALHOST, 0));
-    let listener = TcpListener::bind(&rt, place)?;
-    let port = listener.local_addr()?.port();
+    let (listener, port) = listen(&rt)?;
     let mut room = DeskRoom::new(rt, alloc, listener, parent, plan.entries)?;
-    let line = format!(in alloc; "{port}:{}\n", greetings.token)?;
-    out.write_all(line.as_bytes())?;
-    serve(&mut desk, &greetings, &mut room);
-    match room.command() {
-        Some(process) => stop(&rt, alloc, process),
-        None => stop_unnamed(&rt, alloc, port, greetings.token.as_str()),
+    serve_callers(&rt, alloc, port, &mut desk, &mut room, out)
+}
+
+// A listener at a port of this machine, and the port.
+fn listen<R: Net>(rt: &R) -> io::Result<(R::Listener, u16)> {
+    let place = SocketAddr::V4(SocketAddrV4::new(Ipv4Addr::LOCALHOST, 0));
+    let listener = TcpListener::bind(rt, place)?;
+    let port = listener.local_addr()?.port();
+    Ok((listener, port))
+}
+
+// Serves the callers of a desk at this port, under a new token, until the parent ends; then ends the command.
+fn serve_callers<R: Net + Processes + RandomSource + Clock, P: Read, W: Write>(
+    rt: &R,
+    alloc: Global,
+    port: u16,
+    desk: &mut Desk<16>,
+    room: &mut DeskRoom<R, R::Listener, R::Stream, P>,
+    out: &mut W,
+) -> io::Result<()>
+where
+    R::Stream: AsRawFd,
+{
+    let greetings = Greetings::new(alloc, token(rt, alloc)?)?;
+    say_place(alloc, port, greetings.token.as_str(), out)?;
+    serve(desk, &greetings, room);
+    end_command(rt, alloc, port, greetings.token.as_str(), room.command())
+}
+
+// Says on `out` where the desk is.
+fn say_place<W: Write>(alloc: Global, port: u16, token: &str, out: &mut W) -> io::Result<()> {
+    let line = format!(in alloc; "{port}:{token}\n")?;
+    out.write_all(line.as_bytes())
+}
+
+// Ends the command, by its process if the parent has named it.
+fn end_command<R: Processes>(
+    rt: &R,
+    alloc: Global,
+    port: u16,
+    token: &str,
+    process: Option<u32>,
+) -> io::Result<()> {
+    match process {
+        Some(process) => stop(rt, alloc, process),
+        None => stop_unnamed(rt, alloc, port, token),
     }
 }
 
@@ -98,9 +135,12 @@ fn stop_unnamed<R: Processes>(rt: &R, alloc: Global, port: u16, token: &str) -> 
 // Runs a script of the shell to its end. Its one word is `$0`.
 fn run_script<R: Processes>(rt: &R, alloc: Global, script: &str, word: &str) -> io::Result<()> {
     let mut command = Command::new(alloc, "sh")?;
-    command.arg("-c")?;
-    command.arg(script)?;
-    command.arg(word)?;
+    run_silently(rt, &mut command, ["-c", script, word])
+}
+
+// Runs a command with these words, without streams.
+fn run_silently<R: Processes>(rt: &R, command: &mut Command, words: [&str; 3]) -> io::Result<()> {
+    command.args(words)?;
     command
         .stdin(Stdio::null())
         .stdout(Stdio::null())

@@ -32,14 +32,7 @@ pub fn start_desk<R: Processes + Files + Env>(
     hosts: &str,
 ) -> io::Result<StartedDesk<R::Started>> {
     let mut command = own_command(rt, alloc)?;
-    command.arg("share")?;
-    command.arg(DESK_WORD)?;
-    command.env("DISTCC_HOSTS", hosts)?;
-    command.env_remove(VARIABLE)?;
-    command
-        .stdin(Stdio::piped())
-        .stdout(Stdio::piped())
-        .stderr(Stdio::null());
+    name_desk(&mut command, hosts)?;
     let mut child = command.spawn(rt)?;
     match read_place(&mut child, alloc)? {
         Some(variable) => Ok(StartedDesk { child, variable }),
@@ -49,6 +42,18 @@ pub fn start_desk<R: Processes + Files + Env>(
             Err(io::Error::from(ErrorKind::UnexpectedEof))
         }
     }
+}
+
+// Gives the command of this program the words, the environment and the streams of a desk.
+fn name_desk(command: &mut Command, hosts: &str) -> Result<(), AllocError> {
+    command.args(["share", DESK_WORD])?;
+    command.env("DISTCC_HOSTS", hosts)?;
+    command.env_remove(VARIABLE)?;
+    command
+        .stdin(Stdio::piped())
+        .stdout(Stdio::piped())
+        .stderr(Stdio::null());
+    Ok(())
 }
 
 impl<P: OpenProcess + Drop> StartedDesk<P> {
@@ -74,16 +79,15 @@ impl<P: OpenProcess + Drop> StartedDesk<P> {
 fn own_command<R: Files + Env>(rt: &R, alloc: Global) -> io::Result<Command> {
     let line = fs::read(&(rt, alloc), "/proc/self/cmdline")?;
     let own = env::args(&(rt, alloc))?.count();
-    let words = line.as_slice().split(|byte| *byte == 0).count();
+    Ok(command_before(alloc, line.as_slice(), own)?)
+}
+
+// The words of a command line that come before its last ones, of which there are so many. Each ends with a zero byte.
+fn command_before(alloc: Global, line: &[u8], last: usize) -> Result<Command, AllocError> {
+    let words = line.split(|byte| *byte == 0).count();
+    let before = words.saturating_sub(1).saturating_sub(last);
     let mut command = Command::new(alloc, "/proc/self/exe")?;
-    // The last word ends with a zero byte too.
-    let before = words.saturating_sub(1).saturating_sub(own);
-    for word in line
-        .as_slice()
-        .split(|byte| *byte == 0)
-        .skip(1)
-        .take(before)
-    {
+    for word in line.split(|byte| *byte == 0).skip(1).take(before) {
         command.arg(str::from_utf8(word).unwrap_or(""))?;
     }
     Ok(command)
