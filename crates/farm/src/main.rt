@@ -7,6 +7,7 @@ mod compile;
 mod faults;
 mod reasons;
 mod run;
+mod sending;
 mod settings;
 mod share;
 mod sharing;

@@ -1,9 +1,12 @@
 // A run of `farm` over the devices of the system.
+ghost use Rattle.std.specs.Prelude.{◌≡◌, All, IfOk, None, vec_len};
+ghost use Rattle.farm_types.specs.Limits.{workers_max};
+
 use crate::command::is_watched;
 use crate::reasons::{Given, tell_carriage_return, tell_refusal};
 use crate::settings::{notices_of, variables_of};
 use edge_real::{
-    KitSettings, PAUSE_MILLIS, StdSink, StdSource, WaitingStream, own_folder, watch_kits,
+    KitSettings, PAUSE_MILLIS, StdSink, StdSource, SystemKit, WaitingStream, own_folder, watch_kits,
 };
 use farm_program::{Ended, farm};
 use farm_types::limits::WORKERS_MAX;
@@ -50,8 +53,16 @@ pub fn run<W: Threads + Wait + Sync>(
     rt: &HostRuntime,
     words: &[String],
 ) -> Result<u8, AllocError> {
-    let alloc = rt.alloc();
     let variables = variables_of(rt, false)?;
+    let mut kits = kits_for(rt, words)?;
+    Ok(run_by(waits, rt, words, variables.as_slice(), &mut kits))
+}
+
+// The devices of all workers.
+fn kits_for(rt: &HostRuntime, words: &[String]) -> Result<Vec<SystemKit<HostRuntime>>, AllocError>
+    ensures count { IfOk result (λ kits. vec_len kits ≡ workers_max) }
+    ensures idle { IfOk result (λ kits. All (λ kit. kit.keeper.pending ≡ None) kits.items) }
+{
     let folder = own_folder(rt)?;
     let settings = KitSettings {
         folder: folder.as_str(),
@@ -59,17 +70,42 @@ pub fn run<W: Threads + Wait + Sync>(
         notices: notices_of(rt)?,
         puts_empty: true,
     };
-    let mut kits = watch_kits(*rt, alloc, &settings, WORKERS_MAX - 1, last_pause(words))?;
+    watch_kits(
+        *rt,
+        rt.alloc(),
+        &settings,
+        WORKERS_MAX - 1,
+        last_pause(words),
+    )
+}
+
+// Runs `farm` with these devices.
+fn run_by<W: Threads + Wait + Sync>(
+    waits: &W,
+    rt: &HostRuntime,
+    words: &[String],
+    variables: &[(String, String)],
+    kits: &mut Vec<SystemKit<HostRuntime>>,
+) -> u8
+    requires count { vec_len kits.old ≡ workers_max }
+    requires idle { All (λ kit. kit.keeper.pending ≡ None) kits.old.items }
+{
     let mut input = MarkedSource::new(StdSource::new(WaitingStream::new(*rt, rt.stdin())));
     let mut out = StdSink::new(WaitingStream::new(*rt, rt.stdout()));
     let mut err = StdSink::new(WaitingStream::new(*rt, rt.stderr()));
-    let variables = variables.as_slice();
     let ended = farm(
-        waits, alloc, words, variables, &mut input, &mut kits, &mut out, &mut err,
+        waits,
+        rt.alloc(),
+        words,
+        variables,
+        &mut input,
+        kits,
+        &mut out,
+        &mut err,
     );
     tell_end(rt, words, variables, &ended);
     if let Some(line) = input.returned() {
         tell_carriage_return(rt, line);
     }
-    Ok(ended.status)
+    ended.status
 }

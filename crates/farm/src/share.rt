@@ -20,7 +20,7 @@ use std::io;
 use std::os::unix::process::ExitStatusExt;
 use std::process::{self, Child, Command, ExitStatus};
 use stream_print::print;
-use whole_command::{Given as Words, Whole, command_of, handed_descriptors, is_there};
+use whole_command::{Descriptor, Given as Words, Whole, command_of, handed_descriptors, is_there};
 
 /// Does `farm share`, and returns the exit status. None if the words ask for another command.
 pub fn share(rt: &HostRuntime, words: &[String]) -> Result<Option<u8>, AllocError> {
@@ -53,20 +53,33 @@ fn print_help(rt: &HostRuntime) -> u8 {
 
 // Runs a command with a desk; below another desk without one of its own, unless it has its own host list.
 fn run(rt: &HostRuntime, hosts: Option<&str>, command: &[String]) -> Result<u8, AllocError> {
-    let alloc = rt.alloc();
-    let outer = variable(rt, VARIABLE)?;
-    let is_below = outer.is_some_and(|text| parse_variable(text.as_str()).is_some());
-    if hosts.is_none() && is_below {
+    if hosts.is_none() && is_below(rt)? {
         return run_command(rt, command, None, None);
     }
     let variables = variables_of(rt, false)?;
-    let text = host_text(hosts, variables.as_slice());
-    if let Some(refusal) = refusal_of(alloc, variables.as_slice(), text)? {
+    run_by(rt, hosts, command, variables.as_slice())
+}
+
+// Whether this process is below another desk.
+fn is_below(rt: &HostRuntime) -> Result<bool, AllocError> {
+    let outer = variable(rt, VARIABLE)?;
+    Ok(outer.is_some_and(|text| parse_variable(text.as_str()).is_some()))
+}
+
+// Runs a command with a desk of its own, unless the variables or the host list are refused.
+fn run_by(
+    rt: &HostRuntime,
+    hosts: Option<&str>,
+    command: &[String],
+    variables: &[(String, String)],
+) -> Result<u8, AllocError> {
+    let text = host_text(hosts, variables);
+    if let Some(refusal) = refusal_of(rt.alloc(), variables, text)? {
         let given = Given {
             words: &[],
             command: None,
             hosts,
-            variables: variables.as_slice(),
+            variables,
         };
         tell_refusal(rt, given, &refusal);
         return Ok(match refusal {
@@ -74,7 +87,7 @@ fn run(rt: &HostRuntime, hosts: Option<&str>, command: &[String]) -> Result<u8, 
             _ => BAD_WORDS,
         });
     }
-    match start_desk(rt, alloc, text) {
+    match start_desk(rt, rt.alloc(), text) {
         Ok(desk) => run_command(rt, command, Some(desk), Some(text)),
         Err(error) => {
             let _ = eprintln!(rt;
@@ -103,35 +116,44 @@ fn refusal_of(
 
 type Started = <HostRuntime as process::Processes>::Started;
 
-// Runs a command, with a desk for its compiles and with this host list, and ends as it does.
+// Runs a command, with a desk for its compiles and with this host list, and ends as it does. The desk ends with it.
 fn run_command(
     rt: &HostRuntime,
     words: &[String],
     mut desk: Option<StartedDesk<Started>>,
     hosts: Option<&str>,
 ) -> Result<u8, AllocError> {
-    let alloc = rt.alloc();
+    let status = run_child(rt, words, &mut desk, hosts);
+    if let Some(desk) = desk {
+        desk.end();
+    }
+    status
+}
+
+// Runs a command with the variables of this desk.
+fn run_child(
+    rt: &HostRuntime,
+    words: &[String],
+    desk: &mut Option<StartedDesk<Started>>,
+    hosts: Option<&str>,
+) -> Result<u8, AllocError> {
     let variable = desk.as_ref().map(|desk| desk.variable.as_str());
-    let status = match start(rt, words, variable, hosts)? {
+    match start(rt, words, variable, hosts)? {
         Ok(mut child) => {
-            if let Some(desk) = &mut desk {
-                desk.name_command(alloc, child.id());
+            if let Some(desk) = desk {
+                desk.name_command(rt.alloc(), child.id());
             }
-            match child.wait() {
+            Ok(match child.wait() {
                 Ok(status) => status_of(status),
                 Err(_) => FAULT,
-            }
+            })
         }
         Err(error) => {
             let program = words.first().map_or("", |word| word.as_str());
             let _ = eprintln!(rt; "farm: {program}: cannot be started: {error}");
-            FAULT
+            Ok(FAULT)
         }
-    };
-    if let Some(desk) = desk {
-        desk.end();
     }
-    Ok(status)
 }
 
 // Starts a command with the standard streams and the descriptors of this process.
@@ -143,22 +165,26 @@ fn start(
 ) -> Result<io::Result<Child<Started>>, AllocError> {
     let descriptors = handed_descriptors(rt)?;
     let program = words.first().map_or("", |word| word.as_str());
-    let process = process::id(rt.process());
     if !descriptors.is_empty() && is_there(rt, program)? {
-        let whole = Whole {
-            given: Words::Words(words),
-            process,
-            descriptors: descriptors.as_slice(),
-        };
-        let mut command = command_for(rt.alloc(), &whole, desk, hosts)?;
-        if let Ok(child) = command.spawn(rt) {
+        if let Ok(child) = start_with(rt, words, descriptors.as_slice(), desk, hosts)? {
             return Ok(Ok(child));
         }
     }
+    start_with(rt, words, &[], desk, hosts)
+}
+
+// Starts a command with the standard streams and these descriptors of this process.
+fn start_with(
+    rt: &HostRuntime,
+    words: &[String],
+    descriptors: &[Descriptor],
+    desk: Option<&str>,
+    hosts: Option<&str>,
+) -> Result<io::Result<Child<Started>>, AllocError> {
     let whole = Whole {
         given: Words::Words(words),
-        process,
-        descriptors: &[],
+        process: process::id(rt.process()),
+        descriptors,
     };
     let mut command = command_for(rt.alloc(), &whole, desk, hosts)?;
     Ok(command.spawn(rt))

@@ -61,18 +61,28 @@ pub fn share_slot(
             Ok(Some(SharedSlot { seat, lent }))
         }
         Granted::Host(entry) => {
-            let text = lookup(variables.as_slice(), HOSTS).unwrap_or("");
-            let Some(made) = only(alloc, text.as_bytes(), entry.as_slice())? else {
-                tell_other(rt)?;
-                return Ok(None);
-            };
-            let is_local = entry.as_slice().starts_with(b"localhost/");
-            let text = String::from_utf8(made.into_vec()).unwrap_or(String::new(alloc));
-            set_hosts(variables, text);
-            let lent = if is_local { Lent::Local } else { Lent::Host };
-            Ok(Some(SharedSlot { seat, lent }))
+            let lent = take_entry(rt, entry.as_slice(), variables)?;
+            Ok(lent.map(|lent| SharedSlot { seat, lent }))
         }
     }
+}
+
+// Has the variables name this entry only. None if the host list doesn't have it, which is printed.
+fn take_entry(
+    rt: &HostRuntime,
+    entry: &[u8],
+    variables: &mut Vec<(String, String)>,
+) -> Result<Option<Lent>, AllocError> {
+    let alloc = rt.alloc();
+    let text = lookup(variables.as_slice(), HOSTS).unwrap_or("");
+    let Some(made) = only(alloc, text.as_bytes(), entry)? else {
+        tell_other(rt)?;
+        return Ok(None);
+    };
+    let text = String::from_utf8(made.into_vec()).unwrap_or(String::new(alloc));
+    set_hosts(variables, text);
+    let is_local = entry.starts_with(b"localhost/");
+    Ok(Some(if is_local { Lent::Local } else { Lent::Host }))
 }
 
 // Another text of the host list.
