@@ -1,17 +1,17 @@
 ghost use Rattle.std.specs.Prelude.{◌≡◌, ◌≢◌, ⊤, true, false, ◌≤◌, length, [], Option, None, Some, Err, IfOk, IfErr, IfSome, OnOk, option_map, All, string_bytes};
 ghost use Rattle.edge_traits.specs.Stations.{IsWithin, has_output};
 ghost use Rattle.edge_programs.specs.Counts.{run_faults, run_overruns};
-ghost use Rattle.edge_programs.specs.Children.{IsRunFault, input_path, output_path};
-ghost use Rattle.edge_runs.specs.Commands.{NamesNoStream, CanBeGiven, needs_folder};
-ghost use Rattle.edge_runs.specs.RunFolders.{place_of, bytes_if};
+ghost use Rattle.edge_programs.specs.Children.{IsRunFault};
+ghost use Rattle.edge_runs.specs.Commands.{CanBeGiven, needs_folder};
 ghost use Rattle.edge_programs.specs.Serving.{are_let_through, unserved_place, IsOfKind, IsRefusal};
 ghost use Rattle.edge_programs.specs.Views.{station_view, counted_station, folder_of, policy_of, policy_in, lifetime_of, rules_of};
 
+use crate::files::{input_file, output_path};
 use crate::notices::{tell_overrun, tell_signal, tell_unserved};
 use crate::running::{Watched, object_left, of_any_kind, of_asked_kind, run_command, run_watched};
 use edge_runs::{
-    OBJECT_NAME, RunFolder, RunWatch, SharedNotes, Unwatched, command_in, command_of,
-    have_descriptors, input_ext, needs_folder, path_of, refusal_of, source_name,
+    RunFolder, RunWatch, SharedNotes, Unwatched, command_in, command_of, have_descriptors,
+    needs_folder, path_of, refusal_of,
 };
 use edge_streams::raise;
 use edge_traits::{Bounds, Station, StationFault, has_output};
@@ -263,15 +263,36 @@ fn run_for_others<
     ensures no_object { IfOk result (λ ran. has_output task.now.words.now ≡ false → ran.object ≡ []) }
     ensures kind { IfOk result (IsOfKind (Some service.now.rules.policy) task.now.words.now) }
 {
+    have_descriptors(rt, &service.watch);
+    let folder = RunFolder::create(rt, alloc, folder, &service.notes)?;
+    run_in_folder(rt, &folder, service, alloc, task)
+}
+
+/// Runs words for others, in this folder.
+#[tactic(auto, using(crate::proofs::ChildLemmas::unnamed, crate::proofs::ChildLemmas::of_object))]
+fn run_in_folder<
+    R: Processes + rt::Files<File = File> + RandomSource + Eprint + Clock,
+    W: RunWatch,
+>(
+    rt: &R,
+    folder: &RunFolder<'_, R>,
+    service: &Service<W>,
+    alloc: Global,
+    task: &Task<'_>,
+) -> Result<Ran, StationFault>
+    ensures within { IfOk result (IsWithin task.now.bounds.now) }
+    ensures fault { IfErr result (IsRunFault task.now.bounds.now) }
+    ensures given { OnOk result (All CanBeGiven task.now.words.now) }
+    ensures no_object { IfOk result (λ ran. has_output task.now.words.now ≡ false → ran.object ≡ []) }
+    ensures kind { IfOk result (IsOfKind (Some service.now.rules.policy) task.now.words.now) }
+{
     let Task {
         words,
         input,
         bounds,
     } = *task;
-    have_descriptors(rt, &service.watch);
-    let folder = RunFolder::create(rt, alloc, folder, &service.notes)?;
-    let _source = input_file(&folder, words, input)?;
-    let path = output_path(&folder, words)?;
+    let _source = input_file(folder, words, input)?;
+    let path = output_path(folder, words)?;
     let command = command_in(alloc, words, folder.path(), service.here.as_str())?;
     let watched = Watched {
         watch: &service.watch,
@@ -347,35 +368,4 @@ fn run_alone<R: Processes + rt::Files<File = File> + RandomSource + Eprint>(
         err: ended.err,
         object: Bytes::new(alloc),
     })
-}
-
-/// Makes the file of `Input` in the folder, if `Input` is one of the words, and answers its path.
-fn input_file<R: rt::Files + Eprint>(
-    folder: &RunFolder<'_, R>,
-    words: &[Word],
-    input: &[u8],
-) -> Result<Option<String>, StationFault>
-    ensures path { IfOk result (λ path. bytes_if path ≡ input_path (place_of folder.now) words.now) }
-    ensures fault { IfErr result NamesNoStream }
-{
-    let Some(ext) = input_ext(words) else {
-        return Ok(None);
-    };
-    let path = folder.name_of(source_name(ext))?;
-    folder.write_file(path.as_str(), input)?;
-    Ok(Some(path))
-}
-
-/// The path in the folder of the file of `Output`, if `Output` is one of the words. The program makes the file.
-fn output_path<R: rt::Files + Eprint>(
-    folder: &RunFolder<'_, R>,
-    words: &[Word],
-) -> Result<Option<String>, StationFault>
-    ensures path { IfOk result (λ path. bytes_if path ≡ output_path (place_of folder.now) words.now) }
-    ensures fault { IfErr result NamesNoStream }
-{
-    if !has_output(words) {
-        return Ok(None);
-    }
-    Ok(Some(folder.name_of(OBJECT_NAME)?))
 }

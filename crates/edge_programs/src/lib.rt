@@ -2,6 +2,7 @@
 #![tactic(auto)]
 
 mod child;
+mod files;
 mod notices;
 mod running;
 mod waiting;

@@ -81,11 +81,39 @@ pub fn run_watched<
 {
     let mut output = nameless_file(rt, alloc, folder)?;
     let mut messages = nameless_file(rt, alloc, folder)?;
-    let mut child = start(rt, command, written_to(&output)?, &messages)?;
-    let status = wait_watched(rt, &mut child, words, watched.watch, watched.lifetime)?;
-    let out = read_again(&mut output, alloc, watched.bounds.out, Stream::Out)?;
-    let err = read_again(&mut messages, alloc, watched.bounds.err, Stream::Err)?;
+    let status = run_into(rt, command, words, watched, (&output, &messages))?;
+    let (out, err) = read_both(alloc, (&mut output, &mut messages), watched.bounds)?;
     Ok(Ended { status, out, err })
+}
+
+/// Runs a command for others to its end, or to an early one, and returns its wait status. Its standard output and its standard error go to these files.
+fn run_into<R: Processes + Eprint + Clock, W: RunWatch>(
+    rt: &R,
+    command: Command,
+    words: &[Word],
+    watched: &Watched<'_, W>,
+    files: (&File, &File),
+) -> Result<u32, StationFault>
+    ensures fault { IfErr result NamesNoStream }
+{
+    let mut child = start(rt, command, written_to(files.0)?, files.1)?;
+    wait_watched(rt, &mut child, words, watched.watch, watched.lifetime)
+}
+
+/// What was written into the files of a program's standard output and standard error, which are open still.
+#[tactic(auto, using(crate::proofs::ChildLemmas::of_out, crate::proofs::ChildLemmas::of_err))]
+fn read_both(
+    alloc: Global,
+    files: (&mut File, &mut File),
+    bounds: &Bounds,
+) -> Result<(Bytes, Bytes), StationFault>
+    ensures out { IfOk result (λ both. length both.0 ≤ bounds.now.out) }
+    ensures err { IfOk result (λ both. length both.1 ≤ bounds.now.err) }
+    ensures fault { IfErr result (IsRunFault bounds.now) }
+{
+    let out = read_again(files.0, alloc, bounds.out, Stream::Out)?;
+    let err = read_again(files.1, alloc, bounds.err, Stream::Err)?;
+    Ok((out, err))
 }
 
 /// The object that a program left at this path, if it was to leave one. If it ended with status 0 and left none, that is reported.

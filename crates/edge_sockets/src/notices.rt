@@ -167,19 +167,13 @@ fn tell_broken<R: Eprint>(rt: &R, parting: &Parting<'_>) {
     let answered = parting.exchange.answered;
     let _ = if let Some(error) = parting.failure {
         eprintln!(rt; "farm: {host}:{port}: {error}")
-    } else if parting.ended && answered.bytes == 0 {
-        eprintln!(rt;
-            "farm: {host}:{port}: no reply, as of a host that denies this one or couldn't run the compiler"
-        )
-    } else if parting.ended {
+    } else if parting.ended && answered.bytes > 0 {
         eprintln!(rt;
             "farm: {host}:{port}: the reply ends after {} bytes",
             answered.bytes
         )
-    } else if !answered.is_whole_reply() {
-        eprintln!(rt; "farm: {host}:{port}: the reply wasn't taken to its end")
-    } else if !answered.is_right_reply() {
-        eprintln!(rt; "farm: {host}:{port}: the reply isn't one of this protocol's")
+    } else if let Some(reason) = parting.reason() {
+        eprintln!(rt; "farm: {host}:{port}: {reason}")
     } else if answered.status() == Some(UNKNOWN_COMPILER) {
         eprintln!(rt;
             "farm: {host}:{port}: the compiler {} isn't in the host's table",
@@ -188,6 +182,22 @@ fn tell_broken<R: Eprint>(rt: &R, parting: &Parting<'_>) {
     } else {
         Ok(())
     };
+}
+
+impl Parting<'_> {
+    // Why an exchange isn't whole that didn't break off in the middle of a reply.
+    fn reason(&self) -> Option<&'static str> {
+        let answered = self.exchange.answered;
+        if self.ended {
+            Some("no reply, as of a host that denies this one or couldn't run the compiler")
+        } else if !answered.is_whole_reply() {
+            Some("the reply wasn't taken to its end")
+        } else if !answered.is_right_reply() {
+            Some("the reply isn't one of this protocol's")
+        } else {
+            None
+        }
+    }
 }
 
 /// An accept is made again, for the system's reason.

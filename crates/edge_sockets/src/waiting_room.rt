@@ -11,7 +11,7 @@ use access_list::{AccessList, Decision};
 use edge_streams::moment;
 use mio::unix::SourceFd;
 use mio::{Events, Interest, Poll, Token, Waker};
-use std::alloc::Global;
+use std::alloc::{AllocError, Global};
 use std::io::{self, Eprint, ErrorKind};
 use std::net::{Net, OpenListener, OpenStream, SocketAddr};
 use std::os::fd::AsRawFd;
@@ -58,14 +58,8 @@ impl<L: AsRawFd + Drop, S: Drop> WaitingRoom<L, S> {
         listener: L,
         access: AccessList,
     ) -> io::Result<WaitingRoom<L, S>> {
-        let mut places = Vec::with_capacity(alloc, PLACES)?;
-        for _ in 0..PLACES {
-            places.push(None)?;
-        }
-        let poll = Poll::new(rt)?;
-        let descriptor = listener.as_raw_fd();
-        poll.registry()
-            .register(&mut SourceFd(&descriptor), LISTENER, Interest::READABLE)?;
+        let places = free_places(alloc)?;
+        let poll = poll_for(rt, &listener)?;
         Ok(WaitingRoom {
             listener,
             poll,
@@ -77,6 +71,24 @@ impl<L: AsRawFd + Drop, S: Drop> WaitingRoom<L, S> {
             is_called: false,
         })
     }
+}
+
+// Places without a connection.
+fn free_places<S: Drop>(alloc: Global) -> Result<Vec<Option<Pending<S>>>, AllocError> {
+    let mut places = Vec::with_capacity(alloc, PLACES)?;
+    for _ in 0..PLACES {
+        places.push(None)?;
+    }
+    Ok(places)
+}
+
+// A poll that reports on a listener.
+fn poll_for<R: Net, L: AsRawFd>(rt: &R, listener: &L) -> io::Result<Poll> {
+    let poll = Poll::new(rt)?;
+    let descriptor = listener.as_raw_fd();
+    poll.registry()
+        .register(&mut SourceFd(&descriptor), LISTENER, Interest::READABLE)?;
+    Ok(poll)
 }
 
 impl<L: OpenListener, S> WaitingRoom<L, S> {

@@ -1,19 +1,24 @@
 -- The names of LLVM's options.
 use Rattle.std.specs.Prelude.{ℕ, List, [], ◌∷◌, codes}
 
--- The options of LLVM that builds send, without their dashes. None of them names a file or a program.
-abbrev pub back_end_names : List (List ℕ)
-back_end_names = codes "inline-threshold" ∷ codes "inlinehint-threshold" ∷ codes "inlinecold-threshold" ∷ codes "enable-misched"
-    ∷ codes "enable-post-misched" ∷ codes "unroll-threshold" ∷ codes "unroll-count" ∷ codes "unroll-runtime" ∷ codes "vectorize-loops"
-    ∷ codes "vectorize-slp" ∷ codes "slp-threshold" ∷ codes "force-vector-width" ∷ codes "force-vector-interleave"
-    ∷ codes "extra-vectorizer-passes" ∷ codes "enable-interleaved-mem-accesses" ∷ codes "enable-gvn-hoist" ∷ codes "enable-load-pre"
-    ∷ codes "enable-loopinterchange" ∷ codes "enable-loop-distribute" ∷ codes "enable-unroll-and-jam" ∷ codes "enable-machine-outliner"
-    ∷ codes "enable-shrink-wrap" ∷ codes "enable-dse-memoryssa" ∷ codes "disable-lsr" ∷ codes "disable-machine-licm"
-    ∷ codes "disable-tail-duplicate" ∷ codes "disable-block-placement" ∷ codes "disable-early-ifcvt" ∷ codes "align-all-functions"
-    ∷ codes "align-all-blocks" ∷ codes "align-all-nofallthru-blocks" ∷ codes "align-loops" ∷ codes "memcmp-num-loads-per-block"
-    ∷ codes "combiner-global-alias-analysis" ∷ codes "instcombine-lower-dbg-declare" ∷ codes "basic-aa-recphi"
-    ∷ codes "split-threshold-for-reg-with-hint" ∷ codes "rotation-max-header-size" ∷ codes "hot-cold-split" ∷ codes "generate-type-units"
-    ∷ codes "stackmap-version" ∷ codes "treat-scalable-fixed-error-as-warning" ∷ codes "fast-isel" ∷ codes "global-isel" ∷ []
+-- The options of LLVM that builds send, without their dashes: those of its optimisations. None of them names a file or a program.
+abbrev pub optimizer_names : List (List ℕ)
+optimizer_names = codes "inline-threshold" ∷ codes "inlinehint-threshold" ∷ codes "inlinecold-threshold" ∷ codes "unroll-threshold"
+    ∷ codes "unroll-count" ∷ codes "unroll-runtime" ∷ codes "vectorize-loops" ∷ codes "vectorize-slp" ∷ codes "slp-threshold"
+    ∷ codes "force-vector-width" ∷ codes "force-vector-interleave" ∷ codes "extra-vectorizer-passes"
+    ∷ codes "enable-interleaved-mem-accesses" ∷ codes "enable-gvn-hoist" ∷ codes "enable-load-pre" ∷ codes "enable-loopinterchange"
+    ∷ codes "enable-loop-distribute" ∷ codes "enable-unroll-and-jam" ∷ codes "enable-dse-memoryssa"
+    ∷ codes "memcmp-num-loads-per-block" ∷ codes "instcombine-lower-dbg-declare" ∷ codes "basic-aa-recphi"
+    ∷ codes "rotation-max-header-size" ∷ codes "hot-cold-split" ∷ []
+
+-- Those of how it makes code.
+abbrev pub generator_names : List (List ℕ)
+generator_names = codes "enable-misched" ∷ codes "enable-post-misched" ∷ codes "enable-machine-outliner"
+    ∷ codes "enable-shrink-wrap" ∷ codes "disable-lsr" ∷ codes "disable-machine-licm" ∷ codes "disable-tail-duplicate"
+    ∷ codes "disable-block-placement" ∷ codes "disable-early-ifcvt" ∷ codes "align-all-functions" ∷ codes "align-all-blocks"
+    ∷ codes "align-all-nofallthru-blocks" ∷ codes "align-loops" ∷ codes "combiner-global-alias-analysis"
+    ∷ codes "split-threshold-for-reg-with-hint" ∷ codes "generate-type-units" ∷ codes "stackmap-version"
+    ∷ codes "treat-scalable-fixed-error-as-warning" ∷ codes "fast-isel" ∷ codes "global-isel" ∷ []
 
 -- Those of sanitizers.
 abbrev pub sanitizer_names : List (List ℕ)

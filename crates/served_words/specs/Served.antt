@@ -9,8 +9,8 @@ use Rattle.served_words.specs.declared.operand.Operand.{Operand}
 use Rattle.served_words.specs.declared.operand.Operand.TheVariants.{Folder, Flag, Setting}
 use Rattle.served_words.specs.Spellings.{option_words, levels, link_words, long_words, specs_words, name_fronts, path_fronts}
 use Rattle.served_words.specs.Spellings.{piece_words, piece_fronts}
-use Rattle.served_words.specs.Reaching.{reaching_fronts}
-use Rattle.served_words.specs.BackEnd.{back_end_names, sanitizer_names, target_names}
+use Rattle.served_words.specs.Reaching.{loaded_fronts, module_fronts, profile_fronts, report_fronts, sanitizer_list_fronts}
+use Rattle.served_words.specs.BackEnd.{optimizer_names, generator_names, sanitizer_names, target_names}
 use Rattle.served_words.specs.Folders.{is_in_tools, names_tools}
 
 -- the word begins with this
@@ -37,8 +37,25 @@ is_long_word word = is_one long_words word
 unfoldable pub has_name_front : List ℕ → Bool
 has_name_front word = begins name_fronts word
 
-unfoldable pub reaches_out : List ℕ → Bool
-reaches_out word = begins reaching_fronts word
+unfoldable pub loads_more : List ℕ → Bool
+loads_more word = begins loaded_fronts word
+
+unfoldable pub reads_modules : List ℕ → Bool
+reads_modules word = begins module_fronts word
+
+unfoldable pub uses_profiles : List ℕ → Bool
+uses_profiles word = begins profile_fronts word
+
+unfoldable pub writes_reports : List ℕ → Bool
+writes_reports word = begins report_fronts word
+
+unfoldable pub reads_sanitizer_lists : List ℕ → Bool
+reads_sanitizer_lists word = begins sanitizer_list_fronts word
+
+-- The word would have a compiler load or run a program, read or write a file beside its source and its object, take the next word, or compile
+-- otherwise than once. None of these is let through.
+abbrev pub reaches_out : List ℕ → Bool
+reaches_out word = loads_more word || reads_modules word || uses_profiles word || writes_reports word || reads_sanitizer_lists word
 
 unfoldable pub has_path_front : List ℕ → Bool
 has_path_front word = begins path_fronts word
@@ -49,8 +66,14 @@ is_level word = is_one levels word
 unfoldable pub is_specs_word : List ℕ → Bool
 is_specs_word word = is_one specs_words word
 
-unfoldable pub is_back_end_name : List ℕ → Bool
-is_back_end_name name = is_one back_end_names name
+unfoldable pub is_optimizer_name : List ℕ → Bool
+is_optimizer_name name = is_one optimizer_names name
+
+unfoldable pub is_generator_name : List ℕ → Bool
+is_generator_name name = is_one generator_names name
+
+abbrev pub is_back_end_name : List ℕ → Bool
+is_back_end_name name = is_optimizer_name name || is_generator_name name
 
 unfoldable pub is_sanitizer_name : List ℕ → Bool
 is_sanitizer_name name = is_one sanitizer_names name

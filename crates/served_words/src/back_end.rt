@@ -1,17 +1,15 @@
 //! The names of LLVM's options.
 
 ghost use Rattle.std.specs.Prelude.{◌≡◌};
-ghost use Rattle.served_words.specs.Served.{is_back_end_name, is_sanitizer_name, is_target_name};
+ghost use Rattle.served_words.specs.Served.{is_back_end_name, is_optimizer_name, is_generator_name, is_sanitizer_name, is_target_name};
 
 use crate::lists::is_one;
 
-/// The options of LLVM that builds send, without their dashes. None of them names a file or a program.
-const BACK_END_NAMES: [&str; 44] = [
+/// The options of LLVM that builds send, without their dashes: those of its optimisations. None of them names a file or a program.
+const OPTIMIZER_NAMES: [&str; 24] = [
     "inline-threshold",
     "inlinehint-threshold",
     "inlinecold-threshold",
-    "enable-misched",
-    "enable-post-misched",
     "unroll-threshold",
     "unroll-count",
     "unroll-runtime",
@@ -27,9 +25,20 @@ const BACK_END_NAMES: [&str; 44] = [
     "enable-loopinterchange",
     "enable-loop-distribute",
     "enable-unroll-and-jam",
+    "enable-dse-memoryssa",
+    "memcmp-num-loads-per-block",
+    "instcombine-lower-dbg-declare",
+    "basic-aa-recphi",
+    "rotation-max-header-size",
+    "hot-cold-split",
+];
+
+/// Those of how it makes code.
+const GENERATOR_NAMES: [&str; 20] = [
+    "enable-misched",
+    "enable-post-misched",
     "enable-machine-outliner",
     "enable-shrink-wrap",
-    "enable-dse-memoryssa",
     "disable-lsr",
     "disable-machine-licm",
     "disable-tail-duplicate",
@@ -39,13 +48,8 @@ const BACK_END_NAMES: [&str; 44] = [
     "align-all-blocks",
     "align-all-nofallthru-blocks",
     "align-loops",
-    "memcmp-num-loads-per-block",
     "combiner-global-alias-analysis",
-    "instcombine-lower-dbg-declare",
-    "basic-aa-recphi",
     "split-threshold-for-reg-with-hint",
-    "rotation-max-header-size",
-    "hot-cold-split",
     "generate-type-units",
     "stackmap-version",
     "treat-scalable-fixed-error-as-warning",
@@ -123,11 +127,24 @@ const TARGET_NAMES: [&str; 32] = [
     "polly-invariant-load-hoisting",
 ];
 
-/// Whether the word is one of `BACK_END_NAMES`.
+/// Whether the word is one of `OPTIMIZER_NAMES` or of `GENERATOR_NAMES`.
 pub fn is_back_end_name(word: &[u8]) -> bool
     ensures { result ≡ is_back_end_name word.now }
 {
-    let spellings: [&str; 44] = BACK_END_NAMES;
+    is_optimizer_name(word) || is_generator_name(word)
+}
+
+fn is_optimizer_name(word: &[u8]) -> bool
+    ensures { result ≡ is_optimizer_name word.now }
+{
+    let spellings: [&str; 24] = OPTIMIZER_NAMES;
+    is_one(spellings.as_slice(), word)
+}
+
+fn is_generator_name(word: &[u8]) -> bool
+    ensures { result ≡ is_generator_name word.now }
+{
+    let spellings: [&str; 20] = GENERATOR_NAMES;
     is_one(spellings.as_slice(), word)
 }
 

@@ -1,54 +1,95 @@
 //! The spellings of words that reach further than one compile.
 
 ghost use Rattle.std.specs.Prelude.{◌≡◌};
-ghost use Rattle.served_words.specs.Served.{reaches_out};
+ghost use Rattle.served_words.specs.Served.{reaches_out, loads_more, reads_modules, uses_profiles, writes_reports, reads_sanitizer_lists};
 
 use crate::lists::begins;
 
-/// What a word begins with that would have a compiler load or run a program, read or write a file beside its source and its object, take the next word, or compile otherwise than once. None of these is let through.
-const REACHING_FRONTS: [&str; 76] = [
+/// What a word begins with that asks for a part of a compiler or another program that is loaded or run, or words for one.
+const LOADED_FRONTS: [&str; 16] = [
     "-fplugin",
     "-fpass-plugin",
-    "-fmodule",
-    "-fprebuilt-",
-    "-fimplicit-module",
-    "-fno-preprocessed",
-    "-fdirectives-only",
-    "-fself-test",
-    "-fcompare-debug",
-    "-fdump-",
-    "-fprofile",
-    "-fauto-profile",
-    "-fbranch-probabilities",
-    "-fproc-stat-report",
-    "-fthinlto-index",
-    "-fbuild-session",
-    "-fembed-offload",
-    "-fopenmp-targets",
-    "-foffload",
     "-mllvm",
-    "-module",
-    "-main-file",
-    "-gen-",
+    "-mmlir",
     "-Wp,",
     "-Wl,",
     "-Wa,",
+    "-fcas-",
+    "-fdepscan",
+    "-fsycl",
+    "-foffload",
+    "-fopenmp-targets",
+    "-fembed-offload",
+    "-gcc-toolchain",
+    "-gnat",
+    "-ftrapv-handler",
+];
+
+/// What a word begins with that asks for modules, other sources, or the next word.
+const MODULE_FRONTS: [&str; 17] = [
+    "-fmodule",
+    "-fprebuilt-",
+    "-fimplicit-module",
+    "-module",
+    "-main-file",
+    "-fintrinsic-modules-path",
+    "-fpre-include",
+    "-fno-preprocessed",
+    "-fdirectives-only",
+    "-filelist",
+    "-frewrite-map-file",
+    "-fbuild-session",
+    "-meabi",
+    "-mthread-model",
+    "-mlink-",
+    "-fnew-alignment",
+    "-fdebug-compilation-dir",
+];
+
+/// What a word begins with that asks for profiles and what a program is measured by, or files that link-time optimisation reads.
+const PROFILE_FRONTS: [&str; 15] = [
+    "-fprofile",
+    "-fauto-profile",
+    "-fbranch-probabilities",
+    "-fmemory-profile-use",
+    "-fcs-profile",
+    "-fcodegen-data",
+    "-fbasic-block-sections=list",
+    "-frandomize-layout-seed-file",
+    "-fxray-",
+    "-ftest-coverage",
+    "-fthinlto-index",
+    "-fthin-link-bitcode",
+    "-fltrans",
+    "-fwpa",
+    "-fresolution",
+];
+
+/// What a word begins with that asks for files beside the object, or a compile that isn't made once.
+const REPORT_FRONTS: [&str; 19] = [
+    "-fdump-",
+    "-gen-",
+    "-gsplit-dwarf",
     "-foptimization-record",
     "-fsave-optimization-record",
+    "-fproc-stat-report",
     "-fstack-usage",
     "-fcallgraph-info",
     "-ftime-trace",
-    "-ftest-coverage",
     "-fdeps-",
     "-fdiagnostics-format=json-file",
     "-fdiagnostics-format=sarif-file",
     "-fdiagnostics-add-output",
     "-fdiagnostics-set-output",
     "-fcrash-diagnostics-dir",
-    "-fltrans",
-    "-fwpa",
-    "-fresolution",
-    "-fthin-link-bitcode",
+    "-freport-bug",
+    "-fself-test",
+    "-fcompare-debug",
+    "-fvtv-",
+];
+
+/// What a word begins with that asks for lists of what a sanitizer leaves out.
+const SANITIZER_LIST_FRONTS: [&str; 9] = [
     "-fsanitize-ignorelist",
     "-fsanitize-blacklist",
     "-fsanitize-system-ignorelist",
@@ -57,38 +98,52 @@ const REACHING_FRONTS: [&str; 76] = [
     "-fsanitize-coverage-ignorelist",
     "-fsanitize-coverage-whitelist",
     "-fsanitize-coverage-blacklist",
-    "-fxray-",
-    "-fnew-alignment",
-    "-fmemory-profile-use",
-    "-fcs-profile",
-    "-fcodegen-data",
-    "-fbasic-block-sections=list",
-    "-frandomize-layout-seed-file",
     "-fexperimental-sanitize-metadata-ignorelist",
-    "-frewrite-map-file",
-    "-fdepscan",
-    "-fcas-",
-    "-fsycl",
-    "-fintrinsic-modules-path",
-    "-ftrapv-handler",
-    "-fdebug-compilation-dir",
-    "-filelist",
-    "-meabi",
-    "-mthread-model",
-    "-mmlir",
-    "-mlink-",
-    "-gsplit-dwarf",
-    "-gcc-toolchain",
-    "-gnat",
-    "-freport-bug",
-    "-fvtv-",
-    "-fpre-include",
 ];
 
-/// Whether the word begins with one of `REACHING_FRONTS`.
+/// Whether the word would have a compiler load or run a program, read or write a file beside its source and its object, take the next word, or compile
+/// otherwise than once. None of these is let through.
 pub fn reaches_out(word: &[u8]) -> bool
     ensures { result ≡ reaches_out word.now }
 {
-    let spellings: [&str; 76] = REACHING_FRONTS;
+    loads_more(word)
+        || reads_modules(word)
+        || uses_profiles(word)
+        || writes_reports(word)
+        || reads_sanitizer_lists(word)
+}
+
+fn loads_more(word: &[u8]) -> bool
+    ensures { result ≡ loads_more word.now }
+{
+    let spellings: [&str; 16] = LOADED_FRONTS;
+    begins(spellings.as_slice(), word)
+}
+
+fn reads_modules(word: &[u8]) -> bool
+    ensures { result ≡ reads_modules word.now }
+{
+    let spellings: [&str; 17] = MODULE_FRONTS;
+    begins(spellings.as_slice(), word)
+}
+
+fn uses_profiles(word: &[u8]) -> bool
+    ensures { result ≡ uses_profiles word.now }
+{
+    let spellings: [&str; 15] = PROFILE_FRONTS;
+    begins(spellings.as_slice(), word)
+}
+
+fn writes_reports(word: &[u8]) -> bool
+    ensures { result ≡ writes_reports word.now }
+{
+    let spellings: [&str; 19] = REPORT_FRONTS;
+    begins(spellings.as_slice(), word)
+}
+
+fn reads_sanitizer_lists(word: &[u8]) -> bool
+    ensures { result ≡ reads_sanitizer_lists word.now }
+{
+    let spellings: [&str; 9] = SANITIZER_LIST_FRONTS;
     begins(spellings.as_slice(), word)
 }
