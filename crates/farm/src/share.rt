@@ -67,11 +67,11 @@ fn is_below(rt: &HostRuntime) -> Result<bool, AllocError> {
 }
 
 // Runs a command with a desk of its own, unless the variables or the host list are refused.
-fn run_by(
+fn run_by<'a>(
     rt: &HostRuntime,
-    hosts: Option<&str>,
+    hosts: Option<&'a str>,
     command: &[String],
-    variables: &[(String, String)],
+    variables: &'a [(String, String)],
 ) -> Result<u8, AllocError> {
     let text = host_text(hosts, variables);
     if let Some(refusal) = refusal_of(rt.alloc(), variables, text)? {
