@@ -1,6 +1,7 @@
 // Files and pipes that are read to their ends, within a bound.
-ghost use Rattle.std.specs.Prelude.{◌≡◌, ◌+◌, ◌-◌, ◌^◌, ◌<◌, ◌≤◌, ◌++◌, min, length, IfOk};
-ghost use Rattle.edge_streams.specs.Reading.{IsReadWithin, IsReadOf};
+ghost use Rattle.std.specs.Prelude.{◌≡◌, ◌+◌, ◌-◌, ◌^◌, ◌<◌, ◌≤◌, ◌++◌, Ok, min, length, IfOk};
+ghost use Rattle.std.specs.Io.KnownBytes.{IsAtEnd};
+ghost use Rattle.edge_streams.specs.Reading.{IsReadWithin, IsReadOf, HasRead};
 
 use crate::retrying::read_once;
 use farm_types::Bytes;
@@ -36,6 +37,8 @@ pub fn first_room(expected: u64, bound: u32) -> usize
 }
 
 /// Reads a stream to its end, into so much room at first. Past the bound it counts the bytes and keeps none.
+///
+/// A short piece serves until the stream fills it, so no long one is cleared for a stream of few bytes.
 #[tactic(auto, using(crate::proofs::ReadLemmas::reading))]
 pub fn read_to_end<S: Read>(
     stream: &mut S,
@@ -46,35 +49,100 @@ pub fn read_to_end<S: Read>(
     ensures within { IfOk result (IsReadWithin bound) }
     ensures read { IfOk result (IsReadOf (S.remaining stream.old)) }
 {
-    let mut bytes = Bytes::from_vec(Vec::with_capacity(alloc, room)?);
-    let mut total = 0u64;
-    let mut piece = [0u8; PIECE_MAX];
-    for _ in 0..u64::MAX {
-        match read_once(stream, &mut piece) {
-            Ok(0) => {
-                if total > u64::from(bound) {
-                    return Ok(Reading::Over(total));
-                }
-                return Ok(Reading::Whole(bytes));
-            }
-            Ok(count) => total = count_in(&mut bytes, total, bound, &piece[..count])?,
-            Err(_) => return Ok(Reading::Failed),
-        }
-    }
-    Ok(Reading::Failed)
+    let mut so_far = SoFar {
+        bytes: Bytes::from_vec(Vec::with_capacity(alloc, room)?),
+        total: 0,
+    };
+    let stop = match read_on(stream, &mut so_far, bound, &mut [0u8; SHORT])? {
+        Stop::Filled => read_rest(stream, &mut so_far, bound)?,
+        stop => stop,
+    };
+    Ok(match stop {
+        Stop::AtEnd if so_far.total > u64::from(bound) => Reading::Over(so_far.total),
+        Stop::AtEnd => Reading::Whole(so_far.bytes),
+        _ => Reading::Failed,
+    })
 }
 
-/// Counts a piece in, and keeps it within the bound.
-fn count_in(bytes: &mut Bytes, total: u64, bound: u32, piece: &[u8]) -> Result<u64, AllocError>
-    ensures counted { IfOk result (λ next. next ≡ min (total + length piece.now) (2 ^ 64 - 1)) }
-    ensures kept { IfOk result (λ next. next ≤ bound → bytes.new ≡ bytes.old ++ piece.now) }
+/// Reads what is left of a stream that has filled a short piece.
+#[tactic(auto, using(crate::proofs::ReadLemmas::reading))]
+fn read_rest<S: Read>(stream: &mut S, so_far: &mut SoFar, bound: u32) -> Result<Stop, AllocError>
+    ensures read { IfOk result (λ stop. HasRead (S.remaining stream.old) (S.remaining stream.new) bound so_far.old so_far.new) }
+    ensures end { result ≡ Ok Stop.AtEnd → IsAtEnd (S.remaining stream.new) }
 {
-    let next = total.saturating_add(piece.len() as u64);
-    if next <= u64::from(bound) {
-        bytes.try_extend(piece)?;
+    let mut piece = [0u8; PIECE_MAX];
+    for _ in 0..u64::MAX {
+        match read_on(stream, so_far, bound, &mut piece)? {
+            Stop::Filled => {}
+            stop => return Ok(stop),
+        }
     }
-    Ok(next)
+    Ok(Stop::Failed)
 }
+
+/// Reads on until the stream ends or fills the piece.
+#[tactic(auto, using(crate::proofs::ReadLemmas::reading))]
+fn read_on<S: Read>(
+    stream: &mut S,
+    so_far: &mut SoFar,
+    bound: u32,
+    piece: &mut [u8],
+) -> Result<Stop, AllocError>
+    requires { 0 < length piece.old }
+    ensures read { IfOk result (λ stop. HasRead (S.remaining stream.old) (S.remaining stream.new) bound so_far.old so_far.new) }
+    ensures end { result ≡ Ok Stop.AtEnd → IsAtEnd (S.remaining stream.new) }
+    ensures length { length piece.new ≡ length piece.old }
+{
+    for _ in 0..u64::MAX {
+        let count = match read_once(stream, piece) {
+            Ok(0) => return Ok(Stop::AtEnd),
+            Ok(count) => count,
+            Err(_) => return Ok(Stop::Failed),
+        };
+        so_far.count_in(bound, &piece[..count])?;
+        if count == piece.len() {
+            return Ok(Stop::Filled);
+        }
+    }
+    Ok(Stop::Failed)
+}
+
+/// What was read of a stream so far.
+#[derive(Drop)]
+pub(crate) struct SoFar {
+    /// Its bytes, as long as they are within the bound.
+    pub bytes: Bytes,
+    /// How many bytes it gave.
+    pub total: u64,
+}
+
+impl SoFar {
+    /// Counts a piece in, and keeps it within the bound.
+    fn count_in(&mut self, bound: u32, piece: &[u8]) -> Result<(), AllocError>
+        ensures counted { self.new.total ≡ min (self.old.total + length piece.now) (2 ^ 64 - 1) }
+        ensures kept { IfOk result (λ done. self.new.total ≤ bound → self.new.bytes ≡ self.old.bytes ++ piece.now) }
+    {
+        self.total = self.total.saturating_add(piece.len() as u64);
+        if self.total <= u64::from(bound) {
+            self.bytes.try_extend(piece)?;
+        }
+        Ok(())
+    }
+}
+
+/// Why reading on stopped.
+#[derive(Drop)]
+enum Stop {
+    /// The stream is at its end.
+    AtEnd,
+    /// It filled the whole piece.
+    Filled,
+    /// A read failed.
+    Failed,
+}
+
+/// The bytes of a short piece.
+const SHORT: usize = 4_096;
 
 /// A stream of more bytes is a long one.
 const LONG: u64 = 4_194_304;
