@@ -9,8 +9,7 @@ ghost use Rattle.compile_database.specs.Entries.{texts_of, words_of_array, words
 ghost use Rattle.compile_database.specs.Unread.{IsUnread};
 
 use crate::shell::split_command;
-use arg_scan::remote_plan;
-use arg_strip::is_remote;
+use arg_scan::{Verdict, classify};
 use dependency_words::dependency_words;
 use farm_types::{Bytes, Words};
 use serde_json::Value;
@@ -120,8 +119,8 @@ pub(crate) fn words_of(alloc: Global, entry: &Value) -> Result<Words, Unread>
     ensures unread { IfErr result (IsUnread (words_of (view entry.now))) }
 {
     let words = said_words(alloc, entry)?;
-    if !is_remote(&words) {
-        return Ok(words);
+    match classify(&words) {
+        Verdict::Remote(plan) => Ok(dependency_words(alloc, &words, &plan)?),
+        _ => Ok(words),
     }
-    Ok(dependency_words(alloc, &words, &remote_plan(&words))?)
 }

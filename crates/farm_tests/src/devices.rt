@@ -1,48 +1,21 @@
-//! Devices of a run of `farm`, and what is seen after it.
+//! Devices of a run of `farm` that follow a script, and what is seen after it.
 
-ghost use Rattle.std.specs.Prelude.{◌≡◌, ◌≤◌, false, length, All, IfOk};
+ghost use Rattle.std.specs.Prelude.{◌≤◌, length, All, IfOk};
 ghost use Rattle.farm_types.specs.Limits.{workers_max};
 ghost use Rattle.edge_traits.specs.Keepers.{IsIdle};
-ghost use Rattle.edge_traits.specs.Told.{told};
 ghost use Rattle.edge_memory.specs.Keepers.{keeper_state, keeper_shows};
 
-use crate::kits::{kit_count, standing_clock};
 use edge_memory::{
-    LinkScript, LinkScripts, MemClock, MemDialer, MemKeeper, MemSource, MemStation, Moves, RanList,
+    LinkScript, LinkScripts, MemClock, MemDialer, MemKeeper, MemStation, Moves, RanList,
 };
-use edge_traits::{CallNumbers, Clock, Dialer, EdgeFault, FileList, Keeper, Kit, Sink, Station};
-use farm_program::farm;
+use edge_traits::{CallNumbers, FileList, Kit};
+use farm_calls::{Asked, Seen, content_of, kit_count, standing_clock, strings, told};
 use farm_types::{Bytes, Ran};
 use std::alloc::{AllocError, Global};
 use std::sync::Wait;
 use std::thread::Threads;
 
 pub(crate) type MemKit = Kit<MemDialer, MemStation, MemKeeper, MemClock>;
-
-// A sink that shows what it got.
-#[derive(Drop)]
-pub(crate) struct Page {
-    pub(crate) text: Bytes,
-}
-
-impl Page {
-    pub(crate) fn new(alloc: Global) -> Page {
-        Page {
-            text: Bytes::new(alloc),
-        }
-    }
-}
-
-impl Sink for Page {
-    ghost shows = { λ page. record { written = told page.text; stopped = false; faults = 0 } };
-
-    fn write(&mut self, piece: &[u8]) -> Result<usize, EdgeFault> {
-        match self.text.try_extend(piece) {
-            Ok(()) => Ok(piece.len()),
-            Err(_) => Err(EdgeFault::Memory),
-        }
-    }
-}
 
 // What `farm` is given, and what its devices do: which calls fail, by their numbers, of which 0 names none, and what the
 // programs and the host give.
@@ -205,14 +178,6 @@ pub(crate) fn kits(alloc: Global, script: &Script) -> Result<Vec<MemKit>, AllocE
     Ok(kits)
 }
 
-pub(crate) fn strings(alloc: Global, words: &[&str]) -> Result<Vec<String>, AllocError> {
-    let mut list = Vec::new(alloc);
-    for word in words {
-        list.push(String::from_str(alloc, word)?)?;
-    }
-    Ok(list)
-}
-
 fn variable(alloc: Global, name: &str, value: &str) -> Result<(String, String), AllocError> {
     let name = String::from_str(alloc, name)?;
     let value = String::from_str(alloc, value)?;
@@ -230,53 +195,6 @@ fn variables_of(
     Ok(variables)
 }
 
-/// The content of a file of a keeper, if it is there.
-pub(crate) fn content_of<K: Keeper>(
-    alloc: Global,
-    keeper: &mut K,
-    name: &[u8],
-) -> Result<Option<Bytes>, AllocError> {
-    let path = Bytes::from_slice(alloc, name)?;
-    if keeper.is_pending() || path.as_slice().ends_with(b".farm~") {
-        return Ok(None);
-    }
-    match keeper.fetch(alloc, &path, 1_000) {
-        Ok(object) => Ok(Some(object)),
-        Err(_) => Ok(None),
-    }
-}
-
-/// What was printed and answered.
-#[derive(Drop)]
-pub(crate) struct Seen {
-    pub(crate) status: u8,
-    pub(crate) out: Bytes,
-    pub(crate) err: Bytes,
-    pub(crate) object: Option<Bytes>,
-}
-
-/// What `farm` is asked: its words and variables, and its input, of which a read takes all or little, and these reads fail.
-#[derive(Drop)]
-pub(crate) struct Asked {
-    words: Vec<String>,
-    variables: Vec<(String, String)>,
-    text: Bytes,
-    whole: bool,
-    fails: CallNumbers,
-}
-
-/// Words, and this input.
-pub(crate) fn asked_for(alloc: Global, words: &[&str], text: Bytes) -> Result<Asked, AllocError> {
-    let words = strings(alloc, words)?;
-    Ok(Asked {
-        words,
-        variables: Vec::new(alloc),
-        text,
-        whole: true,
-        fails: CallNumbers::new(alloc),
-    })
-}
-
 fn asked_by(alloc: Global, script: &Script) -> Result<Asked, AllocError> {
     let words = strings(alloc, script.words)?;
     let variables = variables_of(alloc, script.env)?;
@@ -289,84 +207,6 @@ fn asked_by(alloc: Global, script: &Script) -> Result<Asked, AllocError> {
         whole: false,
         fails,
     })
-}
-
-// How many bytes a read takes at most.
-fn most_at_once(whole: bool) -> u32
-    ensures { 1 ≤ result }
-{
-    if whole { 4_096 } else { 7 }
-}
-
-/// The call of `farm`, over any kits and sinks: its status.
-pub(crate) fn call<
-    W: Threads + Wait + Sync,
-    D: Dialer + Send + Drop,
-    S: Station + Send + Drop,
-    K: Keeper + Send + Drop,
-    C: Clock + Send + Drop,
-    O: Sink,
-    E: Sink + Send,
->(
-    rt: &W,
-    alloc: Global,
-    asked: Asked,
-    kits: &mut Vec<Kit<D, S, K, C>>,
-    out: &mut O,
-    err: &mut E,
-) -> u8
-where
-    D::Link: Send,
-    requires some { 1 ≤ length kits.old.items }
-    requires most { length kits.old.items ≤ workers_max }
-    requires idle { All (λ kit. IsIdle (K.shows kit.keeper)) kits.old.items }
-    requires out { (O.shows out.old).stopped ≡ false }
-    requires err { (E.shows err.old).stopped ≡ false }
-{
-    let Asked {
-        words,
-        variables,
-        text,
-        whole,
-        fails,
-    } = asked;
-    let mut input = MemSource::new(text, fails, most_at_once(whole));
-    let ended = farm(
-        rt,
-        alloc,
-        words.as_slice(),
-        variables.as_slice(),
-        &mut input,
-        kits,
-        out,
-        err,
-    );
-    ended.status
-}
-
-/// The same, over sinks that take all: what was printed and answered.
-pub(crate) fn told<
-    W: Threads + Wait + Sync,
-    D: Dialer + Send + Drop,
-    S: Station + Send + Drop,
-    K: Keeper + Send + Drop,
-    C: Clock + Send + Drop,
->(rt: &W, alloc: Global, asked: Asked, kits: &mut Vec<Kit<D, S, K, C>>) -> Seen
-where
-    D::Link: Send,
-    requires some { 1 ≤ length kits.old.items }
-    requires most { length kits.old.items ≤ workers_max }
-    requires idle { All (λ kit. IsIdle (K.shows kit.keeper)) kits.old.items }
-{
-    let mut out = Page::new(alloc);
-    let mut err = Page::new(alloc);
-    let status = call(rt, alloc, asked, kits, &mut out, &mut err);
-    Seen {
-        status,
-        out: out.text,
-        err: err.text,
-        object: None,
-    }
 }
 
 // The file `x.o` of the last kit, if it is there.

@@ -3,10 +3,11 @@
 ghost use Rattle.std.specs.Prelude.{◌≡◌, false, IfOk};
 ghost use Rattle.edge_memory.specs.Sinks.{sink_state, sink_shows};
 
-use crate::devices::{FIRST, Script, asked_for, call, kits, numbers, run};
+use crate::devices::{FIRST, Script, kits, numbers, run};
 use crate::same::{same, same_items, same_output};
 use edge_memory::{MemSink, Moves};
 use edge_traits::{CallNumbers, Sink};
+use farm_calls::{asked_for, call};
 use farm_types::Bytes;
 use std::alloc::{AllocError, Global};
 use std::process::Abort;

@@ -5,10 +5,11 @@ ghost use Rattle.edge_traits.specs.Keepers.{IsIdle};
 ghost use Rattle.object_delivery.specs.ScriptedFiles.{files_state, files_shows};
 ghost use Rattle.object_delivery.specs.Staging.{keeper_view};
 
-use crate::devices::{Asked, FIRST, Script, asked_for, kit, told};
+use crate::devices::{FIRST, Script, kit};
 use crate::same::{holds, same_output};
 use edge_memory::{MemClock, MemDialer, MemKeeper, MemStation};
 use edge_traits::{CallNumbers, FileList, Kit};
+use farm_calls::{Asked, asked_for, told};
 use farm_types::Bytes;
 use object_delivery::{FileKeeper, Files, MemFiles};
 use std::alloc::{AllocError, Global};

@@ -1,7 +1,8 @@
 //! What `farm` prints, answers and puts, job by job.
 
-use crate::devices::{FIRST, Script, Seen, run};
+use crate::devices::{FIRST, Script, run};
 use crate::same::{holds, same_items, same_output};
+use farm_calls::Seen;
 use farm_types::Bytes;
 use std::alloc::Global;
 use std::process::Abort;

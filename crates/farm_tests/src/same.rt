@@ -1,5 +1,5 @@
 //! Comparisons. Each is here by itself, so that a proof reads it once and not in each test.
-use crate::devices::Seen;
+use farm_calls::Seen;
 use std::fmt::Debug;
 use std::process::Abort;
 

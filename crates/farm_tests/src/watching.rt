@@ -4,9 +4,10 @@ ghost use Rattle.std.specs.Prelude.{◌≡◌, false, length, All, IfOk};
 ghost use Rattle.edge_traits.specs.Keepers.{IsIdle};
 ghost use Rattle.farm_machine.specs.Usable.{AreDoable, IsUsable};
 
-use crate::devices::{FIRST, Page, Script, kits, run};
+use crate::devices::{FIRST, Script, kits, run};
 use crate::same::{holds, same, same_output};
 use edge_traits::{Clock, Dialer, Keeper, Kit, Sink, Station};
+use farm_calls::Page;
 use farm_types::{Bytes, HostVec, Hosts, JobConfig, Jobs};
 use job_driver::{LineEnd, build_watched};
 use job_list::parse;

@@ -1,8 +1,9 @@
 //! What `farm` answers to its words, to its environment and to an input that asks for no job.
 
 use crate::command_rows::{BUILDS, COMMANDS, DONE, Row};
-use crate::devices::{FIRST, Script, Seen, run};
+use crate::devices::{FIRST, Script, run};
 use crate::same::{holds, same, same_items, same_output};
+use farm_calls::Seen;
 use std::alloc::Global;
 use std::process::Abort;
 use std::sync::Wait;

@@ -6,12 +6,11 @@ ghost use Rattle.edge_traits.specs.Keepers.{IsIdle};
 ghost use Rattle.edge_memory.specs.Keepers.{keeper_state, keeper_shows};
 ghost use Rattle.edge_memory.specs.Sinks.{sink_state, sink_shows};
 
-use crate::devices::{
-    FIRST, MemKit, Page, Script, Seen, asked_for, call, content_of, kits, numbers, told,
-};
+use crate::devices::{FIRST, MemKit, Script, kits, numbers};
 use crate::same::{same, same_items, same_output};
 use edge_memory::{MemSink, Moves};
 use edge_traits::{CallNumbers, Keeper, Sink};
+use farm_calls::{Page, Seen, asked_for, call, content_of, told};
 use farm_types::Bytes;
 use std::alloc::{AllocError, Global};
 use std::process::Abort;

@@ -6,14 +6,13 @@ ghost use Rattle.edge_traits.specs.Told.{told, untold};
 ghost use Rattle.edge_gates.specs.Gates.{gate_station_view, leaves_nothing};
 ghost use Rattle.edge_memory.specs.Keepers.{keeper_state, keeper_shows};
 
-use crate::devices::{Page, asked_for, call};
-use crate::kits::empty_keeper;
 use crate::same::{holds, same};
 use edge_gates::GateStation;
 use edge_memory::{LinkScripts, MemDialer, MemKeeper};
 use edge_traits::{
     Bounds, CallNumbers, Clock, Dialer, EdgeFault, Keeper, Kit, Sink, Station, StationFault,
 };
+use farm_calls::{Page, asked_for, call, empty_keeper};
 use farm_types::{Bytes, Ran, Word};
 use std::alloc::{AllocError, Global};
 use std::process::Abort;

@@ -1,6 +1,6 @@
 use Rattle.farm_cell.specs.Passes.{seen_of}
 use Rattle.farm_machine.specs.Usable.{job_at}
-use Rattle.farm_tests.proofs.honest.build_over_loops.Goals as goal
+use Rattle.loop_tests.proofs.honest.build_over_loops.Goals as goal
 
 pub returns : goal.returns
 returns g c = λ config jobs workers done enough.

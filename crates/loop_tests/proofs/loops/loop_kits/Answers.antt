@@ -9,7 +9,7 @@ use Rattle.edge_memory.specs.declared.keeper.MemKeeper.{MemKeeper}
 use Rattle.edge_memory.specs.Keepers.{keeper_state, keeper_shows}
 use Rattle.loop_link.specs.declared.dialer.LoopDialer.{LoopDialer}
 use Rattle.sample_compiler.specs.declared.station.SampleStation.{SampleStation}
-use Rattle.farm_tests.proofs.loops.loop_kits.Goals as goal
+use Rattle.loop_tests.proofs.loops.loop_kits.Goals as goal
 
 abbrev Idle : Kit (LoopDialer SampleStation) SampleStation MemKeeper MemClock → Type 0
 Idle kit = IsIdle (keeper_shows (keeper_state kit.keeper))

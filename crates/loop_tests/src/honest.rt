@@ -9,11 +9,10 @@ ghost use Rattle.farm_program.specs.Builds.{JobsDone};
 ghost use Rattle.farm_machine.specs.Usable.{job_at};
 ghost use Rattle.rehearsal.specs.Loops.{IsLoop, loop_kits, AllCompilers};
 
-use crate::devices::{Page, content_of, strings};
-use crate::kits::{LoopKit, one_kit};
 use crate::same::{same, same_items};
 use edge_memory::MemSource;
 use edge_traits::{CallNumbers, Keeper};
+use farm_calls::{LoopKit, Page, content_of, one_kit, strings};
 use farm_program::{Ended, farm};
 use farm_types::Bytes;
 use job_driver::run_means;

@@ -40,6 +40,7 @@ pub fn kit_count(asked: usize) -> usize
     }
 }
 
+/// A kit of a loop: the peer of its dialer is the service over the sample compiler, and its station is the sample compiler.
 pub type LoopKit = Kit<LoopDialer<SampleStation>, SampleStation, MemKeeper, MemClock>;
 
 /// A kit whose loop and station run the compiler over the files of one job of the workload.

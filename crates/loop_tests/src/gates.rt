@@ -4,12 +4,11 @@ ghost use Rattle.std.specs.Prelude.{◌≡◌, length, All, IfOk};
 ghost use Rattle.edge_traits.specs.Keepers.{IsIdle};
 ghost use Rattle.edge_memory.specs.Keepers.{keeper_state, keeper_shows};
 
-use crate::devices::{Asked, Seen, asked_for, told};
-use crate::kits::{empty_keeper, standing_clock};
 use crate::same::same_output;
 use edge_gates::{GateDialer, GateStation};
 use edge_memory::{LinkScripts, MemClock, MemDialer, MemKeeper, MemStation, RanList};
 use edge_traits::{CallNumbers, Dialer, Kit, Station};
+use farm_calls::{Asked, Seen, asked_for, empty_keeper, standing_clock, told};
 use farm_types::Bytes;
 use std::alloc::{AllocError, Global};
 use std::process::Abort;

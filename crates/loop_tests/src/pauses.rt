@@ -6,12 +6,11 @@ ghost use Rattle.edge_traits.specs.Told.{untold};
 ghost use Rattle.edge_gates.specs.Gates.{leaves_nothing};
 ghost use Rattle.edge_memory.specs.Keepers.{keeper_state, keeper_shows};
 
-use crate::devices::{asked_for, told};
-use crate::kits::empty_keeper;
 use crate::same::same;
 use edge_gates::GateStation;
 use edge_memory::{LinkScripts, MemDialer, MemKeeper};
 use edge_traits::{Bounds, CallNumbers, Clock, Kit, Station, StationFault, raised};
+use farm_calls::{asked_for, empty_keeper, told};
 use farm_types::{Bytes, Ran, Word};
 use std::alloc::{AllocError, Global};
 use std::process::Abort;

@@ -8,7 +8,7 @@ use Rattle.edge_memory.specs.declared.clock.MemClock.{MemClock}
 use Rattle.edge_memory.specs.declared.keeper.MemKeeper.{MemKeeper}
 use Rattle.edge_memory.specs.Keepers.{keeper_state, keeper_shows}
 use Rattle.rehearsal.specs.Loops.{LoopKit, IsLoop}
-use Rattle.farm_tests.proofs.kits.one_kit.Goals as goal
+use Rattle.farm_calls.proofs.kits.one_kit.Goals as goal
 
 abbrev Loops : LoopKit MemKeeper MemClock → Type 0
 Loops kit = IsLoop kit

@@ -1,7 +1,7 @@
 use Rattle.std.proofs.Common.{◌≡◌, ap, ◌∙◌, sym, subst}
 use Rattle.loop_link.specs.Replies.{AreOwnNames}
 use Rattle.sample_compiler.specs.Stations.{station_files}
-use Rattle.farm_tests.proofs.kits.loop_kit.Goals as goal
+use Rattle.farm_calls.proofs.kits.loop_kit.Goals as goal
 
 pub returns-clause-loops : goal.returns-clause-loops
 returns-clause-loops c = record {

@@ -2,7 +2,7 @@ use Rattle.std.proofs.Common.{◌-◌, ◌≤◌, length, vec_len}
 use Rattle.std.specs.Prelude.{All}
 use Rattle.edge_traits.specs.Keepers.{IsIdle}
 use Rattle.edge_memory.specs.Keepers.{keeper_state, keeper_shows}
-use Rattle.farm_tests.proofs.loops.loop_kits.Given as goal
+use Rattle.loop_tests.proofs.loops.loop_kits.Given as goal
 
 abbrev pub invariant-making : goal.invariant-making
 invariant-making l = record {

@@ -5,11 +5,10 @@ ghost use Rattle.farm_types.specs.Limits.{workers_max};
 ghost use Rattle.edge_traits.specs.Keepers.{IsIdle};
 ghost use Rattle.edge_memory.specs.Keepers.{keeper_state, keeper_shows};
 
-use crate::devices::{Seen, asked_for, content_of, told};
-use crate::kits::{empty_keeper, standing_clock};
 use crate::same::{holds, same, same_output};
 use edge_memory::{MemClock, MemKeeper};
 use edge_traits::{Exchange, Keeper, Kit};
+use farm_calls::{Seen, asked_for, content_of, empty_keeper, standing_clock, told};
 use farm_types::Bytes;
 use loop_link::LoopDialer;
 use rehearsal::compiler_table;
