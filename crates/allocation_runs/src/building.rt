@@ -79,9 +79,10 @@ fn links(alloc: Global) -> Result<LinkScripts, AllocError> {
 fn kit(alloc: Global) -> Result<FileKit, AllocError>
     ensures { IfOk result (λ kit. IsIdle (keeper_view (files_shows (files_state kit.keeper.files)) kit.keeper.pending)) }
 {
+    let links = links(alloc)?;
     let files = MemFiles::new(FileList::new(alloc), CallNumbers::new(alloc), 4_096);
     Ok(Kit {
-        dialer: MemDialer::new(links(alloc)?, CallNumbers::new(alloc)),
+        dialer: MemDialer::new(links, CallNumbers::new(alloc)),
         station: MemStation::new(RanList::new(alloc), CallNumbers::new(alloc)),
         keeper: FileKeeper::new(files),
         clock: MemClock::new(Moments::new(alloc)),
@@ -151,30 +152,45 @@ struct Streams {
     err: MemSink,
 }
 
-// Does the jobs of these words.
+// The streams of a run in this shape.
+fn streams(alloc: Global, shape: Shape) -> Result<Streams, AllocError>
+    ensures input { IfOk result (λ streams. (source_shows (source_state streams.input)).ended ≡ false) }
+    ensures out { IfOk result (λ streams. (sink_shows (sink_state streams.out)).stopped ≡ false) }
+    ensures err { IfOk result (λ streams. (sink_shows (sink_state streams.err)).stopped ≡ false) }
+{
+    let text = job_list(alloc, shape)?;
+    Ok(Streams {
+        input: MemSource::new(text, CallNumbers::new(alloc), 4_096),
+        out: MemSink::new(alloc, moves(alloc)),
+        err: MemSink::new(alloc, moves(alloc)),
+    })
+}
+
+// Does the jobs in this shape: the status, and how many jobs have a report, if every slot is back.
 fn run<W: Threads + Wait + Sync>(
     rt: &W,
     alloc: Global,
-    words: &[String],
+    shape: Shape,
     kits: &mut Vec<FileKit>,
     streams: &mut Streams,
-) -> Option<(u8, usize)>
+) -> Result<Option<(u8, usize)>, AllocError>
     requires input { (source_shows (source_state streams.old.input)).ended ≡ false }
     requires kits { AreReady 1 (λ kit. IsIdle (keeper_view (files_shows (files_state kit.keeper.files)) kit.keeper.pending)) kits.old.items }
     requires out { (sink_shows (sink_state streams.old.out)).stopped ≡ false }
     requires err { (sink_shows (sink_state streams.old.err)).stopped ≡ false }
 {
+    let words = words_of(alloc, shape)?;
     let ended = farm(
         rt,
         alloc,
-        words,
+        words.as_slice(),
         &[],
         &mut streams.input,
         kits,
         &mut streams.out,
         &mut streams.err,
     );
-    seen_of(&ended)
+    Ok(seen_of(&ended))
 }
 
 // How many objects a kit put.
@@ -218,25 +234,33 @@ fn judge(status: u8, out: &[u8], err: &[u8], reports: usize, whole: Option<u32>)
     Verdict::Wanting
 }
 
-/// Does twelve jobs in this shape.
-pub fn twelve_jobs<W: Threads + Wait + Sync>(
+// The verdict on twelve jobs in this shape, over these streams.
+fn verdict_on<W: Threads + Wait + Sync>(
     rt: &W,
     alloc: Global,
     shape: Shape,
-) -> Result<Verdict, AllocError> {
-    let words = words_of(alloc, shape)?;
-    let text = job_list(alloc, shape)?;
-    let mut streams = Streams {
-        input: MemSource::new(text, CallNumbers::new(alloc), 4_096),
-        out: MemSink::new(alloc, moves(alloc)),
-        err: MemSink::new(alloc, moves(alloc)),
-    };
+    streams: &mut Streams,
+) -> Result<Verdict, AllocError>
+    requires input { (source_shows (source_state streams.old.input)).ended ≡ false }
+    requires out { (sink_shows (sink_state streams.old.out)).stopped ≡ false }
+    requires err { (sink_shows (sink_state streams.old.err)).stopped ≡ false }
+{
     let mut kits = kits(alloc, shape == Shape::Four)?;
-    let Some((status, reports)) = run(rt, alloc, words.as_slice(), &mut kits, &mut streams) else {
+    let Some((status, reports)) = run(rt, alloc, shape, &mut kits, streams)? else {
         return Ok(Verdict::Wrong("a slot isn't back"));
     };
     let whole = all_objects(alloc, kits)?;
     let out = streams.out.written();
     let err = streams.err.written();
     Ok(judge(status, out, err, reports, whole))
+}
+
+/// Does twelve jobs in this shape.
+pub fn twelve_jobs<W: Threads + Wait + Sync>(
+    rt: &W,
+    alloc: Global,
+    shape: Shape,
+) -> Result<Verdict, AllocError> {
+    let mut streams = streams(alloc, shape)?;
+    verdict_on(rt, alloc, shape, &mut streams)
 }

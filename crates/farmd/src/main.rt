@@ -111,11 +111,8 @@ fn has_cache(words: &[String]) -> bool {
 }
 
 // Whether any machine that reaches this one may be served: no rule says who is, and the address isn't of this machine alone.
-fn lets_all_in(options: &Option<Options>) -> bool {
-    match options {
-        Some(options) => options.rules == 0 && options.listen() >> 24 != LOOPBACK,
-        None => false,
-    }
+fn lets_all_in(options: &Options) -> bool {
+    options.rules == 0 && options.listen() >> 24 != LOOPBACK
 }
 
 /// The first number of the addresses by which a machine reaches itself.
@@ -134,6 +131,43 @@ fn watched<'a>(
     Ok((door.watching(Arc::try_clone(&watch)?), Some(watch)))
 }
 
+// The folders that a station needs, and how it serves others.
+#[derive(Drop)]
+struct Places {
+    folder: String,
+    here: String,
+    rules: ServingRules,
+}
+
+fn places(rt: &HostRuntime, words: &[String]) -> Result<Places, AllocError>
+    ensures { IfOk result (λ places. IsPolicyFor (map string_bytes words.now) places.rules.policy) }
+{
+    let folder = own_folder(rt)?;
+    let here = current_folder(rt)?;
+    let rules = serving_rules(rt, words)?;
+    Ok(Places {
+        folder,
+        here,
+        rules,
+    })
+}
+
+// The notes that a door shares with its station.
+fn notes(rt: &HostRuntime) -> Result<SharedNotes, AllocError> {
+    let folder = own_folder(rt)?;
+    Ok(Arc::new(rt.alloc(), RunNotes::new(rt.alloc(), folder))?)
+}
+
+// A door that shares these notes.
+fn noting<'a>(
+    door: ListeningDoor<'a>,
+    notes: &SharedNotes,
+    words: &[String],
+) -> Result<ListeningDoor<'a>, AllocError> {
+    let notes = Arc::try_clone(notes)?;
+    Ok(door.noting(notes, has_cache(words)))
+}
+
 // A door and a station for it, which runs what others send. The folders of its runs are in the system's folder for such files, and the door removes
 // them.
 fn kit_of<'a>(
@@ -144,12 +178,28 @@ fn kit_of<'a>(
 ) -> Result<SystemDoor<'a>, AllocError>
     ensures { IfOk result (λ kit. IsSomeAnd (station_policy kit.station) (IsPolicyFor (map string_bytes words.now))) }
 {
-    let rules = serving_rules(rt, words)?;
-    let folder = own_folder(rt)?;
-    let here = current_folder(rt)?;
-    let notes: SharedNotes = Arc::new(rt.alloc(), RunNotes::new(rt.alloc(), own_folder(rt)?))?;
-    let door = door.noting(Arc::try_clone(&notes)?, has_cache(words));
+    let notes = notes(rt)?;
+    let door = noting(door, &notes, words)?;
     let (door, watch) = watched(rt, door)?;
+    kit_with(rt, system, door, words, (notes, watch))
+}
+
+// The same, with what the door shares with its station.
+fn kit_with<'a>(
+    rt: &HostRuntime,
+    system: System<'a>,
+    door: ListeningDoor<'a>,
+    words: &[String],
+    shared: (SharedNotes, Option<SystemWatch<'a>>),
+) -> Result<SystemDoor<'a>, AllocError>
+    ensures { IfOk result (λ kit. IsSomeAnd (station_policy kit.station) (IsPolicyFor (map string_bytes words.now))) }
+{
+    let Places {
+        folder,
+        here,
+        rules,
+    } = places(rt, words)?;
+    let (notes, watch) = shared;
     Ok(DoorKit {
         door,
         station: ChildStation::serving(system, folder, here, rules, Some(notes), watch),
@@ -203,35 +253,34 @@ fn doors_at<'a>(
     }
 }
 
-// The words, and the doors that they ask for.
+// The doors that the words ask for.
 fn doors_of<'a>(
     rt: &HostRuntime,
     lines: &'a ErrorLines,
-) -> Result<(Vec<String>, Vec<SystemDoor<'a>>), AllocError>
-    ensures some { IfOk result (λ made. 1 ≤ length made.1.items) }
-    ensures few { IfOk result (λ made. length made.1.items ≤ workers_max) }
+    words: &[String],
+) -> Result<Vec<SystemDoor<'a>>, AllocError>
+    ensures some { IfOk result (λ doors. 1 ≤ length doors.items) }
+    ensures few { IfOk result (λ doors. length doors.items ≤ workers_max) }
 {
-    let words = words_of(rt)?;
-    let place = door_place(words.as_slice());
-    let options = options_of(words.as_slice());
+    tell_dangers(rt, words)?;
+    let access = access_of(rt, words)?;
+    let place = door_place(words);
+    doors_at(rt, Unhindered::new(*rt, lines), words, place, access)
+}
+
+// Says what whoever starts this program may not have meant, if the words ask for a daemon.
+fn tell_dangers(rt: &HostRuntime, words: &[String]) -> Result<(), AllocError> {
+    let Some(options) = options_of(words) else {
+        return Ok(());
+    };
     if lets_all_in(&options) {
         warn!(rt; "every peer is let in, since no rule says who is");
     }
-    if options.is_some() && is_root(rt) {
+    if is_root(rt) {
         warn!(rt; "the compilers run as root, since farmd does");
     }
-    if options.is_some() {
-        tell_folder(rt, own_folder(rt)?.as_str());
-    }
-    let access = access_of(rt, words.as_slice())?;
-    let doors = doors_at(
-        rt,
-        Unhindered::new(*rt, lines),
-        words.as_slice(),
-        place,
-        access,
-    )?;
-    Ok((words, doors))
+    tell_folder(rt, own_folder(rt)?.as_str());
+    Ok(())
 }
 
 // Says that memory ran out before anything was served.
@@ -254,7 +303,10 @@ fn main(rt: HostRuntime) -> ExitCode {
     let Ok(lines) = ErrorLines::new(&rt, rt.alloc()) else {
         return no_memory(&rt);
     };
-    let Ok((words, mut doors)) = doors_of(&rt, &lines) else {
+    let Ok(words) = words_of(&rt) else {
+        return no_memory(&rt);
+    };
+    let Ok(mut doors) = doors_of(&rt, &lines, words.as_slice()) else {
         return no_memory(&rt);
     };
     let mut out = StdSink::new(WaitingStream::new(rt, rt.stdout()));

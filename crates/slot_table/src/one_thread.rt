@@ -80,13 +80,11 @@ fn note(calls: &mut Vec<CallEntry>, call: SlotCall, reply: SlotReply)
     ensures len { vec_len calls.new ≡ vec_len calls.old + 1 }
     ensures capacity { vec_capacity calls.old ≤ vec_capacity calls.new }
 {
-    let Ok(()) = calls.push(CallEntry {
+    calls.push_reserved(CallEntry {
         caller: 0,
         call,
         reply,
-    }) else {
-        unreachable!()
-    };
+    });
 }
 
 impl<const H: usize> Grants for OneThread<H> {
