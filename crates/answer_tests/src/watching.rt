@@ -8,11 +8,11 @@ use crate::same::{same, same_bytes};
 use edge_memory::{MemSink, Moves};
 use edge_traits::{CallNumbers, Clock, Sink};
 use farm_monitor::{Progress, Shower, Watcher, board};
+use progress_lines::{Count, LineEnd, LineText, count_rows, watch, watch_last};
 use std::alloc::{AllocError, Global};
 use std::process::Abort;
 use std::sync::Wait;
 use std::test::Fail;
-use watch_lines::{Count, LineEnd, LineText, count_rows, watch, watch_last};
 
 fn numbers(alloc: Global, list: &[u64]) -> Result<CallNumbers, AllocError> {
     let mut numbers = CallNumbers::new(alloc);

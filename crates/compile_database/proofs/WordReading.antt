@@ -1,9 +1,9 @@
 -- One reading of the words.
 use Rattle.std.proofs.Common.{◌≡◌, ℕ, Bool, true, false, List, Result, Ok, Err, refl, ap, sym, ◌∙◌, inl, inr}
 use Rattle.std.specs.Prelude.{◌⊎◌}
-use Rattle.option_words.specs.Items.{Item}
-use Rattle.option_words.specs.Readings.{CanTell, OptionsRead}
-use Rattle.option_words.proofs.Reading.{one_items, not_both, one_place, some_reading}
+use Rattle.option_reader.specs.Items.{Item}
+use Rattle.option_reader.specs.Readings.{CanTell, OptionsRead}
+use Rattle.option_reader.proofs.Reading.{one_items, not_both, one_place, some_reading}
 use Rattle.compile_database.specs.Choices.{Choice}
 use Rattle.compile_database.specs.Words.{option_of, value_fits, options, choice_by, given_by, WordsRead}
 

@@ -3,7 +3,7 @@ use Rattle.std.specs.Prelude.{ℕ, Bool, true, false, List, [], ◌∷◌, codes
 use Rattle.serde_json.specs.Data.{Data, Items, no_items, item}
 use Rattle.serde_json.specs.Find.{get, as_str, as_array}
 use Rattle.arg_scan.specs.Class.{is_remote_verdict, verdict_of}
-use Rattle.dependency_words.specs.Words.{with_dependencies}
+use Rattle.dependency_options.specs.Words.{with_dependencies}
 use Rattle.compile_database.specs.declared.entry.NoWords.{NoWords}
 use Rattle.compile_database.specs.declared.entry.NoWords.TheVariants.{NoForm, OpenQuote}
 use Rattle.compile_database.specs.Shell.{shell_words}

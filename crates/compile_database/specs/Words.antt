@@ -4,10 +4,10 @@ use Rattle.std.specs.Prelude.{Result, Ok, Err}
 use Rattle.std.specs.Option.{option_and_then}
 use Rattle.farm_types.specs.Decimals.{plain_decimal_of}
 use Rattle.farm_types.specs.Limits.{jobs_max}
-use Rattle.option_words.specs.declared.table.Row.{Row}
-use Rattle.option_words.specs.Items.{Item, value_in}
-use Rattle.option_words.specs.Tables.{Table}
-use Rattle.option_words.specs.Readings.{AreOptions, BadOptionAt}
+use Rattle.option_reader.specs.declared.table.Row.{Row}
+use Rattle.option_reader.specs.Items.{Item, value_in}
+use Rattle.option_reader.specs.Tables.{Table}
+use Rattle.option_reader.specs.Readings.{AreOptions, BadOptionAt}
 use Rattle.compile_database.specs.declared.options.OptionName.{OptionName}
 use Rattle.compile_database.specs.declared.options.OptionName.TheVariants.{Folder, From, Count}
 use Rattle.compile_database.specs.Choices.{Choice}

@@ -10,7 +10,7 @@ ghost use Rattle.compile_database.specs.Unread.{IsUnread};
 
 use crate::shell::split_command;
 use arg_scan::{Verdict, classify};
-use dependency_words::dependency_words;
+use dependency_options::dependency_words;
 use farm_types::{Bytes, Words};
 use serde_json::Value;
 use std::alloc::{AllocError, Global};

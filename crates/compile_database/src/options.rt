@@ -2,8 +2,8 @@
 
 ghost use Rattle.std.specs.Prelude.{◌≡◌, ◌≤◌, List, map, string_bytes, IfOk, IfErr, IfSome};
 ghost use Rattle.std.specs.Option.{option_and_then, option_copied};
-ghost use Rattle.option_words.specs.Items.{Item};
-ghost use Rattle.option_words.specs.Readings.{AreOptions};
+ghost use Rattle.option_reader.specs.Items.{Item};
+ghost use Rattle.option_reader.specs.Readings.{AreOptions};
 ghost use Rattle.compile_database.specs.Words as words;
 ghost use Rattle.compile_database.specs.Words.{BadWordsAt, Chooses, count_of, given_by, number_of, option_of, options, row_of, value_fits};
 ghost use Rattle.compile_database.specs.Selections.{choice_of, given};
@@ -11,7 +11,7 @@ ghost use Rattle.compile_database.specs.Selections.{choice_of, given};
 use crate::choice::Selection;
 use farm_types::limits::JOBS_MAX;
 use farm_types::read_plain_decimal;
-use option_words::{OptionTable, Row, check_options, value_of};
+use option_reader::{OptionTable, Row, check_options, value_of};
 
 /// An option of `farm_jobs`.
 #[derive(Clone, Copy, Debug, PartialEq, Eq, Drop)]

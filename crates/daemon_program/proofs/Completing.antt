@@ -22,7 +22,7 @@ use Rattle.daemon_worker.specs.Connections.{Connection}
 use Rattle.daemon_worker.specs.Logs.{DoorsServed, numbered, is_door_fault}
 use Rattle.daemon_worker.specs.Rightness.{AllRight, IsRight}
 use Rattle.daemon_worker.proofs.Answering.{rightly}
-use Rattle.daemon_words.specs.declared.options.Options.{Options}
+use Rattle.farmd_options.specs.declared.options.Options.{Options}
 use Rattle.object_cache.specs.Stations.{cached_shows}
 use Rattle.daemon_program.specs.Texts.{log_text, books_text}
 use Rattle.daemon_program.specs.Endings.{Noticed, told_whole, told_stopped, told_wanted, Ends, printed, stopped, wanted}

@@ -13,11 +13,11 @@ use Rattle.daemon_worker.specs.declared.log.DaemonConfig.{DaemonConfig}
 use Rattle.daemon_worker.specs.declared.log.DoorKit.{DoorKit}
 use Rattle.daemon_worker.specs.declared.log.Entry.{Entry}
 use Rattle.daemon_worker.specs.Logs.{DoorsServed}
-use Rattle.daemon_words.specs.declared.options.Options.{Options}
-use Rattle.daemon_words.specs.declared.command.Command.{Command}
-use Rattle.daemon_words.specs.Options.{IsWithin, AreWithin, book_bound}
-use Rattle.daemon_words.specs.Commands.{ReadWords}
-use Rattle.daemon_words.proofs.Meaning.{once}
+use Rattle.farmd_options.specs.declared.options.Options.{Options}
+use Rattle.farmd_options.specs.declared.command.Command.{Command}
+use Rattle.farmd_options.specs.Options.{IsWithin, AreWithin, book_bound}
+use Rattle.farmd_options.specs.Commands.{ReadWords}
+use Rattle.farmd_options.proofs.Meaning.{once}
 use Rattle.object_cache.specs.declared.book.Stats.{Stats}
 use Rattle.object_cache.specs.Stations.{cached_shows}
 use Rattle.daemon_program.specs.Texts.{log_text, books_text}

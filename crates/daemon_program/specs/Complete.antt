@@ -15,8 +15,8 @@ use Rattle.daemon_worker.specs.declared.log.DoorKit.{DoorKit}
 use Rattle.daemon_worker.specs.declared.log.Entry.{Entry}
 use Rattle.daemon_worker.specs.Logs.{DoorServed}
 use Rattle.daemon_worker.specs.Rightness.{AllRight, AreCalm, NoneFailed}
-use Rattle.daemon_words.specs.declared.options.Options.{Options}
-use Rattle.daemon_words.specs.Options.{book_bound}
+use Rattle.farmd_options.specs.declared.options.Options.{Options}
+use Rattle.farmd_options.specs.Options.{book_bound}
 use Rattle.object_cache.specs.Stations.{cached_shows}
 use Rattle.daemon_program.specs.Daemons.{IsConfig, doors_used}
 

@@ -17,13 +17,13 @@ use Rattle.daemon_worker.specs.declared.log.Entry.{Entry}
 use Rattle.daemon_worker.specs.declared.log.Met.{Met}
 use Rattle.daemon_worker.specs.declared.log.Met.TheVariants as met
 use Rattle.daemon_worker.specs.Logs.{DoorsServed, is_door_fault}
-use Rattle.daemon_words.specs.declared.options.Options.{Options}
-use Rattle.daemon_words.specs.Options.{book_bound}
-use Rattle.daemon_words.specs.declared.command.Command.{Command}
-use Rattle.daemon_words.specs.declared.command.Command.TheVariants.{Help, Version, Serve}
-use Rattle.daemon_words.specs.Commands.{settings_of}
-use Rattle.daemon_words.specs.Helps.{help, version}
-use Rattle.daemon_words.specs.Tables.{compilers_of, AreRules}
+use Rattle.farmd_options.specs.declared.options.Options.{Options}
+use Rattle.farmd_options.specs.Options.{book_bound}
+use Rattle.farmd_options.specs.declared.command.Command.{Command}
+use Rattle.farmd_options.specs.declared.command.Command.TheVariants.{Help, Version, Serve}
+use Rattle.farmd_options.specs.Commands.{settings_of}
+use Rattle.farmd_options.specs.Helps.{help, version}
+use Rattle.farmd_options.specs.Tables.{compilers_of, AreRules}
 use Rattle.object_cache.specs.declared.book.Stats.{Stats}
 use Rattle.object_cache.specs.Stations.{cached_shows}
 use Rattle.daemon_program.specs.Counts.{BooksKept}

@@ -16,11 +16,11 @@ use Rattle.daemon_worker.specs.declared.log.DoorKit.{DoorKit}
 use Rattle.daemon_worker.specs.declared.log.Entry.{Entry}
 use Rattle.daemon_worker.specs.Logs.{DoorsServed}
 use Rattle.daemon_worker.specs.Paths.{DoorPath}
-use Rattle.daemon_words.specs.declared.options.Options.{Options}
-use Rattle.daemon_words.specs.Options.{shared_bound}
-use Rattle.daemon_words.specs.declared.command.Command.{Command}
-use Rattle.daemon_words.specs.declared.command.Command.TheVariants.{Help, Version, Serve}
-use Rattle.daemon_words.specs.Helps.{help, version}
+use Rattle.farmd_options.specs.declared.options.Options.{Options}
+use Rattle.farmd_options.specs.Options.{shared_bound}
+use Rattle.farmd_options.specs.declared.command.Command.{Command}
+use Rattle.farmd_options.specs.declared.command.Command.TheVariants.{Help, Version, Serve}
+use Rattle.farmd_options.specs.Helps.{help, version}
 use Rattle.object_cache.specs.Stations.{cached_shows}
 use Rattle.shared_cache.specs.declared.book.SharedStats.{SharedStats}
 use Rattle.shared_cache.specs.declared.station.Counts.{Counts}

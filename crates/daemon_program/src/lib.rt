@@ -10,5 +10,5 @@ mod sharing;
 mod status;
 mod top;
 
-pub use daemon_words::{DoorPlace, door_place, trusts_options};
+pub use farmd_options::{DoorPlace, door_place, trusts_options};
 pub use top::farmd;

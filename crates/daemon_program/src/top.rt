@@ -2,11 +2,11 @@
 
 ghost use Rattle.std.specs.Prelude.{◌≡◌, ◌≤◌, ℕ, false, map, string_bytes, length, IfOk, Result};
 ghost use Rattle.farm_types.specs.Limits.{workers_max};
-ghost use Rattle.daemon_words.specs.declared.command.Command.{Command as Asked};
-ghost use Rattle.daemon_words.specs.declared.command.Command.TheVariants as asked;
-ghost use Rattle.daemon_words.specs.Commands.{IsCommand, ReadWords};
-ghost use Rattle.daemon_words.specs.declared.options.Options.{Options as Given};
-ghost use Rattle.daemon_words.specs.Options.{shared_bound};
+ghost use Rattle.farmd_options.specs.declared.command.Command.{Command as Asked};
+ghost use Rattle.farmd_options.specs.declared.command.Command.TheVariants as asked;
+ghost use Rattle.farmd_options.specs.Commands.{IsCommand, ReadWords};
+ghost use Rattle.farmd_options.specs.declared.options.Options.{Options as Given};
+ghost use Rattle.farmd_options.specs.Options.{shared_bound};
 ghost use Rattle.daemon_program.specs.Daemons.{IsConfig, Serves};
 ghost use Rattle.daemon_program.specs.Sharing.{RunAlike, DoesServe, DoesAll, CompletedAll};
 ghost use Rattle.daemon_program.specs.Complete.{IsSmooth};
@@ -19,11 +19,11 @@ use crate::sharing::serve_beside_shared;
 use crate::status::status_of;
 use access_list::AccessList;
 use daemon_service::Compilers;
-use daemon_words::{
-    Command, Options, compilers_of, help_text, parse_words, rules_of, settings_of, version_text,
-};
 use daemon_worker::{DaemonConfig, DoorKit, serve_first};
 use edge_traits::{Door, Sink, Station};
+use farmd_options::{
+    Command, Options, compilers_of, help_text, parse_words, rules_of, settings_of, version_text,
+};
 use std::alloc::{AllocError, Global};
 use std::marker::Brand;
 use std::random::RandomSource;

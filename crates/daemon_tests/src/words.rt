@@ -1,7 +1,7 @@
 use crate::same::{holds, same, same_items};
 use access_list::Rule;
 use daemon_service::Compiler;
-use daemon_words::{
+use farmd_options::{
     Command, DoorPlace, Options, compilers_of, door_place, help_text, parse_words, rules_of,
     settings_of, tools_of, trusts_options, version_text,
 };

@@ -8,7 +8,7 @@ use Rattle.edge_traits.specs.declared.faults.StationFault.{StationFault}
 use Rattle.edge_traits.specs.declared.faults.StationFault.TheVariants.{Memory}
 use Rattle.edge_traits.specs.Stations.{has_output}
 use Rattle.object_kind.specs.Asked.{is_asked_kind, is_filled}
-use Rattle.served_words.specs.Served.{first_unserved}
+use Rattle.allowed_options.specs.Served.{first_unserved}
 use Rattle.edge_runs.specs.Refusals.{unserved_reply}
 use Rattle.edge_programs.specs.declared.child.WordPolicy.{WordPolicy}
 use Rattle.edge_programs.specs.declared.child.WordPolicy.TheVariants.{ServedWords, AllWords}

@@ -9,6 +9,7 @@ ghost use Rattle.edge_programs.specs.Views.{station_view, counted_station, folde
 use crate::files::{input_file, output_path};
 use crate::notices::{tell_overrun, tell_signal, tell_unserved};
 use crate::running::{Watched, object_left, of_any_kind, of_asked_kind, run_command, run_watched};
+use allowed_options::first_unserved;
 use edge_runs::{
     RunFolder, RunWatch, SharedNotes, Unwatched, command_in, command_of, have_descriptors,
     needs_folder, path_of, refusal_of,
@@ -16,7 +17,6 @@ use edge_runs::{
 use edge_streams::raise;
 use edge_traits::{Bounds, Station, StationFault, has_output};
 use farm_types::{Bytes, Ran, Word};
-use served_words::first_unserved;
 use std::alloc::Global;
 use std::fs::File;
 use std::io::Eprint;
@@ -28,7 +28,7 @@ use std::time::Duration;
 /// Which words a station runs that serves others.
 #[derive(Drop)]
 pub enum WordPolicy {
-    /// Those that are let through, as `served_words` has it: anybody may send them. They may name these folders of a compiler's parts.
+    /// Those that are let through, as `allowed_options` has it: anybody may send them. They may name these folders of a compiler's parts.
     ServedWords { tools: Vec<String> },
     /// All words: whoever sends them is trusted as this process is.
     AllWords,

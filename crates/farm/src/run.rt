@@ -8,9 +8,9 @@ use crate::settings::{notices_of, variables_of};
 use edge_real::{
     KitSettings, PAUSE_MILLIS, StdSink, StdSource, SystemKit, WaitingStream, own_folder, watch_kits,
 };
+use farm_options::parse_command;
 use farm_program::{Ended, farm};
 use farm_types::limits::WORKERS_MAX;
-use farm_words::parse_command;
 use kept_input::MarkedSource;
 use std::alloc::AllocError;
 use std::process;

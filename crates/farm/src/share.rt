@@ -10,10 +10,10 @@ use desk_real::{
 };
 use edge_real::{StdSink, WaitingStream, variable};
 use farm_machine::limits_of;
+use farm_options::{Share, back_off_period, host_text, lookup, parse_share, share_help};
 use farm_program::Refusal;
 use farm_types::Hosts;
 use farm_types::exits::{BAD_HOSTS, BAD_WORDS, FAULT, NO_CODE, STOPPED};
-use farm_words::{Share, back_off_period, host_text, lookup, parse_share, share_help};
 use host_list::{HostError, parse, print as print_hosts};
 use std::alloc::{AllocError, Global};
 use std::io;

@@ -1,10 +1,10 @@
 //! What a command comes to before a job is run.
 ghost use Rattle.std.specs.Prelude.{◌≡◌, ◌<◌, [], ◌∷◌, false, IfOk, length, map, option_copied, string_bytes};
 ghost use Rattle.edge_traits.specs.Sources.{SourceView};
-ghost use Rattle.farm_words.specs.Commands as commands;
-ghost use Rattle.farm_words.specs.Commands.{meaning};
-ghost use Rattle.farm_words.specs.Options.{given_in};
-ghost use Rattle.farm_words.specs.Within.{AreWithin, IsWithin};
+ghost use Rattle.farm_options.specs.Commands as commands;
+ghost use Rattle.farm_options.specs.Commands.{meaning};
+ghost use Rattle.farm_options.specs.Options.{given_in};
+ghost use Rattle.farm_options.specs.Within.{AreWithin, IsWithin};
 ghost use Rattle.farm_program.specs.Works.{Decides};
 
 use crate::input::{read_graph, read_jobs};
@@ -12,8 +12,8 @@ use crate::settings::{Settings, configure};
 use crate::work::{GraphWork, ListWork, Work};
 use edge_traits::Source;
 use farm_answers::{Refusal, Text, class_line, list_hosts};
+use farm_options::{Command, Options, help_text, host_text, version_text};
 use farm_types::{Bytes, Jobs, Words};
-use farm_words::{Command, Options, help_text, host_text, version_text};
 use std::alloc::{AllocError, Global};
 
 /// The options of a command that takes none.

@@ -2,12 +2,12 @@
 use Rattle.std.proofs.Common.{◌≡◌, ℕ, ◌≤◌, List, ap, subst, sym, arith}
 use Rattle.std.specs.Prelude.{Option, Some, None, IfSome, unwrap_or}
 use Rattle.farm_types.specs.Limits.{workers_default, workers_max}
-use Rattle.daemon_words.specs.declared.command.Command.{Command}
-use Rattle.daemon_words.specs.declared.command.Command.TheVariants.{Help, Version, Serve}
-use Rattle.daemon_words.specs.declared.command.DoorPlace.{DoorPlace}
-use Rattle.daemon_words.specs.Options.{IsWithin}
-use Rattle.daemon_words.specs.Commands.{IsCommand, place_of}
-use Rattle.daemon_words.proofs.Meaning.{right_numbers}
+use Rattle.farmd_options.specs.declared.command.Command.{Command}
+use Rattle.farmd_options.specs.declared.command.Command.TheVariants.{Help, Version, Serve}
+use Rattle.farmd_options.specs.declared.command.DoorPlace.{DoorPlace}
+use Rattle.farmd_options.specs.Options.{IsWithin}
+use Rattle.farmd_options.specs.Commands.{IsCommand, place_of}
+use Rattle.farmd_options.proofs.Meaning.{right_numbers}
 
 few_or : (given : Option ℕ) → IsWithin 1 workers_max given → unwrap_or given workers_default ≤ workers_max
 few_or None within = omega arith

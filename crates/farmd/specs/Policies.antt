@@ -1,7 +1,7 @@
 -- Which words of a request a station runs, by the words of `farmd`.
 use Rattle.std.specs.Prelude.{◌≡◌, ◌≢◌, ℕ, true, false, List}
-use Rattle.daemon_words.specs.Commands.{settings_of, trusts}
-use Rattle.daemon_words.specs.Tables.{tools_of}
+use Rattle.farmd_options.specs.Commands.{settings_of, trusts}
+use Rattle.farmd_options.specs.Tables.{tools_of}
 use Rattle.edge_programs.specs.Serving.{tools_in}
 use Rattle.edge_programs.specs.declared.child.WordPolicy.{WordPolicy}
 use Rattle.edge_programs.specs.declared.child.WordPolicy.TheVariants.{AllWords}

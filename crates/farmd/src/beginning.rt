@@ -1,6 +1,6 @@
 // What farmd says on standard error as it begins: where it listens, and its table of compilers.
 use daemon_program::DoorPlace;
-use daemon_words::{compilers_of, settings_of};
+use farmd_options::{compilers_of, settings_of};
 use std::alloc::AllocError;
 use std::env::{self, Env};
 use std::io::Eprint;

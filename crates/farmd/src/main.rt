@@ -12,9 +12,6 @@ use access_list::AccessList;
 use beginning::{is_root, tell_beginning, tell_folder};
 use child_ends::{Kind, start_again};
 use daemon_program::{DoorPlace, door_place, farmd};
-use daemon_words::{
-    Command, Options, parse_words, rules_of, settings_of, tools_of, trusts_options,
-};
 use daemon_worker::DoorKit;
 use edge_real::{
     ChildStation, ErrorLines, HeldStreams, RunNotes, ServingRules, SharedNotes, SharedWatch,
@@ -22,6 +19,9 @@ use edge_real::{
     own_folder,
 };
 use farm_types::exits::{FAULT, NO_MEMORY};
+use farmd_options::{
+    Command, Options, parse_words, rules_of, settings_of, tools_of, trusts_options,
+};
 use log::warn;
 use std::alloc::AllocError;
 use std::net::{TcpListener, TcpStream};

@@ -11,15 +11,15 @@ use Rattle.slot_table.specs.declared.calls.CallEntry.{CallEntry}
 use Rattle.edge_traits.specs.Sinks.{SinkView}
 use Rattle.farm_machine.specs.declared.reports.Report.{Report}
 use Rattle.farm_machine.specs.Jobs.{Job}
-use Rattle.watch_lines.specs.declared.line_end.LineEnd.{LineEnd}
-use Rattle.watch_lines.specs.declared.line_end.LineEnd.TheVariants.{Whole, SinkFault, Memory}
+use Rattle.progress_lines.specs.declared.line_end.LineEnd.{LineEnd}
+use Rattle.progress_lines.specs.declared.line_end.LineEnd.TheVariants.{Whole, SinkFault, Memory}
 use Rattle.farm_monitor.specs.declared.progress.Progress.{Progress}
 use Rattle.farm_monitor.specs.declared.ends.Watcher.{Watcher}
 use Rattle.farm_monitor.specs.Boards.{known_rows, shown_rows}
-use Rattle.watch_lines.specs.declared.count.Count.{Count}
-use Rattle.watch_lines.specs.Counts.{known, ReadOn, AreLooks}
-use Rattle.watch_lines.specs.Printed.{WatchLines, counts_told}
-use Rattle.watch_lines.proofs.Going.{read-on, tells-from}
+use Rattle.progress_lines.specs.declared.count.Count.{Count}
+use Rattle.progress_lines.specs.Counts.{known, ReadOn, AreLooks}
+use Rattle.progress_lines.specs.Printed.{WatchLines, counts_told}
+use Rattle.progress_lines.proofs.Going.{read-on, tells-from}
 use Rattle.farm_machine.specs.Devices.{Devices}
 use Rattle.job_driver.specs.Driven.{JobsRan}
 use Rattle.job_driver.specs.declared.marker.Marker.{Marker}

@@ -16,11 +16,11 @@ use Rattle.logbook.specs.Pages.{Book}
 use Rattle.farm_monitor.specs.declared.ends.Watcher.{Watcher}
 use Rattle.farm_monitor.specs.declared.progress.Progress.{Progress}
 use Rattle.farm_monitor.specs.Boards.{board_of, board_watched, shown_rows, known_rows}
-use Rattle.watch_lines.specs.declared.line_end.LineEnd.{LineEnd}
-use Rattle.watch_lines.specs.declared.line_end.LineEnd.TheVariants.{Whole, SinkFault, Memory}
-use Rattle.watch_lines.specs.Lines.{last_text}
-use Rattle.watch_lines.specs.Counts.{known, AreLooks}
-use Rattle.watch_lines.specs.Printed.{LinePrinted, WatchLines, counts_told}
+use Rattle.progress_lines.specs.declared.line_end.LineEnd.{LineEnd}
+use Rattle.progress_lines.specs.declared.line_end.LineEnd.TheVariants.{Whole, SinkFault, Memory}
+use Rattle.progress_lines.specs.Lines.{last_text}
+use Rattle.progress_lines.specs.Counts.{known, AreLooks}
+use Rattle.progress_lines.specs.Printed.{LinePrinted, WatchLines, counts_told}
 use Rattle.job_driver.specs.declared.workers.Worker.{Worker}
 use Rattle.job_driver.specs.declared.marker.Marker.{Marker}
 use Rattle.job_driver.specs.declared.beside.Marked.{Marked}

@@ -2,7 +2,7 @@
 ghost use Rattle.std.specs.Prelude.{◌≡◌, ◌≤◌, [], true, All, IfOk, length, map, replicate, vec_capacity};
 ghost use mathlib.Core.List.{IsPrefix};
 ghost use Rattle.farm_monitor.specs.Boards.{board_watched, known_rows};
-ghost use Rattle.watch_lines.specs.Counts.{known, ReadOn};
+ghost use Rattle.progress_lines.specs.Counts.{known, ReadOn};
 ghost use Rattle.job_driver.specs.Watching.{board_marked, AreTold, IsFreshMarker, IsTold};
 
 use crate::marker::Marker;

@@ -15,5 +15,5 @@ mod workers;
 
 pub use driver::{Built, build};
 pub use laws::run_means;
-pub use watch_lines::LineEnd;
+pub use progress_lines::LineEnd;
 pub use watched::{Watched, build_watched};

@@ -5,7 +5,7 @@ ghost use Rattle.farm_types.specs.Limits.{workers_max};
 ghost use Rattle.edge_traits.specs.Told.{Grew};
 ghost use Rattle.farm_cell.specs.Passes.{limits_of};
 ghost use Rattle.farm_monitor.specs.Boards.{board_watched};
-ghost use Rattle.watch_lines.specs.Counts.{known};
+ghost use Rattle.progress_lines.specs.Counts.{known};
 ghost use Rattle.job_driver.specs.Workers.{reserve_of, reports_on, AreReady, AreSlotsFor, IsReady, HasWorked};
 ghost use Rattle.farm_machine.specs.Usable.{job_at};
 ghost use Rattle.job_driver.specs.Watching.{worker_of, marker_of, AreBack, CalledEach, CanPrint, HasMarkedOff, HasPrinted, HasWatched, IsFor, LinesTell};
@@ -18,9 +18,9 @@ use edge_traits::{Clock, Dialer, Keeper, Kit, Sink, Station};
 use farm_cell::Cell;
 use farm_monitor::Watcher;
 use kit_types::Observed;
+use progress_lines::{LineEnd, watch};
 use std::sync::Wait;
 use std::thread::{Threads, for_each_mut, join_mut};
-use watch_lines::{LineEnd, watch};
 
 /// Who reads the boards of all workers, pauses between two reads, and prints that many lines.
 pub struct Watch<C> {

@@ -2,7 +2,7 @@
 ghost use Rattle.std.specs.Prelude.{◌≡◌, ◌+◌, ◌^◌, ◌<◌, ◌≤◌, [], All, IfOk, OnErr, true, length, map, replicate, vec_capacity};
 ghost use Rattle.farm_types.specs.Limits.{lines_max};
 ghost use Rattle.farm_monitor.specs.Boards.{board_watched};
-ghost use Rattle.watch_lines.specs.Counts.{known};
+ghost use Rattle.progress_lines.specs.Counts.{known};
 ghost use Rattle.farm_machine.specs.Devices.{devices};
 ghost use Rattle.job_driver.specs.Runs.{HasBuilt, HasKits};
 ghost use Rattle.farm_machine.specs.Usable.{AreDoable, IsUsable};
@@ -18,10 +18,10 @@ use edge_traits::{Clock, Dialer, Keeper, Kit, Sink, Station};
 use farm_monitor::Watcher;
 use farm_types::{JobConfig, Jobs};
 use kit_types::Observed;
+use progress_lines::{LineEnd, watch_last};
 use std::alloc::{AllocError, Global};
 use std::sync::Wait;
 use std::thread::Threads;
-use watch_lines::{LineEnd, watch_last};
 
 /// What a watched run of jobs left: what a run leaves, how the printing of lines ended, and whether the last line says that all
 /// jobs have ended.

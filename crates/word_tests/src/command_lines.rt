@@ -1,7 +1,7 @@
 //! Command lines with what they ask for, or the place of the first word that doesn't fit.
 
 use crate::same::{holds, same, same_bytes};
-use farm_words::{
+use farm_options::{
     Command, CommandName, Options, back_off_period, help_text, host_text, is_fallback_on, lookup,
     parse_command, version_text,
 };

@@ -2,7 +2,7 @@ use crate::lines::{line_of, words_of};
 use crate::same::same_bytes;
 use arg_scan::remote_plan;
 use arg_strip::is_remote;
-use dependency_words::dependency_words;
+use dependency_options::dependency_words;
 use farm_types::{Bytes, Words};
 use std::alloc::{AllocError, Global};
 use std::process::Abort;

@@ -1,6 +1,6 @@
 use Rattle.std.proofs.Common.{map, string_bytes, Global, refl, subst}
 use Rattle.std.specs.Prelude.{Ok, Err}
-use Rattle.daemon_words.specs.declared.command.Command.TheVariants.{Help, Version, Serve}
+use Rattle.farmd_options.specs.declared.command.Command.TheVariants.{Help, Version, Serve}
 use Rattle.daemon_program.specs.Endings.{Ends}
 use Rattle.daemon_program.proofs.SharesDoing.{does_all_by, completed_all}
 use Rattle.daemon_program.proofs.top.farmd.Goals as goal

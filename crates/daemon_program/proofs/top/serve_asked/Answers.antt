@@ -1,6 +1,6 @@
 use Rattle.std.proofs.Common.{◌≡◌, ◌++◌, map, string_bytes, Global, refl, ap, subst, ◌∙◌, arith}
 use Rattle.std.proofs.lemmas.Grind.{common_steps}
-use Rattle.daemon_words.proofs.Meaning.{right_numbers, right_rules}
+use Rattle.farmd_options.proofs.Meaning.{right_numbers, right_rules}
 use Rattle.daemon_program.specs.Texts.{log_text}
 use Rattle.daemon_program.specs.Daemons.{log_status, doors_used}
 use Rattle.daemon_program.specs.Sharing.{DoesServe, shares_text}

@@ -1,7 +1,7 @@
 use Rattle.std.proofs.Common.{◌≡◌, ◌++◌, map, string_bytes, Global, ap, sym, ◌∙◌, arith}
 use Rattle.std.proofs.lemmas.Grind.{common_steps}
 use Rattle.std.proofs.lemmas.List.{append-nil}
-use Rattle.daemon_words.proofs.Meaning.{right_numbers, right_rules}
+use Rattle.farmd_options.proofs.Meaning.{right_numbers, right_rules}
 use Rattle.daemon_program.specs.Texts.{log_text, books_text}
 use Rattle.daemon_program.specs.Daemons.{log_status, doors_used}
 use Rattle.daemon_program.proofs.Doing.{some_jobs, right_serve, ends_as, served_first, cached_first}

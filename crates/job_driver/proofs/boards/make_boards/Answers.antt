@@ -3,7 +3,7 @@ use Rattle.std.specs.Prelude.{All}
 use Rattle.std.proofs.lemmas.List.{length-append, map-append}
 use Rattle.farm_monitor.specs.declared.ends.Watcher.{Watcher}
 use Rattle.farm_monitor.specs.Boards.{board_of, board_watched, shown_rows}
-use Rattle.watch_lines.specs.Counts.{known}
+use Rattle.progress_lines.specs.Counts.{known}
 use Rattle.logbook.specs.Pages.{Book}
 use Rattle.job_driver.specs.Watching.{board_marked, IsFreshMarker}
 use Rattle.job_driver.proofs.Watching.{fresh_more, unread_more}

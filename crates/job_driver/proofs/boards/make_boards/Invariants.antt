@@ -1,7 +1,7 @@
 use Rattle.std.proofs.Common.{◌≡◌, ◌-◌, ◌≤◌, [], length, map, replicate, vec_len, vec_capacity}
 use Rattle.std.specs.Prelude.{All}
 use Rattle.farm_monitor.specs.Boards.{board_watched}
-use Rattle.watch_lines.specs.Counts.{known}
+use Rattle.progress_lines.specs.Counts.{known}
 use Rattle.job_driver.specs.Watching.{board_marked, IsFreshMarker}
 use Rattle.job_driver.proofs.boards.make_boards.Given as goal
 

@@ -1,7 +1,7 @@
 use Rattle.std.proofs.Common.{◌≡◌, ℕ, List, length, get_or, map, sym, ap, ◌∙◌, subst, arith}
 use Rattle.std.proofs.lemmas.List.{length-map}
 use Rattle.farm_monitor.specs.Boards.{board_watched}
-use Rattle.watch_lines.specs.Counts.{known}
+use Rattle.progress_lines.specs.Counts.{known}
 use Rattle.job_driver.specs.declared.beside.Marked.{Marked}
 use Rattle.job_driver.specs.declared.marker.Marker.{Marker}
 use Rattle.job_driver.specs.Workers.{reserve_of, reports_on, IsReady, HasWorked}

@@ -2,7 +2,7 @@ use Rattle.std.proofs.Common.{ℕ, ◌<◌, List, refl, length, map, subst, sym,
 use Rattle.std.proofs.lemmas.List.{length-map}
 use Rattle.slot_table.specs.declared.limits.Limits.{Limits}
 use Rattle.farm_machine.specs.declared.reports.Report.{Report}
-use Rattle.watch_lines.specs.Counts.{known}
+use Rattle.progress_lines.specs.Counts.{known}
 use Rattle.job_driver.specs.Marks.{rows_of}
 use Rattle.job_driver.specs.Workers.{AreSlotsFor}
 use Rattle.job_driver.specs.Watching.{board_marked, AreMarked, LinesTellOf}

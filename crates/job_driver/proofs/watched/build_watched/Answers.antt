@@ -7,7 +7,7 @@ use Rattle.farm_cell.specs.Passes.{seen_of}
 use Rattle.farm_machine.specs.Devices.{devices}
 use Rattle.farm_machine.specs.Usable.{job_at}
 use Rattle.farm_monitor.specs.declared.ends.Watcher.{Watcher}
-use Rattle.watch_lines.specs.Counts.{known, ReadOn}
+use Rattle.progress_lines.specs.Counts.{known, ReadOn}
 use Rattle.job_driver.specs.declared.marker.Marker.{Marker}
 use Rattle.job_driver.specs.Watching.{AfterLines, AreMarked}
 use Rattle.job_driver.proofs.Watching.{watched-ran, last-printed, rows-told, tell-to}

@@ -2,7 +2,7 @@ use Rattle.std.proofs.Common.{◌≡◌, ◌++◌, length, take, drop, sym, ap, 
 use Rattle.std.proofs.lemmas.List.{length-map}
 use Rattle.farm_monitor.specs.declared.ends.Watcher.{Watcher}
 use Rattle.farm_monitor.specs.Boards.{board_watched}
-use Rattle.watch_lines.specs.Counts.{known}
+use Rattle.progress_lines.specs.Counts.{known}
 use Rattle.job_driver.specs.Watching.{LinesTell}
 use Rattle.job_driver.proofs.Watching.{all-written, lines-tell}
 use Rattle.job_driver.proofs.watch.Watch.print.Goals as goal

@@ -1,6 +1,0 @@
-use Rattle.std.proofs.Common.{sym, ◌∙◌}
-use Rattle.daemon_words.proofs.Meaning.{none_read}
-use Rattle.daemon_words.proofs.setting.is_listen.Goals as goal
-
-pub returns-clause-no : goal.returns-clause-no
-returns-clause-no c = λ none found. none_read c.read_listen.result c.read_listen.ensures.none (sym c.is_some.ensures ∙ none) found.0 found.1

@@ -1,0 +1,10 @@
+use Rattle.std.proofs.Common.{◌≡◌, length, map, string_bytes, Global}
+use Rattle.farmd_options.specs.Options.{given_in}
+use Rattle.farmd_options.proofs.setting.is_given.Given as goal
+
+abbrev pub invariant-seeking : goal.invariant-seeking
+invariant-seeking l = given_in (map (string_bytes {Z = Global}) l.fn.before) l.name
+    ≡ given_in (map (string_bytes {Z = Global}) l.rest) l.name
+
+abbrev pub decreases-seeking : goal.decreases-seeking
+decreases-seeking l = length l.rest

@@ -1,8 +1,0 @@
-use Rattle.std.proofs.Common.{◌∙◌, ap, nat_eq}
-use Rattle.std.specs.List.{list_any, starts_with}
-use Rattle.served_words.specs.Served.{has_name_front}
-use Rattle.served_words.proofs.spellings.has_name_front.Goals as goal
-
-pub returns : goal.returns
-unfolding has_name_front
-returns c = c.begins.ensures ∙ ap (λ l. list_any (λ front. starts_with nat_eq c.args.word.now front.now) l) c.as_slice.ensures

@@ -1,9 +1,0 @@
-use Rattle.std.proofs.Common.{◌∙◌, ap}
-use Rattle.std.specs.Prelude.{bytes_eq}
-use Rattle.std.specs.List.{list_any}
-use Rattle.served_words.specs.Served.{is_link_word}
-use Rattle.served_words.proofs.spellings.is_link_word.Goals as goal
-
-pub returns : goal.returns
-unfolding is_link_word
-returns c = c.is_one.ensures ∙ ap (λ l. list_any (λ one. bytes_eq one.now c.args.word.now) l) c.as_slice.ensures
