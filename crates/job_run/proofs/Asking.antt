@@ -24,6 +24,7 @@ use Rattle.farm_machine.specs.Acts.{Act}
 use Rattle.farm_machine.specs.Jobs.{Job, no_host_entry, output_name, source_name}
 use Rattle.job_run.specs.declared.step.Step.{Step}
 use Rattle.job_run.specs.declared.step.Step.TheVariants as step
+use Rattle.job_run.specs.declared.step.Compiled.TheVariants.{ByHost}
 use Rattle.job_run.specs.declared.step.Asked.{Asked}
 use Rattle.job_run.specs.declared.step.Asked.TheVariants as asked
 use Rattle.job_run.specs.Strict.{IsStrict, StrictReach}
@@ -52,14 +53,14 @@ whole-step j {l = l} {caller = caller} {number = number} {a = a} {b = b} {at = a
 
     compiled : IsAtKeeper o (output_name j) object b.kit.keeper
         → StepIs j l caller number a b at source note
-        (cond (not (nat_eq o.status 0) && (j.config.fallback && j.config.retry)) step.Here (step.Compiled (Remote host) o))
+        (cond (not (nat_eq o.status 0) && (j.config.fallback && j.config.retry)) step.Here (step.Compiled (ByHost host o)))
     compiled held = each (nat_eq o.status 0) refl (j.config.fallback && j.config.retry) went
       where
         said : Bool → At
         said d = cond d (Finish (Remote host) note (with_object o object)) (Over (Done o.status note o.err o.out (Remote host)))
 
         each : (done : Bool) → nat_eq o.status 0 ≡ done → (again : Bool) → WentOn j l caller number a b at (done_at done again)
-            → StepIs j l caller number a b at source note (cond (not done && again) step.Here (step.Compiled (Remote host) o))
+            → StepIs j l caller number a b at source note (cond (not done && again) step.Here (step.Compiled (ByHost host o)))
         each true is again w = (object, subst (λ (d : Bool). WentOn j l caller number a b at (said d)) (sym is) w, held)
         each false is true w = w
         each false is false w = (object, subst (λ (d : Bool). WentOn j l caller number a b at (said d)) (sym is) w, held)
@@ -201,7 +202,7 @@ pub step-then : {h : ℕ} {j : Job} {l l' : Limits h} {caller caller' number : �
     → l' ≡ l → caller' ≡ caller → WentOn j l caller number a b at mid → StepIs j l' caller' number b c mid source note s
     → StepIs j l caller number a c at source note s
 step-then c source note step.Here same_limits same_caller first last = on-then same_limits same_caller first last
-step-then c source note (step.Compiled by o) same_limits same_caller first last =
+step-then c source note (step.Compiled made) same_limits same_caller first last =
     (last.0, on-then same_limits same_caller first last.1, last.2)
 step-then c source note (step.Failed why) same_limits same_caller first last = on-ended same_limits same_caller first last
 
@@ -279,5 +280,5 @@ tried-more host cause tried made is = sym (plus-one (length tried)) ∙ ap (λ (
 pub sent-step : {h : ℕ} (j : Job) (l : Limits h) (caller number : ℕ) (a b : Seen) (source note : List ℕ) (s : Step)
     → StepIs j l caller number a b (Send source note []) source note s → SentIs j l caller number a b source note s
 sent-step j l caller number a b source note step.Here went = (Locally source note, inl refl, went)
-sent-step j l caller number a b source note (step.Compiled by o) went = went
+sent-step j l caller number a b source note (step.Compiled made) went = went
 sent-step j l caller number a b source note (step.Failed why) ended = ended

@@ -24,6 +24,8 @@ use Rattle.job_run.specs.declared.preparing.Prepared.{Prepared}
 use Rattle.job_run.specs.declared.preparing.Prepared.TheVariants as prepared
 use Rattle.job_run.specs.declared.step.Asked.{Asked}
 use Rattle.job_run.specs.declared.step.Asked.TheVariants as asked
+use Rattle.job_run.specs.declared.step.Compiled.{Compiled}
+use Rattle.job_run.specs.declared.step.Compiled.TheVariants.{ByHost, OnThisMachine}
 use Rattle.job_run.specs.declared.step.Step.{Step}
 use Rattle.job_run.specs.declared.step.Step.TheVariants as step
 use Rattle.job_run.specs.Failures.{fetch_failure}
@@ -55,47 +57,59 @@ pub record IsAtKeeper (o : Outcome) (path object : List ℕ) (keeper : KeeperVie
   pub pending : o.status ≡ 0 → HasPending keeper path object
   pub idle : o.status ≢ 0 → IsIdle keeper
 
--- The object of a compile: a host's is at the keeper; that of a compile here is the outcome's own, and no put is pending.
-abbrev pub HasObject : By → Outcome → List ℕ → List ℕ → KeeperView → Type 0
-HasObject (Remote host) o path object keeper = IsAtKeeper o path object keeper
-HasObject by o path object keeper = (object ≡ o.object) × IsIdle keeper
+-- what a compile left, and who did it
+abbrev pub outcome_in : Compiled → Outcome
+outcome_in (ByHost host o) = o
+outcome_in (OnThisMachine o) = o
 
--- of a host's object a put is pending, and of any other none
-abbrev pub CanDeliver : By → Outcome → KeeperView → Type 0
-CanDeliver (Remote host) o keeper = (o.status ≡ 0 → IsPending keeper) × (o.status ≢ 0 → IsIdle keeper)
-CanDeliver by o keeper = IsIdle keeper
+abbrev pub by_of : Compiled → By
+by_of (ByHost host o) = Remote host
+by_of (OnThisMachine o) = Here
+
+-- The object of a compile: a host's is at the keeper; that of a compile here is the outcome's own, and no put is pending.
+abbrev pub HasObject : Compiled → List ℕ → List ℕ → KeeperView → Type 0
+HasObject (ByHost host o) path object keeper = IsAtKeeper o path object keeper
+HasObject (OnThisMachine o) path object keeper = (object ≡ o.object) × IsIdle keeper
+
+-- of a host's object a put is pending, and of one that was made here none
+abbrev pub CanDeliver : Compiled → KeeperView → Type 0
+CanDeliver (ByHost host o) keeper = (o.status ≡ 0 → IsPending keeper) × (o.status ≢ 0 → IsIdle keeper)
+CanDeliver (OnThisMachine o) keeper = IsIdle keeper
 
 -- these bytes were put under this name, if the put went well
 pub record HasPut {T E : Type 0} (path object : List ℕ) (old new : KeeperView) (result : Result T E) : Type 0 where
   pub files : Became old.files new.files (files_after old.files.value path object result)
   pub puts : Grew old.puts new.puts (put_entries path object result)
 
--- The place of a job that was compiled: it is to be finished, except that a host's status other than 0 is the job's.
-abbrev pub compiled_at : By → List ℕ → Outcome → At
-compiled_at (Remote host) note o =
-    cond (nat_eq o.status 0) (Finish (Remote host) note o) (Over (Done o.status note o.err o.out (Remote host)))
-compiled_at by note o = Finish by note o
+-- The place of a job that was compiled to this object: it is to be finished, except that a host's status other than 0 is the job's.
+abbrev pub compiled_at : Compiled → List ℕ → List ℕ → At
+compiled_at (ByHost host o) note object =
+    cond (nat_eq o.status 0) (Finish (Remote host) note (with_object o object)) (Over (Done o.status note o.err o.out (Remote host)))
+compiled_at (OnThisMachine o) note object = Finish Here note (with_object o object)
+
+-- the job was compiled, and its object is where it is to be
+abbrev pub HasCompiled : {h : ℕ} → Job → Limits h → ℕ → ℕ → Seen → Seen → At → List ℕ → Compiled → Type 0
+HasCompiled j l caller number old new at note made =
+    (object : List ℕ) × WentOn j l caller number old new at (compiled_at made note object)
+    × HasObject made (output_name j) object new.kit.keeper
 
 -- what the job does next
 abbrev pub StepIs : {h : ℕ} → Job → Limits h → ℕ → ℕ → Seen → Seen → At → List ℕ → List ℕ → Step → Type 0
 StepIs j l caller number old new at source note step.Here = WentOn j l caller number old new at (Locally source note)
-StepIs j l caller number old new at source note (step.Compiled by o) =
-    (object : List ℕ) × WentOn j l caller number old new at (compiled_at by note (with_object o object)) × HasObject by o
-    (output_name j) object new.kit.keeper
+StepIs j l caller number old new at source note (step.Compiled made) = HasCompiled j l caller number old new at note made
 StepIs j l caller number old new at source note (step.Failed why) = HasEnded j l caller number old new at (Failed why)
 
 -- no put is pending but that of a compile
 abbrev pub StepIdle : Step → KeeperView → Type 0
-StepIdle (step.Compiled by o) keeper = Unit {0}
-StepIdle other keeper = IsIdle keeper
+StepIdle step.Here keeper = IsIdle keeper
+StepIdle (step.Compiled made) keeper = Unit {0}
+StepIdle (step.Failed why) keeper = IsIdle keeper
 
 -- the same for a source that is to be sent; `Here` may also mean that its request is past the limits
 abbrev pub SentIs : {h : ℕ} → Job → Limits h → ℕ → ℕ → Seen → Seen → List ℕ → List ℕ → Step → Type 0
 SentIs j l caller number old new source note step.Here =
     (at : At) × IsForHere j source note at × WentOn j l caller number old new (Send source note []) at
-SentIs j l caller number old new source note (step.Compiled by o) =
-    (object : List ℕ) × WentOn j l caller number old new (Send source note []) (compiled_at by note (with_object o object))
-    × HasObject by o (output_name j) object new.kit.keeper
+SentIs j l caller number old new source note (step.Compiled made) = HasCompiled j l caller number old new (Send source note []) note made
 SentIs j l caller number old new source note (step.Failed why) = HasEnded j l caller number old new (Send source note []) (Failed why)
 
 -- What follows from a host's whole reply. A lost object fails the job. With fallback and retry a status other than 0 means a compile here.
@@ -103,7 +117,7 @@ SentIs j l caller number old new source note (step.Failed why) = HasEnded j l ca
 abbrev pub step_after : JobConfig → ℕ → Outcome → Landing → Step
 step_after config host o landing.Lost = step.Failed NotPut
 step_after config host o other =
-    cond (not (nat_eq o.status 0) && (config.fallback && config.retry)) step.Here (step.Compiled (Remote host) o)
+    cond (not (nat_eq o.status 0) && (config.fallback && config.retry)) step.Here (step.Compiled (ByHost host o))
 
 -- the mask has the entries that were not tried
 abbrev pub HasUntried : {h : ℕ} → Limits h → Mask → List Tried → Type 0
@@ -123,8 +137,6 @@ AskedIdle (asked.Over next) keeper = StepIdle next keeper
 AskedIdle other keeper = IsIdle keeper
 
 -- an outcome that is the job's, or the job has failed
-abbrev pub CompiledIs : {h : ℕ} → Job → Limits h → ℕ → ℕ → Seen → Seen → At → List ℕ → Result (By × Outcome) Why5 → Type 0
-CompiledIs j l caller number old new at note (Ok made) =
-    (object : List ℕ) × WentOn j l caller number old new at (compiled_at made.0 note (with_object made.1 object))
-    × HasObject made.0 made.1 (output_name j) object new.kit.keeper
+abbrev pub CompiledIs : {h : ℕ} → Job → Limits h → ℕ → ℕ → Seen → Seen → At → List ℕ → Result Compiled Why5 → Type 0
+CompiledIs j l caller number old new at note (Ok made) = HasCompiled j l caller number old new at note made
 CompiledIs j l caller number old new at note (Err why) = HasEnded j l caller number old new at (Failed why)

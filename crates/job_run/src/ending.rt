@@ -7,23 +7,26 @@ ghost use Rattle.edge_traits.specs.Keepers.{IsIdle};
 ghost use Rattle.slot_table.specs.declared.limits.Limits.{Limits};
 ghost use Rattle.slot_table.specs.declared.calls.CallEntry.{CallEntry};
 ghost use Rattle.farm_machine.specs.declared.reports.End.TheVariants.{Done};
-ghost use Rattle.reply_stream.specs.Objects.{with_object};
-ghost use Rattle.job_run.specs.Stages.{compiled_at, HasObject, CanDeliver, HasPut};
+ghost use Rattle.job_run.specs.Stages.{outcome_in, by_of, compiled_at, HasObject, CanDeliver, HasPut};
 ghost use Rattle.job_run.specs.Seen.{seen, job_in};
 ghost use Rattle.job_run.specs.Went.{HasEnded};
 
 use crate::journal::Journal;
-use crate::step::why_not_put;
+use crate::step::{Compiled, why_not_put};
 use crate::task::Task;
 use edge_traits::{Clock, Dialer, EdgeFault, Keeper, Kit, Station};
 use farm_machine::{By, End};
-use farm_types::{Bytes, Outcome};
+use farm_types::Bytes;
 use kit_types::Observed;
 use std::alloc::Global;
 
-fn done(by: By, note: Bytes, outcome: Outcome) -> End
-    ensures { result ≡ Done outcome.status note outcome.err outcome.out by }
+fn done(compiled: Compiled, note: Bytes) -> End
+    ensures { let o = outcome_in compiled in result ≡ Done o.status note o.err o.out (by_of compiled) }
 {
+    let (by, outcome) = match compiled {
+        Compiled::ByHost { host, outcome } => (By::Remote(host), outcome),
+        Compiled::OnThisMachine(outcome) => (By::Here, outcome),
+    };
     End::Done {
         status: outcome.status,
         note,
@@ -36,55 +39,53 @@ fn done(by: By, note: Bytes, outcome: Outcome) -> End
 /// Puts the object: the put of a host's is pending, and is committed.
 fn put_object<K: Keeper>(
     alloc: Global,
-    by: By,
-    outcome: &Outcome,
+    compiled: &Compiled,
     output: &Bytes,
     keeper: &mut K,
 ) -> Result<(), EdgeFault>
     requires output { ¬ (IsStaged output.now) }
-    requires status { outcome.now.status ≡ 0 }
-    requires object { CanDeliver by outcome.now (K.shows keeper.old) }
-    ensures put { (object : List ℕ) → HasObject by outcome.now output.now object (K.shows keeper.old) →
+    requires status { (outcome_in compiled.now).status ≡ 0 }
+    requires object { CanDeliver compiled.now (K.shows keeper.old) }
+    ensures put { (object : List ℕ) → HasObject compiled.now output.now object (K.shows keeper.old) →
         HasPut output.now object (K.shows keeper.old) (K.shows keeper.new) result }
     ensures idle { IsIdle (K.shows keeper.new) }
     ensures fetches { Grew (K.shows keeper.old).fetches (K.shows keeper.new).fetches [] }
     ensures overruns { Still (K.shows keeper.old).overruns (K.shows keeper.new).overruns }
     ensures cause { HasPutCause (K.shows keeper.old).faults (K.shows keeper.new).faults result }
 {
-    match by {
-        By::Remote(_) => keeper.commit(alloc),
-        By::Cpp | By::Here | By::InPlace => keeper.put(alloc, output, outcome.object.as_slice()),
+    match compiled {
+        Compiled::ByHost { .. } => keeper.commit(alloc),
+        Compiled::OnThisMachine(outcome) => keeper.put(alloc, output, outcome.object.as_slice()),
     }
 }
 
 /// Puts the object of status 0, and ends the job.
 pub(crate) fn deliver<D: Dialer, S: Station, K: Keeper, C: Clock>(
     task: &Task<'_>,
-    by: By,
+    compiled: Compiled,
     note: Bytes,
-    outcome: Outcome,
     kit: &mut Kit<D, S, K, C>,
     journal: &mut Journal,
 ) -> End
-    requires object { CanDeliver by outcome (K.shows kit.old.keeper) }
+    requires object { CanDeliver compiled (K.shows kit.old.keeper) }
     requires left { 1 ≤ journal.old.left }
     ensures left { journal.old.left ≤ journal.new.left + 1 }
     ensures fell { journal.new.left ≤ journal.old.left }
     ensures idle { IsIdle (K.shows kit.new.keeper) }
     ensures ended { (h : ℕ) (l : Limits h) (caller number : ℕ) (mine : List CallEntry) (object : List ℕ) →
-        HasObject by outcome task.now.output.now object (K.shows kit.old.keeper) →
+        HasObject compiled task.now.output.now object (K.shows kit.old.keeper) →
         HasEnded (job_in task.now) l caller number
         (seen ⟦<Kit<D, S, K, C> as Observed>⟧.devices kit.old mine journal.old)
         (seen ⟦<Kit<D, S, K, C> as Observed>⟧.devices kit.new mine journal.new)
-        (compiled_at by note (with_object outcome object)) result }
+        (compiled_at compiled note object) result }
 {
-    if outcome.status != 0 {
-        return done(by, note, outcome);
+    if compiled.status() != 0 {
+        return done(compiled, note);
     }
-    match put_object(task.alloc, by, &outcome, task.output, &mut kit.keeper) {
+    match put_object(task.alloc, &compiled, task.output, &mut kit.keeper) {
         Ok(()) => {
             journal.put();
-            done(by, note, outcome)
+            done(compiled, note)
         }
         Err(fault) => End::Failed(why_not_put(fault)),
     }

@@ -20,15 +20,15 @@ use crate::journal::Journal;
 use crate::local_fallback::compile_here;
 use crate::preparing::{Prepared, prepare};
 use crate::sending::ask_if_fits;
-use crate::step::{Step, done_in_place, why_not_run};
+use crate::step::{Compiled, Step, done_in_place, why_not_run};
 use crate::task::{Command, Task};
 use crate::waiting::borrow_local;
 use arg_scan::{Scan, scan};
 use arg_strip::strip_to;
 use child_runner::in_place;
 use edge_traits::{Clock, Dialer, Keeper, Kit, Station};
-use farm_machine::{By, End, Event, EventList, Places, Report, Why5};
-use farm_types::{Bytes, JobConfig, Outcome, Request, Words};
+use farm_machine::{End, Event, EventList, Places, Report, Why5};
+use farm_types::{Bytes, JobConfig, Request, Words};
 use kit_types::Observed;
 use slot_table::Grants;
 use std::alloc::{AllocError, Global};
@@ -83,7 +83,7 @@ fn compile_source<R: Wait, D: Dialer, S: Station, K: Keeper, C: Clock, G: Grants
     grants: &mut G,
     kit: &mut Kit<D, S, K, C>,
     journal: &mut Journal,
-) -> Result<(By, Outcome), Why5>
+) -> Result<Compiled, Why5>
     requires hosts { AreLimitsOf (G.limits grants.old) task.now.config.now.hosts }
     requires idle { IsIdle (K.shows kit.old.keeper) }
     requires free { IsFree G.ready G.alone G.spare G.mine grants.old journal.old.left compile_events }
@@ -103,11 +103,11 @@ fn compile_source<R: Wait, D: Dialer, S: Station, K: Keeper, C: Clock, G: Grants
         source,
     };
     match ask_if_fits(rt, task, &request, grants, kit, journal) {
-        Step::Compiled { by, outcome } => Ok((by, outcome)),
+        Step::Compiled(compiled) => Ok(compiled),
         Step::Failed(why) => Err(why),
         Step::Here => {
             let outcome = compile_here(rt, task, &request.source, grants, kit, journal)?;
-            Ok((By::Here, outcome))
+            Ok(Compiled::OnThisMachine(outcome))
         }
     }
 }
@@ -136,7 +136,7 @@ fn run_remote<R: Wait, D: Dialer, S: Station, K: Keeper, C: Clock, G: Grants>(
         Prepared::Over(end) => return end,
     };
     match compile_source(rt, task, source, grants, kit, journal) {
-        Ok((by, outcome)) => deliver(task, by, note, outcome, kit, journal),
+        Ok(compiled) => deliver(task, compiled, note, kit, journal),
         Err(why) => End::Failed(why),
     }
 }

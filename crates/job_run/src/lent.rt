@@ -11,11 +11,10 @@ ghost use Rattle.job_run.specs.Stages.{StepIs};
 
 use crate::giving::give_back;
 use crate::journal::Journal;
-use crate::step::{Step, outcome_of, why_not_run};
+use crate::step::{Compiled, Step, outcome_of, why_not_run};
 use crate::task::Task;
 use child_runner::compile;
 use edge_traits::{Clock, Dialer, Keeper, Kit, Station};
-use farm_machine::By;
 use farm_types::Bytes;
 use kit_types::Observed;
 use slot_table::{Grant, Grants};
@@ -46,10 +45,7 @@ pub(crate) fn compile_lent<D: Dialer, S: Station, K: Keeper, C: Clock, G: Grants
         Ok(ran) => {
             journal.ran();
             give_back(grant, grants, journal);
-            Step::Compiled {
-                by: By::Here,
-                outcome: outcome_of(ran),
-            }
+            Step::Compiled(Compiled::OnThisMachine(outcome_of(ran)))
         }
         Err(fault) => {
             give_back(grant, grants, journal);

@@ -5,7 +5,7 @@ ghost use Rattle.farm_machine.specs.declared.reports.End.TheVariants.{Done};
 ghost use Rattle.farm_machine.specs.Course.{outcome_of};
 ghost use Rattle.job_run.specs.declared.step.Step.TheVariants.{Here, Failed};
 ghost use Rattle.job_run.specs.Failures.{station_failure, fetch_failure, put_failure};
-ghost use Rattle.job_run.specs.Stages.{step_after};
+ghost use Rattle.job_run.specs.Stages.{outcome_in, step_after};
 
 use edge_traits::{Cause, EdgeFault, FetchFault, StationFault};
 use farm_machine::{By, End, Why5};
@@ -13,13 +13,33 @@ use farm_types::{Bytes, JobConfig, Outcome, Ran};
 use remote_transfer::Landing;
 use std::alloc::Global;
 
+/// A compile that is done.
+#[derive(Drop)]
+pub(crate) enum Compiled {
+    /// A host did it. With status 0 a put of its object is pending, and with another status none.
+    ByHost { host: u32, outcome: Outcome },
+    /// It was done on this machine. The outcome has its object, and no put is pending.
+    OnThisMachine(Outcome),
+}
+
+impl Compiled {
+    /// The status that it ended with.
+    pub(crate) fn status(&self) -> u32
+        ensures { result ≡ (outcome_in self.now).status }
+    {
+        match self {
+            Compiled::ByHost { outcome, .. } | Compiled::OnThisMachine(outcome) => outcome.status,
+        }
+    }
+}
+
 /// What a job does next, whose source is there and of which no compile is begun.
 #[derive(Drop)]
 pub(crate) enum Step {
     /// It is compiled here.
     Here,
     /// It was compiled: an object of status 0 is put, and another status ends the job.
-    Compiled { by: By, outcome: Outcome },
+    Compiled(Compiled),
     /// It has failed.
     Failed(Why5),
 }
@@ -86,10 +106,7 @@ pub(crate) fn after_whole(config: &JobConfig, host: u32, outcome: Outcome, landi
     if outcome.status != 0 && config.fallback && config.retry {
         return Step::Here;
     }
-    Step::Compiled {
-        by: By::Remote(host),
-        outcome,
-    }
+    Step::Compiled(Compiled::ByHost { host, outcome })
 }
 
 /// What a run left, as an outcome.

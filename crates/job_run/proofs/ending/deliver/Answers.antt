@@ -1,5 +1,4 @@
-use Rattle.std.proofs.Common.{ℕ, List, Err, refl, sym, ap, subst, arith}
-use Rattle.reply_stream.specs.Objects.{with_object}
+use Rattle.std.proofs.Common.{ℕ, List, Err, refl, sym, ap, ◌∙◌, subst, arith}
 use Rattle.edge_traits.specs.declared.entries.Put.{Put}
 use Rattle.edge_traits.specs.Deeds.{put as PutDeed}
 use Rattle.edge_traits.specs.FileMaps.{IsStaged}
@@ -12,7 +11,6 @@ use Rattle.job_run.proofs.Composing.{none-rose, keeps-none, keeps-by, unfetched,
 use Rattle.job_run.proofs.Ends.{ends-failed, ends-not-put, next-put}
 use Rattle.job_run.proofs.Failing.{not-put, not-put-cause, not-put-keeper, not-put-station, not-put-unfetched, done-cause, done-station}
 use Rattle.job_run.proofs.Failing.{done-unfetched}
-use Rattle.job_run.proofs.Keeping.{none-pending}
 use Rattle.job_run.proofs.Leaves.{only-deed, no-act, did-nothing, same_peers, same_programs}
 use Rattle.job_run.proofs.Names.{output_not_staged}
 use Rattle.job_run.proofs.ending.deliver.Goals as goal
@@ -22,14 +20,14 @@ put_object-requires-clause-output g c =
     let task = c.args.task.now in subst (λ (name : List ℕ). ¬ (IsStaged name)) (sym task.named)
     (output_not_staged task.words.now task.remote)
 
-pub returns-then-outcome-ne0-clause-ended : goal.returns-then-outcome-ne0-clause-ended
-returns-then-outcome-ne0-clause-ended g c = λ h l caller number mine object held.
-    let o = with_object c.args.outcome object in
+pub returns-then-status-ne0-clause-ended : goal.returns-then-status-ne0-clause-ended
+returns-then-status-ne0-clause-ended g c = λ h l caller number mine object held.
     record {
-      to = compiled_at c.args.by c.args.note o;
+      to = compiled_at c.args.compiled c.args.note object;
       went = no-act (did-nothing _ _ (Grew-refl _) (Grew-refl _) refl (Grew-refl _)) (later-none _) (same_peers _) (same_programs _)
           (sym (append-nil _), refl) refl;
-      ends = ends-failed (job_in c.args.task.now) c.args.by c.args.note o _ c.if-outcome-ne0.true c.done.ensures;
+      ends = ends-failed (job_in c.args.task.now) c.args.compiled c.args.note object _
+          (λ e. c.if-status-ne0.true (c.status.ensures ∙ e)) c.done.ensures;
       cause = done-cause _ _ c.done.ensures;
       station = done-station _ _ c.done.ensures (none-rose _);
       keeper = keeps-by _ _ _ _ (keeps-none _ _);
@@ -56,7 +54,7 @@ returns-in-Ok-clause-ended g c = λ h l caller number mine object held.
           })
           (later-kept _ _ refl kept.cause.later (omega (arith, kept.overruns)) (omega arith)) tt (same_peers _) (same_programs _)
           (c.put.ensures.events, c.put.ensures.places) refl
-          (next-put (job_in task) c.args.by c.args.note (with_object c.args.outcome object) x _ c.if-outcome-ne0.false task.named refl end)
+          (next-put (job_in task) c.args.compiled c.args.note x _ (sym c.status.ensures ∙ c.if-status-ne0.false) task.named end)
           tt;
       ends = refl;
       cause = done-cause _ _ end;
@@ -72,9 +70,8 @@ returns-in-Err-clause-ended g c = λ h l caller number mine object held.
     let fault = c.in-Err.fault in
     let why = c.why_not_put.result in
     let is = c.why_not_put.ensures in
-    let o = with_object c.args.outcome object in
     record {
-      to = compiled_at c.args.by c.args.note o;
+      to = compiled_at c.args.compiled c.args.note object;
       went = no-act
           (record {
             runs = Grew-refl _;
@@ -86,12 +83,10 @@ returns-in-Err-clause-ended g c = λ h l caller number mine object held.
           })
           (later-kept _ _ refl kept.cause.later (omega (arith, kept.overruns)) (omega arith)) (same_peers _) (same_programs _)
           (sym (append-nil _), refl) refl;
-      ends = ends-not-put (job_in c.args.task.now) c.args.by c.args.note o _ c.if-outcome-ne0.false (not-put fault _ is);
+      ends = ends-not-put (job_in c.args.task.now) c.args.compiled c.args.note object _
+          (sym c.status.ensures ∙ c.if-status-ne0.false) (not-put fault _ is);
       cause = not-put-cause fault _ _ _ is (λ e. kept.cause.failed (ap (λ f. Err f) e));
       station = not-put-station fault _ (g.S.Station.shows c.args.kit.now.station) _ is (none-rose _);
       keeper = not-put-keeper fault _ _ _ _ is (λ e. kept.cause.memory (ap (λ f. Err f) e)) kept.overruns;
       fetch = unfetched _ why _ _ _ (not-put-unfetched fault _ is);
     }
-
-pub returns-then-outcome-ne0-clause-idle : goal.returns-then-outcome-ne0-clause-idle
-returns-then-outcome-ne0-clause-idle g c = none-pending c.args.by c.args.outcome _ c.if-outcome-ne0.true c.requires.object

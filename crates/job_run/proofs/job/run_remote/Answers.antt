@@ -21,7 +21,7 @@ returns-in-Ok-clause-ended g c =
     let task = c.args.task.now in
     let keeper = g.K.Keeper.shows c.compile_source.new.kit.keeper in
     let made = c.in-Ok.ensures.compiled c.in-Ready.note in
-    let held = subst (λ (name : List ℕ). HasObject c.in-Ok.by c.in-Ok.outcome name made.0 keeper) (sym task.named) made.2 in
+    let held = subst (λ (name : List ℕ). HasObject c.in-Ok.compiled name made.0 keeper) (sym task.named) made.2 in
     on-ended refl refl
     (on-then refl refl
     (c.in-Ready.ensures.prepared _ (g.G.Grants.limits c.args.grants.now) (g.G.Grants.caller_number c.args.grants.now) task.number
@@ -33,4 +33,4 @@ returns-in-Ok-clause-ended g c =
 pub deliver-requires-clause-object : goal.deliver-requires-clause-object
 deliver-requires-clause-object g c =
     let made = c.in-Ok.ensures.compiled c.in-Ready.note in
-    can-deliver c.in-Ok.by c.in-Ok.outcome _ made.0 _ made.2
+    can-deliver c.in-Ok.compiled _ made.0 _ made.2
