@@ -153,7 +153,7 @@ struct Streams {
 }
 
 // The streams of a run in this shape.
-fn streams(alloc: Global, shape: Shape) -> Result<Streams, AllocError>
+fn streams_of(alloc: Global, shape: Shape) -> Result<Streams, AllocError>
     ensures input { IfOk result (λ streams. (source_shows (source_state streams.input)).ended ≡ false) }
     ensures out { IfOk result (λ streams. (sink_shows (sink_state streams.out)).stopped ≡ false) }
     ensures err { IfOk result (λ streams. (sink_shows (sink_state streams.err)).stopped ≡ false) }
@@ -261,6 +261,6 @@ pub fn twelve_jobs<W: Threads + Wait + Sync>(
     alloc: Global,
     shape: Shape,
 ) -> Result<Verdict, AllocError> {
-    let mut streams = streams(alloc, shape)?;
+    let mut streams = streams_of(alloc, shape)?;
     verdict_on(rt, alloc, shape, &mut streams)
 }

@@ -139,7 +139,7 @@ struct Places {
     rules: ServingRules,
 }
 
-fn places(rt: &HostRuntime, words: &[String]) -> Result<Places, AllocError>
+fn places_for(rt: &HostRuntime, words: &[String]) -> Result<Places, AllocError>
     ensures { IfOk result (λ places. IsPolicyFor (map string_bytes words.now) places.rules.policy) }
 {
     let folder = own_folder(rt)?;
@@ -198,7 +198,7 @@ fn kit_with<'a>(
         folder,
         here,
         rules,
-    } = places(rt, words)?;
+    } = places_for(rt, words)?;
     let (notes, watch) = shared;
     Ok(DoorKit {
         door,
