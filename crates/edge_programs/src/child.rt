@@ -2,6 +2,7 @@ ghost use Rattle.std.specs.Prelude.{◌≡◌, ◌≢◌, ⊤, true, false, ◌�
 ghost use Rattle.edge_traits.specs.Stations.{IsWithin, has_output};
 ghost use Rattle.edge_programs.specs.Counts.{run_faults, run_overruns};
 ghost use Rattle.edge_programs.specs.Children.{IsRunFault};
+ghost use Rattle.edge_programs.specs.Runs.{IsAnswerTo, IsRunOf};
 ghost use Rattle.edge_runs.specs.Commands.{CanBeGiven, needs_folder};
 ghost use Rattle.edge_programs.specs.Serving.{are_let_through, unserved_place, IsOfKind, IsRefusal};
 ghost use Rattle.edge_programs.specs.Views.{station_view, counted_station, folder_of, policy_of, policy_in, lifetime_of, rules_of};
@@ -210,11 +211,8 @@ fn run_served<R: Processes + rt::Files<File = File> + RandomSource + Eprint + Cl
     alloc: Global,
     task: &Task<'_>,
 ) -> Result<Ran, StationFault>
-    ensures within { IfOk result (IsWithin task.now.bounds.now) }
-    ensures fault { IfErr result (IsRunFault task.now.bounds.now) }
+    ensures answer { IsAnswerTo (policy_in service.now) task.now.words.now task.now.bounds.now result }
     ensures given { are_let_through (policy_in service.now) task.now.words.now ≡ true → OnOk result (All CanBeGiven task.now.words.now) }
-    ensures no_object { IfOk result (λ ran. has_output task.now.words.now ≡ false → ran.object ≡ []) }
-    ensures kind { IfOk result (IsOfKind (policy_in service.now) task.now.words.now) }
     ensures refused { IfSome (unserved_place (policy_in service.now) task.now.words.now) (IsRefusal task.now.bounds.now.err task.now.words.now result) }
 {
     match unserved_place(rt, service, task.words) {
@@ -232,11 +230,7 @@ fn run_child<R: Processes + rt::Files<File = File> + RandomSource + Eprint + Clo
     task: &Task<'_>,
 ) -> Result<Ran, StationFault>
     requires served { are_let_through (policy_in service.now) task.now.words.now ≡ true }
-    ensures within { IfOk result (IsWithin task.now.bounds.now) }
-    ensures fault { IfErr result (IsRunFault task.now.bounds.now) }
-    ensures given { OnOk result (All CanBeGiven task.now.words.now) }
-    ensures no_object { IfOk result (λ ran. has_output task.now.words.now ≡ false → ran.object ≡ []) }
-    ensures kind { IfOk result (IsOfKind (policy_in service.now) task.now.words.now) }
+    ensures ran { IsRunOf (policy_in service.now) task.now.words.now task.now.bounds.now result }
 {
     match service {
         Some(service) => run_for_others(rt, folder, service, alloc, task),
@@ -246,7 +240,7 @@ fn run_child<R: Processes + rt::Files<File = File> + RandomSource + Eprint + Clo
 }
 
 /// Runs words for others, in the folder of the run.
-#[tactic(auto, using(crate::proofs::ChildLemmas::unnamed, crate::proofs::ChildLemmas::of_object))]
+#[tactic(auto, using(crate::proofs::ChildLemmas::unnamed))]
 fn run_for_others<
     R: Processes + rt::Files<File = File> + RandomSource + Eprint + Clock,
     W: RunWatch,
@@ -257,11 +251,7 @@ fn run_for_others<
     alloc: Global,
     task: &Task<'_>,
 ) -> Result<Ran, StationFault>
-    ensures within { IfOk result (IsWithin task.now.bounds.now) }
-    ensures fault { IfErr result (IsRunFault task.now.bounds.now) }
-    ensures given { OnOk result (All CanBeGiven task.now.words.now) }
-    ensures no_object { IfOk result (λ ran. has_output task.now.words.now ≡ false → ran.object ≡ []) }
-    ensures kind { IfOk result (IsOfKind (Some service.now.rules.policy) task.now.words.now) }
+    ensures ran { IsRunOf (Some service.now.rules.policy) task.now.words.now task.now.bounds.now result }
 {
     have_descriptors(rt, &service.watch);
     let folder = RunFolder::create(rt, alloc, folder, &service.notes)?;
@@ -280,11 +270,7 @@ fn run_in_folder<
     alloc: Global,
     task: &Task<'_>,
 ) -> Result<Ran, StationFault>
-    ensures within { IfOk result (IsWithin task.now.bounds.now) }
-    ensures fault { IfErr result (IsRunFault task.now.bounds.now) }
-    ensures given { OnOk result (All CanBeGiven task.now.words.now) }
-    ensures no_object { IfOk result (λ ran. has_output task.now.words.now ≡ false → ran.object ≡ []) }
-    ensures kind { IfOk result (IsOfKind (Some service.now.rules.policy) task.now.words.now) }
+    ensures ran { IsRunOf (Some service.now.rules.policy) task.now.words.now task.now.bounds.now result }
 {
     let Task {
         words,
@@ -302,47 +288,46 @@ fn run_in_folder<
     let ended = run_watched(rt, alloc, folder.path(), command, words, &watched)?;
     let object = object_left(rt, alloc, words, &path, ended.status, bounds.object)?;
     let object = of_asked_kind(rt, words, ended.status, object)?;
-    Ok(Ran {
-        status: ended.status,
-        out: ended.out,
-        err: ended.err,
-        object,
-    })
+    Ok(ended.with_object(object))
 }
 
-/// Runs words in the folder of this process, with the files of `Input` and `Output` in the folder of the run.
-#[tactic(auto, using(crate::proofs::ChildLemmas::unnamed, crate::proofs::ChildLemmas::of_object))]
+/// Runs words in the folder of this process, with the files of `Input` and `Output` in a folder of the run.
+#[tactic(auto, using(crate::proofs::ChildLemmas::unnamed))]
 fn run_with_files<R: Processes + rt::Files<File = File> + RandomSource + Eprint>(
     rt: &R,
     folder: &str,
     alloc: Global,
     task: &Task<'_>,
 ) -> Result<Ran, StationFault>
-    ensures within { IfOk result (IsWithin task.now.bounds.now) }
-    ensures fault { IfErr result (IsRunFault task.now.bounds.now) }
-    ensures given { OnOk result (All CanBeGiven task.now.words.now) }
-    ensures no_object { IfOk result (λ ran. has_output task.now.words.now ≡ false → ran.object ≡ []) }
-    ensures kind { IfOk result (IsOfKind None task.now.words.now) }
+    ensures ran { IsRunOf None task.now.words.now task.now.bounds.now result }
+{
+    let notes = None;
+    let folder = RunFolder::create(rt, alloc, folder, &notes)?;
+    run_on_files(rt, &folder, alloc, task)
+}
+
+/// Runs words in the folder of this process, with the files of `Input` and `Output` in this one.
+#[tactic(auto, using(crate::proofs::ChildLemmas::unnamed, crate::proofs::ChildLemmas::of_object))]
+fn run_on_files<R: Processes + rt::Files<File = File> + RandomSource + Eprint>(
+    rt: &R,
+    folder: &RunFolder<'_, R>,
+    alloc: Global,
+    task: &Task<'_>,
+) -> Result<Ran, StationFault>
+    ensures ran { IsRunOf None task.now.words.now task.now.bounds.now result }
 {
     let Task {
         words,
         input,
         bounds,
     } = *task;
-    let notes = None;
-    let folder = RunFolder::create(rt, alloc, folder, &notes)?;
-    let source = input_file(&folder, words, input)?;
-    let path = output_path(&folder, words)?;
+    let source = input_file(folder, words, input)?;
+    let path = output_path(folder, words)?;
     let command = command_of(alloc, words, path_of(&source), path_of(&path))?;
     let ended = run_command(rt, alloc, folder.path(), command, bounds)?;
     let object = object_left(rt, alloc, words, &path, ended.status, bounds.object)?;
     let object = of_any_kind(rt, words, ended.status, object)?;
-    Ok(Ran {
-        status: ended.status,
-        out: ended.out,
-        err: ended.err,
-        object,
-    })
+    Ok(ended.with_object(object))
 }
 
 /// Runs words without `Input` and `Output` in the folder of this process, so that the run needs no folder of its own.
@@ -355,17 +340,9 @@ fn run_alone<R: Processes + rt::Files<File = File> + RandomSource + Eprint>(
     bounds: &Bounds,
 ) -> Result<Ran, StationFault>
     requires alone { needs_folder words.now ≡ false }
-    ensures within { IfOk result (IsWithin bounds.now) }
-    ensures fault { IfErr result (IsRunFault bounds.now) }
-    ensures given { OnOk result (All CanBeGiven words.now) }
-    ensures no_object { IfOk result (λ ran. ran.object ≡ []) }
+    ensures ran { IsRunOf None words.now bounds.now result }
 {
     let command = command_of(alloc, words, "", "")?;
     let ended = run_command(rt, alloc, folder, command, bounds)?;
-    Ok(Ran {
-        status: ended.status,
-        out: ended.out,
-        err: ended.err,
-        object: Bytes::new(alloc),
-    })
+    Ok(ended.with_object(Bytes::new(alloc)))
 }

@@ -13,7 +13,7 @@ use edge_files::load;
 use edge_runs::{RunWatch, nameless_file};
 use edge_streams::{Reading, read_to_end};
 use edge_traits::{Bounds, FetchFault, StationFault, Stream, has_output};
-use farm_types::{Bytes, Word};
+use farm_types::{Bytes, Ran, Word};
 use object_kind::{is_asked_kind, is_filled};
 use std::alloc::Global;
 use std::fs::File;
@@ -30,6 +30,20 @@ pub struct Ended {
     pub status: u32,
     pub out: Bytes,
     pub err: Bytes,
+}
+
+impl Ended {
+    /// What the run gave, with the object that the program left.
+    pub fn with_object(self, object: Bytes) -> Ran
+        ensures { result ≡ record { status = self.status; out = self.out; err = self.err; object = object } }
+    {
+        Ran {
+            status: self.status,
+            out: self.out,
+            err: self.err,
+            object,
+        }
+    }
 }
 
 /// How a run for others may end.
