@@ -39,7 +39,7 @@ edits:
 # First what needs no program: the map of the crates, the list of what has to be believed, the texts of edits, what makes functions hard to read, and plain
 # words. Then the programs: with a real distccd, in an odd environment, on a real disk, with faults of a real machine, with an allocation refused. Then real
 # and hostile clients, options, the cache, whole projects and packages, dependency files, command shapes, several hosts and shared runs. Then a program of many sources,
-# the manual pages, the installation and the demonstration. Each is skipped if a program that it needs is missing.
+# the manual pages, the installation, the unit for systemd and the demonstration. Each is skipped if a program that it needs is missing.
 checks:
 	tools/layers
 	tools/believed
@@ -66,6 +66,7 @@ checks:
 	tests/programs
 	tests/manual
 	tests/install
+	tests/unit
 	tests/demo
 
 # The same, with each allocation refused and not some of them, and with a host that is silent for 10 minutes.
