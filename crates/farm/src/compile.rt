@@ -2,13 +2,12 @@
 ghost use Rattle.std.specs.Prelude.{◌≡◌, IfSome};
 ghost use Rattle.arg_scan.specs.Class.{IsRemote, plan_of};
 
-use crate::command::{Job, add_words, compile_command, is_whole, job_of};
 use crate::sending::send;
-use crate::settings::{FALLBACK, HOSTS};
-use crate::sharing::{Lent, share_slot};
+use cc_command::{Job, Lent, add_words, compile_command, is_whole, job_of, share_slot};
 use desk_real::{Below, SharedRun, VARIABLE, parse_variable, within_text};
 use edge_real::variable;
 use farm_options::{back_off_period, lookup};
+use farm_settings::{FALLBACK, HOSTS};
 use farm_types::Host;
 use host_list::{HostError, parse};
 use std::alloc::AllocError;
@@ -30,7 +29,7 @@ pub fn compile<W: Threads + Wait + Sync>(
     rt: &HostRuntime,
     words: Vec<String>,
 ) -> Result<u8, AllocError> {
-    let mut job = job_of(rt, words)?;
+    let mut job = job_of(rt, process::id(rt.process()), words)?;
     let place = place_of(rt, &job)?;
     compile_at(waits, rt, &mut job, place)
 }

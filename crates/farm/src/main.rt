@@ -1,19 +1,13 @@
 //! The program `farm`: the call `farm` over the devices of the system.
 #![tactic(auto)]
 
-mod advice;
-mod command;
 mod compile;
-mod faults;
-mod reasons;
 mod run;
 mod sending;
-mod settings;
 mod share;
-mod sharing;
 
+use cc_command::compile_command;
 use child_ends::{Kind, start_again};
-use command::compile_command;
 use compile::{compile, compile_unread};
 use edge_real::{HeldStreams, command_words};
 use farm_types::exits::{FAULT, NO_MEMORY};

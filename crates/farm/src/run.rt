@@ -2,16 +2,15 @@
 ghost use Rattle.std.specs.Prelude.{◌≡◌, All, IfOk, None, vec_len};
 ghost use Rattle.farm_types.specs.Limits.{workers_max};
 
-use crate::command::is_watched;
-use crate::reasons::{Given, tell_carriage_return, tell_refusal};
-use crate::settings::{notices_of, variables_of};
 use edge_real::{
     KitSettings, PAUSE_MILLIS, StdSink, StdSource, SystemKit, WaitingStream, own_folder, watch_kits,
 };
-use farm_options::parse_command;
+use farm_options::{Command, parse_command};
 use farm_program::{Ended, farm};
+use farm_settings::{notices_of, variables_of};
 use farm_types::limits::WORKERS_MAX;
 use kept_input::MarkedSource;
+use refusal_reasons::{Given, tell_carriage_return, tell_refusal};
 use std::alloc::AllocError;
 use std::process;
 use std::sync::Wait;
@@ -27,6 +26,11 @@ fn last_pause(words: &[String]) -> u64 {
     } else {
         PAUSE_MILLIS
     }
+}
+
+// Whether the words of the command line ask for a build that shows how far it has come.
+fn is_watched(words: &[String]) -> bool {
+    matches!(parse_command(words), Ok(Command::Watch(_)))
 }
 
 /// Says in plain words why a run was refused, if it was.
@@ -53,7 +57,7 @@ pub fn run<W: Threads + Wait + Sync>(
     rt: &HostRuntime,
     words: &[String],
 ) -> Result<u8, AllocError> {
-    let variables = variables_of(rt, false)?;
+    let variables = variables_of(rt, None)?;
     let mut kits = kits_for(rt, words)?;
     Ok(run_by(waits, rt, words, variables.as_slice(), &mut kits))
 }

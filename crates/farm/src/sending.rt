@@ -1,9 +1,8 @@
 // A compile command that is sent as a job.
 ghost use Rattle.std.specs.Prelude.{◌≡◌, All, IfOk, None, vec_len};
 
-use crate::command::Job;
 use crate::run::tell_end;
-use crate::settings::notices_of;
+use cc_command::Job;
 use desk_real::Below;
 use edge_real::{
     ChildStation, DiskFiles, KitSettings, StdSink, StdSource, SystemKit, TcpDialer, WaitingStream,
@@ -12,6 +11,7 @@ use edge_real::{
 use edge_traits::Kit;
 use farm_machine::{Event, Report};
 use farm_program::farm;
+use farm_settings::notices_of;
 use farm_types::exits::STOPPED;
 use object_delivery::FileKeeper;
 use object_kind::is_driver;

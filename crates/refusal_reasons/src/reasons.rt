@@ -1,8 +1,9 @@
-// What is printed for a refusal in plain words, on the standard error, after the line that has its numbers.
+//! What is printed for a refusal in plain words, on the standard error, after the line that has its numbers.
+
 use crate::advice::{Advice, advice_on};
 use crate::faults::{host_reason, job_reason, needs_reason};
+use farm_answers::Refusal;
 use farm_options::{Command, host_text, lookup};
-use farm_program::Refusal;
 use host_list::HostFault;
 use std::fmt::{self, Display, Formatter};
 use std::io::Eprint;

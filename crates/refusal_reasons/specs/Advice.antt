@@ -1,8 +1,8 @@
 -- What is printed about words that are no command.
 use Rattle.std.specs.Prelude.{ℕ, zero, suc, ◌||◌, Bool, List, [], ◌∷◌, length, codes, bytes_eq, nat_lt, if◌then◌else◌}
-use Rattle.farm.specs.declared.advice.Advice.{Advice}
-use Rattle.farm.specs.declared.advice.Advice.TheVariants.{NoCommand, HelpByOption, UnknownCommand, BehindOption, MissingWord}
-use Rattle.farm.specs.declared.advice.Advice.TheVariants.{UnfitWord}
+use Rattle.refusal_reasons.specs.declared.advice.Advice.{Advice}
+use Rattle.refusal_reasons.specs.declared.advice.Advice.TheVariants.{NoCommand, HelpByOption, UnknownCommand, BehindOption, MissingWord}
+use Rattle.refusal_reasons.specs.declared.advice.Advice.TheVariants.{UnfitWord}
 
 -- other words for `--help`
 abbrev pub asks_for_help : List ℕ → Bool

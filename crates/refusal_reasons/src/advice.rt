@@ -1,7 +1,7 @@
 //! What is printed about words that are no command.
 
 ghost use Rattle.std.specs.Prelude.{◌≡◌, map, string_bytes};
-ghost use Rattle.farm.specs.Advice.{advice_on, asks_for_help, behind_option, first_advice};
+ghost use Rattle.refusal_reasons.specs.Advice.{advice_on, asks_for_help, behind_option, first_advice};
 
 /// What is printed about words that are no command.
 #[derive(Clone, Copy, Debug, PartialEq, Eq)]

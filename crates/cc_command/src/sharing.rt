@@ -1,13 +1,15 @@
-// The slot that a compile command is lent by the desk of a shared run.
-use crate::settings::HOSTS;
+//! The slot that a compile command is lent by the desk of a shared run.
+
 use desk_real::{Granted, Seat, SharedRun, ask};
 use desk_words::{Asked, Told};
 use edge_real::variable;
 use farm_options::lookup;
-use farm_types::Host;
-use host_list::{only, parse};
+use farm_settings::HOSTS;
+use host_list::only;
 use std::alloc::AllocError;
-use std::net::TcpStream;
+use std::env::Env;
+use std::io::{Eprint, Write};
+use std::net::Net;
 
 /// Where a command is done by the slot that it was lent.
 #[derive(Clone, Copy, PartialEq, Eq)]
@@ -22,12 +24,12 @@ pub enum Lent {
 
 /// A slot that was lent, until it is left.
 #[derive(Drop)]
-pub struct SharedSlot {
-    seat: Seat<TcpStream>,
+pub struct SharedSlot<S> {
+    seat: Seat<S>,
     pub lent: Lent,
 }
 
-impl SharedSlot {
+impl<S: Write + Drop> SharedSlot<S> {
     /// Gives it back, and says whether the exchange with its host broke.
     pub fn leave(self, has_broken: bool) {
         self.seat
@@ -37,12 +39,12 @@ impl SharedSlot {
 
 /// Waits for a slot of this run: a local one if the command is done here anyway. Then the variables have the entry only that was lent, or none. None if the
 /// command goes on without the desk, which is printed.
-pub fn share_slot(
-    rt: &HostRuntime,
+pub fn share_slot<R: Net + Env + Eprint + AllocGlobal>(
+    rt: &R,
     run: &SharedRun<'_>,
     is_here: bool,
     variables: &mut Vec<(String, String)>,
-) -> Result<Option<SharedSlot>, AllocError> {
+) -> Result<Option<SharedSlot<R::Stream>>, AllocError> {
     let alloc = rt.alloc();
     let asked = match (run.is_within, is_here) {
         (true, _) => Asked::Within,
@@ -68,8 +70,8 @@ pub fn share_slot(
 }
 
 // Has the variables name this entry only. None if the host list doesn't have it, which is printed.
-fn take_entry(
-    rt: &HostRuntime,
+fn take_entry<R: Env + Eprint + AllocGlobal>(
+    rt: &R,
     entry: &[u8],
     variables: &mut Vec<(String, String)>,
 ) -> Result<Option<Lent>, AllocError> {
@@ -96,12 +98,12 @@ fn set_hosts(variables: &mut Vec<(String, String)>, text: String) {
 }
 
 // Whether lines about hosts are wanted.
-fn is_told(rt: &HostRuntime) -> Result<bool, AllocError> {
+fn is_told<R: Env + AllocGlobal>(rt: &R) -> Result<bool, AllocError> {
     let value = variable(rt, "FARM_NOTICES")?;
     Ok(value.as_ref().map(|value| value.as_str()) != Some("0"))
 }
 
-fn tell_missing(rt: &HostRuntime) -> Result<(), AllocError> {
+fn tell_missing<R: Env + Eprint + AllocGlobal>(rt: &R) -> Result<(), AllocError> {
     if is_told(rt)? {
         let _ = eprintln!(rt;
             "farm: farm share doesn't answer: this command takes a slot by itself"
@@ -110,7 +112,7 @@ fn tell_missing(rt: &HostRuntime) -> Result<(), AllocError> {
     Ok(())
 }
 
-fn tell_other(rt: &HostRuntime) -> Result<(), AllocError> {
+fn tell_other<R: Env + Eprint + AllocGlobal>(rt: &R) -> Result<(), AllocError> {
     if is_told(rt)? {
         let _ = eprintln!(rt;
             "farm: farm share has another host list: this command takes a slot by itself"

@@ -1,7 +1,7 @@
 //! What is printed for the faults of host lists, job lists and lines of needs.
 
 ghost use Rattle.std.specs.Prelude.{◌≡◌};
-ghost use Rattle.farm.specs.Faults.{host_reason, job_reason, needs_reason};
+ghost use Rattle.refusal_reasons.specs.Faults.{host_reason, job_reason, needs_reason};
 
 use host_list::HostFault;
 use job_graph::GraphFault;
