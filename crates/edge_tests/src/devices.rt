@@ -1,13 +1,10 @@
-//! Files in memory, and the rules of a door, as the tests begin with them.
+//! Files in memory as the tests begin with them.
 
 ghost use Rattle.std.specs.Prelude.{◌≡◌, ℕ, [], None, codes, IfOk};
 ghost use Rattle.std.specs.FinMap.{empty, insert};
-ghost use Rattle.access_list.specs.Rules.{AccessDecision};
-ghost use Rattle.access_list.specs.declared.decision.Decision.TheVariants.{Admitted};
 ghost use Rattle.edge_memory.specs.Keepers.{keeper_state};
 ghost use Rattle.object_delivery.specs.ScriptedFiles.{files_state};
 
-use access_list::{AccessList, RuleVec};
 use edge_memory::MemKeeper;
 use edge_traits::{CallNumbers, FileList};
 use farm_types::Bytes;
@@ -49,13 +46,4 @@ pub fn keeper_with(alloc: Global, fails: &[u64]) -> Result<MemKeeper, AllocError
     let files = one_file(alloc)?;
     let fails = numbers(alloc, fails)?;
     Ok(MemKeeper::new(files, fails))
-}
-
-/// Rules that let everybody in.
-pub fn everybody(alloc: Global) -> AccessList
-    ensures { (addr : ℕ) → AccessDecision result.rules addr (Admitted None) }
-{
-    AccessList {
-        rules: RuleVec::new(alloc),
-    }
 }

@@ -1,11 +1,8 @@
-//! Tests of the devices: those in memory by their scripts, those for two threads, and those of the system against a peer, a file or
-//! a child of their own.
+//! Tests of the devices in memory by their scripts, of those for two threads, and of files put, in memory and on the disk.
 #![tactic(auto)]
 
 #[cfg(test)]
 mod calls;
-#[cfg(test)]
-mod children;
 #[cfg(test)]
 mod delivery;
 pub mod devices;
@@ -20,8 +17,4 @@ mod same;
 #[cfg(test)]
 mod scripted;
 #[cfg(test)]
-mod sockets;
-#[cfg(test)]
 mod stations;
-#[cfg(test)]
-mod streams;

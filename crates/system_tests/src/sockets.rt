@@ -1,6 +1,6 @@
 //! Sockets, each against a peer in another thread.
 
-use crate::devices::everybody;
+use crate::rules::everybody;
 use access_list::parse_rule;
 use edge_real::{Notices, TcpDialer, TcpDoor};
 use edge_traits::{Dialer, Door, EdgeFault, Link};
